@@ -1,0 +1,65 @@
+-- Document 01, "The sheet and its one pass": the cases, and what the pass counts and lists over them. Assumes nothing.
+use Prim.Native.Nat.{ℕ, zero, suc, _+_, _*_, _^_}
+use mathlib.Core.List.{List, [], _∷_, _++_, map}
+use mathlib.Core.Bool.{Bool, not}
+use lib.ListN.{length}
+use lib.Dec.{eqb}
+use Rattle.format.specs.Basics.{pick}
+use Rattle.format.specs.Format.{Book}
+use Rattle.consistency.specs.Counting.{howMany, those, sumBelow, sumOver, joinOver, tabulate}
+use Rattle.consistency.specs.Consistency.{Subdomain, codes, answer, relax}
+use Rattle.consistency.specs.Largest.{largest}
+
+-- the number of field f's codes in S
+unfoldable pub codesIn : Book → Subdomain → ℕ → ℕ
+codesIn b S f = howMany (codes b f) (S f)
+
+-- the number of the book's codes outside S
+unfoldable pub outside : Book → Subdomain → ℕ
+outside b S = sumBelow (length (b .counts)) (λ f. howMany (codes b f) (λ c. not (S f c)))
+
+-- field f has an answer
+abbrev pub answered : List ℕ → ℕ → Bool
+answered a f = not (eqb (answer a f) 255)
+
+-- The fields that get a case of their own, rising: "nothing lifted, then each answered field lifted by itself"
+abbrev pub relaxable : Book → List ℕ → List ℕ
+relaxable b a = those (length (b .counts)) (answered a)
+
+-- "The alternatives of an answered field are its own codes in the subdomain with it lifted": c is one of f
+abbrev pub listed : Book → List ℕ → ℕ → ℕ → Bool
+listed b a f c = largest b (relax a f) f c
+
+-- "the total of alternatives"
+unfoldable pub total : Book → List ℕ → ℕ
+total b a = sumOver (relaxable b a) (λ f. howMany (codes b f) (listed b a f))
+
+-- "the number struck": the codes outside the subdomain of each of the n + 1 cases, "those forbidden by an answer included"
+unfoldable pub struck : Book → List ℕ → ℕ
+struck b a = outside b (largest b a) + sumOver (relaxable b a) (λ f. outside b (largest b (relax a f)))
+
+pub record Line : Type 0 where
+  pub field : ℕ
+  pub code : ℕ
+
+-- the lines of field f: those of its codes at which p holds, rising
+abbrev pub linesOf : Book → (ℕ → Bool) → ℕ → List Line
+linesOf b p f = map (λ (c : ℕ). record { field = f; code = c }) (those (codes b f) p)
+
+-- the alternatives of each answered field, by field then code
+unfoldable pub lines : Book → List ℕ → List Line
+lines b a = joinOver (relaxable b a) (λ f. linesOf b (listed b a f) f)
+
+-- "the lines go out as byte pairs, field then code"
+abbrev pub lineBytes : List Line → List ℕ
+lineBytes [] = []
+lineBytes (l ∷ ls) = l .field ∷ l .code ∷ lineBytes ls
+
+-- the number whose bit c is set exactly when p holds of c, for c below n
+abbrev pub mask : ℕ → (ℕ → Bool) → ℕ
+mask zero p = 0
+mask (suc n) p = mask n p + pick (p n) (2 ^ n) 0
+
+-- "one 32-bit number a field, bit c set exactly when code c is in the field's part of the largest subdomain"
+unfoldable pub masks : Book → List ℕ → List ℕ
+masks b a = tabulate (λ f. mask (codes b f) (largest b a f)) (length (b .counts)) 0

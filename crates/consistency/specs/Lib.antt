@@ -1,0 +1,7 @@
+pub mod Counting
+pub mod Consistency
+pub mod Largest
+pub mod Counts
+pub mod Alike
+pub mod Ties
+pub mod Unary

@@ -1,0 +1,19 @@
+-- Source 004 has the answers as unary constraints H beside the book's own: one table with one row for each answer. Assumes nothing.
+use Prim.Native.Nat.{ℕ}
+use mathlib.Core.List.{List, [], _∷_, _++_, map}
+use lib.ListN.{length}
+use Rattle.format.specs.Format.{Table, Book}
+use Rattle.consistency.specs.Consistency.{answer}
+use Rattle.consistency.specs.Counts.{relaxable}
+
+-- "field f has this code", as a table
+abbrev pub answerTable : List ℕ → ℕ → Table
+answerTable a f = record { fields = f ∷ []; rows = (answer a f ∷ []) ∷ [] }
+
+-- the answers of these fields, as tables
+abbrev pub answerTables : List ℕ → List ℕ → List Table
+answerTables a fs = map (answerTable a) fs
+
+-- the book with the answers among its tables
+abbrev pub withAnswers : Book → List ℕ → Book
+withAnswers b a = record { version = b .version; counts = b .counts; tables = b .tables ++ answerTables a (relaxable b a) }

@@ -1,0 +1,1 @@
+// Arc consistency: definitions and theorems alone, no code.

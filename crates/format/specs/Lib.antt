@@ -1,0 +1,5 @@
+pub mod Basics
+pub mod Format
+pub mod Reading
+pub mod Promise
+pub mod Layout

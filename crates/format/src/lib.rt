@@ -1,0 +1,1 @@
+// The book's format: definitions and theorems alone, no code.
