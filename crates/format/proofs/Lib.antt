@@ -1,0 +1,2 @@
+pub mod Scans
+pub mod Elements

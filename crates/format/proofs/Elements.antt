@@ -1,0 +1,15 @@
+-- What holds of each element of a list, by its index. Assumes nothing.
+use mathlib.Core.List.{List, [], _∷_}
+use Prim.Native.Nat.{ℕ, zero, suc, _+_, _<_}
+use native.Mathlib.Omega.{arith}
+use lib.ListN.{length, getD}
+use Rattle.format.specs.Basics.{All}
+
+pub all-at : {A : Type 0} (P : A → Type 0) (xs : List A) (z : A) → All P xs → (k : ℕ) → k < length xs → P (getD xs k z)
+all-at P [] z a k h = absurd (omega arith)
+all-at P (x ∷ xs) z a zero h = a .0
+all-at P (x ∷ xs) z a (suc k) h = all-at P xs z (a .1) k (omega arith)
+
+pub all-of : {A : Type 0} (P : A → Type 0) (xs : List A) (z : A) → ((k : ℕ) → k < length xs → P (getD xs k z)) → All P xs
+all-of P [] z p = tt
+all-of P (x ∷ xs) z p = (p 0 (omega arith), all-of P xs z (λ k h. p (suc k) (omega arith)))
