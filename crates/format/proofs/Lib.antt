@@ -1,3 +1,4 @@
 pub mod Scans
 pub mod Elements
+pub mod Views
 pub mod Refusals
