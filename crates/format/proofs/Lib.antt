@@ -5,3 +5,4 @@ pub mod Refusals
 pub mod Picks
 pub mod Trailer
 pub mod Places
+pub mod TableTests
