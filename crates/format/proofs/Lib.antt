@@ -6,3 +6,4 @@ pub mod Picks
 pub mod Trailer
 pub mod Places
 pub mod TableTests
+pub mod AllTables

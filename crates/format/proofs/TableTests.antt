@@ -28,9 +28,9 @@ module _ (s : List ℕ) (fields first : ℕ) where
   ok-field : (i : ℕ) → byte s i < fields → (first < i → byte s (i - 1) < byte s i) → fieldOk s fields first i ≡ true
   ok-field i h g = rw (lt-ltb (byte s i) fields h) (go (leb i first) refl)
     where
-    go : (t : Bool) → leb i first ≡ t → t || ltb (byte s (i - 1)) (byte s i) ≡ true
-    go true e = refl
-    go false e = lt-ltb (byte s (i - 1)) (byte s i) (g (leb-false i first e))
+      go : (t : Bool) → leb i first ≡ t → t || ltb (byte s (i - 1)) (byte s i) ≡ true
+      go true e = refl
+      go false e = lt-ltb (byte s (i - 1)) (byte s i) (g (leb-false i first e))
 
   module _ (a : ℕ) where
     fields-known : first + a ≤ firstBad (fieldOk s fields first) first (first + a)
@@ -52,11 +52,11 @@ module _ (s : List ℕ) (fields first : ℕ) where
         → firstBad (fieldOk s fields first) first (first + a) ≡ first + a
     fields-pass known rising = pass-all (fieldOk s fields first) first (first + a) (omega arith) ok
       where
-      ok : (k : ℕ) → first ≤ k → k < first + a → fieldOk s fields first k ≡ true
-      ok k l u =
-          let i : first + (k - first) ≡ k = omega arith in
-          ok-field k (rw i at (known (k - first) (omega arith)))
-          (λ h.
+        ok : (k : ℕ) → first ≤ k → k < first + a → fieldOk s fields first k ≡ true
+        ok k l u =
+            let i : first + (k - first) ≡ k = omega arith in
+            ok-field k (rw i at (known (k - first) (omega arith)))
+            (λ h.
             let i′ : first + (k - 1 - first) ≡ k - 1 = omega arith in
             let i″ : first + (k - 1 - first + 1) ≡ k = omega arith in
             rw (i′, i″) at (rising (k - 1 - first) (omega arith)))
@@ -68,7 +68,7 @@ module _ (s : List ℕ) (list first a n start : ℕ) where
       → (r j : ℕ) → r < n → j < a → byte s (start + r * a + j) < byte s (list + byte s (first + j))
   codes-known e r j h k =
       let c = all-pass (codeOk s list first a start) start (start + n * a) (omega arith) e (start + r * a + j) (omega arith)
-          (omega (arith, cell-within a n r j h k)) in
+      (omega (arith, cell-within a n r j h k)) in
       ltb-true (byte s (start + r * a + j)) (byte s (list + byte s (first + j))) (rw (cell-column start a r j k) at c)
 
   codes-pass : 1 ≤ a
@@ -76,18 +76,18 @@ module _ (s : List ℕ) (list first a n start : ℕ) where
       → firstBad (codeOk s list first a start) start (start + n * a) ≡ start + n * a
   codes-pass p known = pass-all (codeOk s list first a start) start (start + n * a) (omega arith) ok
     where
-    at-cell : (k : ℕ) → Cell start a n k → codeOk s list first a start k ≡ true
-    at-cell k c =
-        subst (λ (i : ℕ). codeOk s list first a start i ≡ true) (c .here)
-        (rw (cell-column start a (c .row) (c .column) (c .in-row))
-        (lt-ltb _ _ (known (c .row) (c .column) (c .in-rows) (c .in-row))))
+      at-cell : (k : ℕ) → Cell start a n k → codeOk s list first a start k ≡ true
+      at-cell k c =
+          subst (λ (i : ℕ). codeOk s list first a start i ≡ true) (c .here)
+          (rw (cell-column start a (c .row) (c .column) (c .in-row))
+          (lt-ltb _ _ (known (c .row) (c .column) (c .in-rows) (c .in-row))))
 
-    ok : (k : ℕ) → start ≤ k → k < start + n * a → codeOk s list first a start k ≡ true
-    ok k l u = at-cell k (cell-of start a n k p l u)
+      ok : (k : ℕ) → start ≤ k → k < start + n * a → codeOk s list first a start k ≡ true
+      ok k l u = at-cell k (cell-of start a n k p l u)
 
 -- ---- the table at at, with rows so far
 
-stop≢next : {number place at rows : ℕ} → stop number place ≡ next at rows → ⊥
+pub stop≢next : {number place at rows : ℕ} → stop number place ≡ next at rows → ⊥
 stop≢next e = let z : _≡_ {A = ℕ} 0 1 = cc in omega arith
 
 -- what is known where its tests end at at′, with rows′
