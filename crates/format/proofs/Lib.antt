@@ -7,3 +7,4 @@ pub mod Trailer
 pub mod Places
 pub mod TableTests
 pub mod AllTables
+pub mod Verdict
