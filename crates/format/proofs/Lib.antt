@@ -8,3 +8,4 @@ pub mod Places
 pub mod TableTests
 pub mod AllTables
 pub mod Verdict
+pub mod Accepted
