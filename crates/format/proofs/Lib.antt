@@ -1,3 +1,5 @@
 pub mod Scans
 pub mod Elements
 pub mod Views
+pub mod Conditions
+pub mod Tables

@@ -32,6 +32,13 @@ rows-code s a p (suc n) zero j h k = part-at s p a j k ∙ ap (λ (x : ℕ). byt
 rows-code s a p (suc n) (suc r) j h k =
     rows-code s a (p + a) n r j (omega arith) k ∙ ap (λ (x : ℕ). byte s x) (omega (arith, suc-mul r a))
 
+-- each row has a codes, where the bytes reach to the end of the rows
+rows-width : (s : List ℕ) (a p n r : ℕ) → r < n → p + n * a ≤ length s → length (getD (rowsAt s a p n) r []) ≡ a
+unfolding rowsAt
+rows-width s a p zero r h e = absurd (omega arith)
+rows-width s a p (suc n) zero h e = part-length s p a (omega (arith, suc-mul n a))
+rows-width s a p (suc n) (suc r) h e = rows-width s a (p + a) n r (omega arith) (omega (arith, suc-mul n a))
+
 -- n tables are n tables
 pub tables-length : (s : List ℕ) (p n : ℕ) → length (tablesAt s p n) ≡ n
 unfolding tablesAt
@@ -86,6 +93,11 @@ module _ (s : List ℕ) where
     pub table-rows : length (tableAt s p .rows) ≡ rowsOf s p
     unfolding tableAt
     table-rows = rows-count s (arityAt s p) (firstRow s p) (rowsOf s p)
+
+    -- each of its rows has a code for each field, where the bytes reach to its end
+    pub table-row-length : (r : ℕ) → r < rowsOf s p → tableEnd s p ≤ length s → length (getD (tableAt s p .rows) r []) ≡ arityAt s p
+    unfolding tableAt
+    table-row-length r h e = rows-width s (arityAt s p) (firstRow s p) (rowsOf s p) r h e
 
     -- the code of row r in column j of the table at p
     pub table-code : (r j : ℕ) → r < rowsOf s p → j < arityAt s p → getD (getD (tableAt s p .rows) r []) j 0 ≡ codeAt s p r j
