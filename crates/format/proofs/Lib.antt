@@ -3,3 +3,5 @@ pub mod Elements
 pub mod Views
 pub mod Conditions
 pub mod Tables
+pub mod Drops
+pub mod Decode
