@@ -5,3 +5,4 @@ pub mod Conditions
 pub mod Tables
 pub mod Drops
 pub mod Decode
+pub mod Encode
