@@ -7,3 +7,5 @@ pub mod Drops
 pub mod Decode
 pub mod Encode
 pub mod Bytes
+pub mod Sizes
+pub mod Witness
