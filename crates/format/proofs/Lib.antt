@@ -1,6 +1,13 @@
 pub mod Scans
 pub mod Elements
 pub mod Views
+pub mod Refusals
+pub mod Picks
+pub mod Trailer
+pub mod Places
+pub mod TableTests
+pub mod AllTables
+pub mod Verdict
 pub mod Conditions
 pub mod Tables
 pub mod Drops
