@@ -21,6 +21,7 @@ places-near s (suc n) k few =
     let m : rowsOf s (place s k) * arityAt s (place s k) ≤ rowsOf s (place s k) * 4 = mul-le-mul-left (rowsOf s (place s k)) a in
     rw e (omega (arith, table-rows s (place s k)))
 
+-- a field, and the trailer's six bytes; tables, rows and fields within their limits
 pub book-length : (s : List ℕ) → Promise s
     → (7 ≤ length s) × (length s ≤ tableLimit * 7 + arityLimit * rowLimit + fieldLimit (versionOf s) + 6)
 unfolding bookOf place

@@ -13,6 +13,7 @@ e1-passes : verdict e1 ≡ pass
 unfolding verdict trailerTest listTest tablesStep tableStep rowsStep firstBad scan
 e1-passes = refl
 
+-- so it keeps the promise
 pub e1-promise : Promise e1
 e1-promise = verdict-promise e1 e1-passes
 
