@@ -9,3 +9,11 @@ pub mod TableTests
 pub mod AllTables
 pub mod Verdict
 pub mod Accepted
+pub mod Conditions
+pub mod Tables
+pub mod Drops
+pub mod Decode
+pub mod Encode
+pub mod Bytes
+pub mod Sizes
+pub mod Witness

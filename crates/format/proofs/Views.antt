@@ -1,7 +1,7 @@
 -- What the book that bytes hold says, by places in the bytes, and that its tables stand one behind another. Assumes nothing.
 use mathlib.Core.Path.{_≡_, refl, ap, _∙_}
 use mathlib.Core.Logic.{⊎-elim}
-use mathlib.Core.List.{List, [], _∷_}
+use mathlib.Core.List.{List, []}
 use Prim.Native.Nat.{ℕ, zero, suc, _+_, _*_, _≤_, _<_}
 use native.Mathlib.Nat.{zero-add, add-zero, suc-mul, zero-mul, le-refl, eq-or-lt-of-le}
 use native.Mathlib.Omega.{arith}
@@ -9,6 +9,10 @@ use lib.ListN.{length, getD, drop, length-drop}
 use lib.Seq.{getD-take, getD-drop, length-take-le}
 use Rattle.format.specs.Format.{Table, byte, part, listPlace, fieldCount, tableCount, arityAt, rowsOf, firstRow, tableEnd, rowsAt, tableAt, tablesAt, bookOf}
 use Rattle.format.specs.Promise.{place, fieldAt, codeAt, countAt, Promise}
+
+-- what stands behind the end of a list of tables
+abbrev pub noTable : Table
+noTable = record { fields = []; rows = [] }
 
 -- an element of a part
 pub part-at : (s : List ℕ) (i n j : ℕ) → j < n → getD (part s i n) j 0 ≡ byte s (i + j)
@@ -31,6 +35,13 @@ rows-code s a p zero r j h k = absurd (omega arith)
 rows-code s a p (suc n) zero j h k = part-at s p a j k ∙ ap (λ (x : ℕ). byte s x) (omega (arith, zero-mul a))
 rows-code s a p (suc n) (suc r) j h k =
     rows-code s a (p + a) n r j (omega arith) k ∙ ap (λ (x : ℕ). byte s x) (omega (arith, suc-mul r a))
+
+-- each row has a codes, where the bytes reach to the end of the rows
+rows-width : (s : List ℕ) (a p n r : ℕ) → r < n → p + n * a ≤ length s → length (getD (rowsAt s a p n) r []) ≡ a
+unfolding rowsAt
+rows-width s a p zero r h e = absurd (omega arith)
+rows-width s a p (suc n) zero h e = part-length s p a (omega (arith, suc-mul n a))
+rows-width s a p (suc n) (suc r) h e = rows-width s a (p + a) n r (omega arith) (omega (arith, suc-mul n a))
 
 -- n tables are n tables
 pub tables-length : (s : List ℕ) (p n : ℕ) → length (tablesAt s p n) ≡ n
@@ -86,6 +97,11 @@ module _ (s : List ℕ) where
     pub table-rows : length (tableAt s p .rows) ≡ rowsOf s p
     unfolding tableAt
     table-rows = rows-count s (arityAt s p) (firstRow s p) (rowsOf s p)
+
+    -- each of its rows has a code for each field, where the bytes reach to its end
+    pub table-row-length : (r : ℕ) → r < rowsOf s p → tableEnd s p ≤ length s → length (getD (tableAt s p .rows) r []) ≡ arityAt s p
+    unfolding tableAt
+    table-row-length r h e = rows-width s (arityAt s p) (firstRow s p) (rowsOf s p) r h e
 
     -- the code of row r in column j of the table at p
     pub table-code : (r j : ℕ) → r < rowsOf s p → j < arityAt s p → getD (getD (tableAt s p .rows) r []) j 0 ≡ codeAt s p r j
