@@ -1,1 +1,3 @@
 pub mod Booleans
+pub mod Supports
+pub mod Removals
