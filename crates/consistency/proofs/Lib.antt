@@ -1,3 +1,5 @@
 pub mod Booleans
 pub mod Supports
 pub mod Removals
+pub mod Rounds
+pub mod Largest
