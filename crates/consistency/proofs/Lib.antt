@@ -3,3 +3,4 @@ pub mod Supports
 pub mod Removals
 pub mod Rounds
 pub mod Largest
+pub mod Loops
