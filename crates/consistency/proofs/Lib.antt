@@ -4,3 +4,4 @@ pub mod Removals
 pub mod Rounds
 pub mod Largest
 pub mod Loops
+pub mod Members
