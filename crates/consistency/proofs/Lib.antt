@@ -5,3 +5,5 @@ pub mod Rounds
 pub mod Largest
 pub mod Loops
 pub mod Members
+pub mod Sums
+pub mod CodeCounts
