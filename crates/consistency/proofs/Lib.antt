@@ -8,3 +8,5 @@ pub mod Members
 pub mod Sums
 pub mod CodeCounts
 pub mod Lines
+pub mod Masks
+pub mod SameLargest
