@@ -1,0 +1,12 @@
+pub mod Booleans
+pub mod Supports
+pub mod Removals
+pub mod Rounds
+pub mod Largest
+pub mod Loops
+pub mod Members
+pub mod Sums
+pub mod CodeCounts
+pub mod Lines
+pub mod Masks
+pub mod SameLargest
