@@ -1,2 +1,9 @@
+pub mod Booleans
+pub mod Supports
+pub mod Removals
+pub mod Rounds
+pub mod Largest
 pub mod Those
 pub mod AlikeLaws
+pub mod AlikeExample
+pub mod Answers

@@ -47,3 +47,8 @@ those-has (suc n) p k l t = turn (λ m. those-has n p k m t) (p n) (λ e. subst 
 pub map-all : {A : Type 0} (g h : ℕ → A) (xs : List ℕ) → All (λ k. g k ≡ h k) xs → map g xs ≡ map h xs
 map-all g h [] e = refl
 map-all g h (x ∷ xs) e = ap₂ (λ y ys. y ∷ ys) (e .0) (map-all g h xs (e .1))
+
+-- tests that are equal at each number below n give the same list
+pub those-ext : (n : ℕ) (p q : ℕ → Bool) → ((k : ℕ) → k < n → p k ≡ q k) → those n p ≡ those n q
+those-ext zero p q h = refl
+those-ext (suc n) p q h = ap₂ (λ (xs : List ℕ) (x : Bool). xs ++ pick x (n ∷ []) []) (those-ext n p q (λ k l. h k (omega arith))) (h n (omega arith))

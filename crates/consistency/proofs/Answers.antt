@@ -1,0 +1,155 @@
+-- Source 004's form of the answers, a table with one row for each, says the same as the bound that they put on a subdomain. Assumes nothing.
+use Prim.Native.Nat.{ℕ, zero, suc, _+_, _-_, _≤_, _<_}
+use mathlib.Core.Path.{_≡_, refl, sym, ap, ap₂, _∙_, subst}
+use mathlib.Core.Logic.{_≢_, _↔_}
+use mathlib.Core.Bool.{Bool, not, _&&_}
+use mathlib.Core.List.{List, [], _∷_, _++_, map}
+use native.Mathlib.Decide.{ℕ-discrete, decLt}
+use native.Mathlib.Omega.{arith}
+use lib.ListN.{length, getD, length-append, length-map, List·getD-append, List·getD-eq-default}
+use lib.Seq.{getD-append-add, getD-set-same, getD-set-other, set-out}
+use lib.Dec.{T, eqb, eqb→eq, T-not, not-T}
+use Rattle.format.specs.Format.{Table, Book}
+use Rattle.format.specs.Basics.{All}
+use Rattle.format.proofs.Elements.{all-at}
+use Rattle.consistency.specs.Consistency.{Subdomain, Support, Fits, IsLargest, fieldOf, codes, nth, answer, relax}
+use Rattle.consistency.specs.Counting.{those}
+use Rattle.consistency.specs.Counts.{answered, relaxable}
+use Rattle.consistency.specs.Unary.{answerTable, answerTables, withAnswers}
+use Rattle.consistency.proofs.Booleans.{T-ext, and-in, and-left, and-right, eq→eqb}
+use Rattle.consistency.proofs.Those.{those-all, those-has, those-ext, map-all}
+
+-- ---- a field with an answer
+
+answered-in : (a : List ℕ) (f : ℕ) → answer a f ≢ 255 → T (answered a f)
+answered-in a f n = not-T (eqb (answer a f) 255) (λ t. n (eqb→eq (answer a f) 255 t))
+
+answered-out : (a : List ℕ) (f : ℕ) → T (answered a f) → answer a f ≢ 255
+answered-out a f t e = T-not (eqb (answer a f) 255) t (eq→eqb e)
+
+-- the fields with a table of their own are answered
+relaxable-answered : (b : Book) (a : List ℕ) → All (λ f. answer a f ≢ 255) (relaxable b a)
+relaxable-answered b a = those-all (λ f. answer a f ≢ 255) (length (b .counts)) (answered a) (λ f l t. answered-out a f t)
+
+-- ---- the tables of the book with its answers
+
+table-at : (a fs : List ℕ) (d : Table) (n : ℕ) → n < length fs → getD (answerTables a fs) n d ≡ answerTable a (getD fs n 0)
+table-at a [] d n l = absurd (omega arith)
+table-at a (f ∷ fs) d zero l = refl
+table-at a (f ∷ fs) d (suc n) l = table-at a fs d n (omega arith)
+
+module _ (b : Book) (a : List ℕ) where
+  -- the book's own come first
+  own : (i : ℕ) → i < length (b .tables) → nth (withAnswers b a) i ≡ nth b i
+  own i l = List·getD-append (b .tables) (answerTables a (relaxable b a)) (record { fields = []; rows = [] }) i l
+
+  own-in : (i : ℕ) → i < length (b .tables) → i < length (withAnswers b a .tables)
+  own-in i l = simp length-append (omega arith)
+
+  -- then one for each field with an answer
+  added : (n : ℕ) → n < length (relaxable b a) → nth (withAnswers b a) (length (b .tables) + n) ≡ answerTable a (getD (relaxable b a) n 0)
+  added n l =
+      getD-append-add (b .tables) (answerTables a (relaxable b a)) n (record { fields = []; rows = [] })
+      ∙ table-at a (relaxable b a) (record { fields = []; rows = [] }) n l
+
+  added-in : (n : ℕ) → n < length (relaxable b a) → length (b .tables) + n < length (withAnswers b a .tables)
+  added-in n l = simp (length-append, length-map) (omega arith)
+
+-- code c of field f has support in each column of t for f
+abbrev Supported : Subdomain → ℕ → ℕ → Table → Type 0
+Supported S f c t = (j : ℕ) → j < length (t .fields) → fieldOf t j ≡ f → Support S t j c
+
+-- the one row of an answer's table supports the answer, and nothing else
+answer-supports : {S : Subdomain} (a : List ℕ) (f g c : ℕ) → (g ≡ f → answer a g ≡ c) → Supported S f c (answerTable a g)
+answer-supports a f g c h zero l e = record { row = 0; row-in = omega arith; there = h e; others = λ k m n. absurd (n (omega arith)) }
+answer-supports a f g c h (suc j) l e = absurd (omega arith)
+
+supports-answer : {S : Subdomain} (a : List ℕ) (f g c : ℕ) → g ≡ f → Supported S f c (answerTable a g) → answer a g ≡ c
+supports-answer a f g c e h =
+    let s = h 0 (omega arith) e in
+    let row : s .row ≡ 0 = omega (arith, s .row-in) in
+    subst (λ (r : ℕ). getD (getD ((answer a g ∷ []) ∷ []) r []) 0 0 ≡ c) row (s .there)
+
+-- ---- the two forms
+
+module _ (b : Book) (a : List ℕ) (S : Subdomain) where
+  fits-tables : Fits b a S → Fits (withAnswers b a) [] S
+  fits-tables h =
+      record {
+        of-book = h .of-book;
+        consistent = λ f c t i l. turn f c t i l (decLt i (length (b .tables)));
+        within = λ f c n t. absurd (n refl);
+      }
+    where
+      added-supported : (f c : ℕ) → T (S f c) → (n : ℕ) → n < length (relaxable b a) → Supported S f c (nth (withAnswers b a) (length (b .tables) + n))
+      added-supported f c t n l =
+          let g : ℕ = getD (relaxable b a) n 0 in
+          let held : g ≡ f → answer a g ≡ c = λ e. ap (answer a) e ∙ sym (h .within f c (λ o. all-at (λ f. answer a f ≢ 255) (relaxable b a) 0 (relaxable-answered b a) n l (ap (answer a) e ∙ o)) t) in
+          subst (Supported S f c) (sym (added b a n l)) (answer-supports a f g c held)
+
+      turn : (f c : ℕ) → T (S f c) → (i : ℕ) → i < length (withAnswers b a .tables) → Dec (i < length (b .tables)) → Supported S f c (nth (withAnswers b a) i)
+      turn f c t i l (yes m) = subst (Supported S f c) (sym (own b a i m)) (h .consistent f c t i m)
+      turn f c t i l (no m) =
+          let n : ℕ = i - length (b .tables) in
+          let at : length (b .tables) + n ≡ i = omega arith in
+          let n-in : n < length (relaxable b a) = omega (arith, simp (length-append, length-map) at l) in
+          subst (λ (x : ℕ). Supported S f c (nth (withAnswers b a) x)) at (added-supported f c t n n-in)
+
+  fits-answers : Fits (withAnswers b a) [] S → Fits b a S
+  fits-answers h =
+      record {
+        of-book = h .of-book;
+        consistent = λ f c t i l. subst (Supported S f c) (own b a i l) (h .consistent f c t i (own-in b a i l));
+        within = λ f c n t. 
+            let w = those-has (length (b .counts)) (answered a) f (field-in f c t (decLt f (length (b .counts)))) (answered-in a f n) in
+            let s = h .consistent f c t (length (b .tables) + w .0) (added-in b a (w .0) (w .1)) in
+            sym (supports-answer a f (getD (relaxable b a) (w .0) 0) c (w .2) (subst (Supported S f c) (added b a (w .0) (w .1)) s)) ∙ ap (answer a) (w .2);
+      }
+    where
+      -- a field with a code is a field of the book
+      field-in : (f c : ℕ) → T (S f c) → Dec (f < length (b .counts)) → f < length (b .counts)
+      field-in f c t (yes l) = l
+      field-in f c t (no l) = 
+         let none : codes b f ≡ 0 = List·getD-eq-default (b .counts) 0 (omega arith) in
+         absurd (omega (arith, h .of-book f c t))
+
+  -- a subdomain fits the book and the answers exactly when it fits the book with the answers among its tables
+  pub unary-fits : Fits b a S ↔ Fits (withAnswers b a) [] S
+  unary-fits = (fits-tables, fits-answers)
+
+-- so the largest is the same
+pub unary-largest : (b : Book) (a : List ℕ) (S : Subdomain) → IsLargest b a S ↔ IsLargest (withAnswers b a) [] S
+unary-largest b a S =
+    (λ h. record { fits = fits-tables b a S (h .fits); has-all = λ R r. h .has-all R (fits-answers b a R r) },
+    λ h. record { fits = fits-answers b a S (h .fits); has-all = λ R r. h .has-all R (fits-tables b a R r) })
+
+-- ---- relaxing a field
+
+-- the relaxed field has no answer, and the others have theirs
+relaxed-here : (a : List ℕ) (f : ℕ) → Dec (f < length a) → answer (relax a f) f ≡ 255
+relaxed-here a f (yes l) = getD-set-same a f 255 255 l
+relaxed-here a f (no l) = ap (λ (x : List ℕ). answer x f) (set-out a f 255 (omega arith)) ∙ List·getD-eq-default a 255 (omega arith)
+
+relaxed-answered : (a : List ℕ) (f g : ℕ) → answered (relax a f) g ≡ (answered a g && not (eqb g f))
+relaxed-answered a f g = turn (ℕ-discrete g f)
+  where
+    turn : Dec (g ≡ f) → answered (relax a f) g ≡ (answered a g && not (eqb g f))
+    turn (yes e) =
+        T-ext (λ t. absurd (answered-out (relax a f) g t (ap (answer (relax a f)) e ∙ relaxed-here a f (decLt f (length a)))))
+        (λ t. absurd (T-not (eqb g f) (and-right (answered a g) (not (eqb g f)) t) (eq→eqb e)))
+    turn (no n) =
+        let same : answer (relax a f) g ≡ answer a g = getD-set-other a f g 255 255 n in
+        let other : T (not (eqb g f)) = not-T (eqb g f) (λ t. n (eqb→eq g f t)) in
+        T-ext (λ t. and-in (answered a g) (not (eqb g f)) (subst (λ (x : ℕ). T (not (eqb x 255))) same t) other)
+        (λ t. subst (λ (x : ℕ). T (not (eqb x 255))) (sym same) (and-left (answered a g) (not (eqb g f)) t))
+
+-- relaxing f leaves exactly f's table out
+pub relax-leaves-out : (b : Book) (a : List ℕ) (f : ℕ)
+    → answerTables (relax a f) (relaxable b (relax a f)) ≡ answerTables a (those (length (b .counts)) (λ g. answered a g && not (eqb g f)))
+relax-leaves-out b a f =
+    let n : ℕ = length (b .counts) in
+    let rest : ℕ → Bool = λ g. answered a g && not (eqb g f) in
+    let same : (g : ℕ) → g < n → T (rest g) → answerTable (relax a f) g ≡ answerTable a g = λ g l t.
+        ap (λ (x : ℕ). record { fields = g ∷ []; rows = (x ∷ []) ∷ [] }) (getD-set-other a f g 255 255 (λ e. T-not (eqb g f) (and-right (answered a g) (not (eqb g f)) t) (eq→eqb e))) in
+    ap (answerTables (relax a f)) (those-ext n (answered (relax a f)) rest (λ g l. relaxed-answered a f g))
+    ∙ map-all (answerTable (relax a f)) (answerTable a) (those n rest) (those-all (λ g. answerTable (relax a f) g ≡ answerTable a g) n rest same)
