@@ -17,6 +17,7 @@ use Rattle.consistency.specs.Counting.{those}
 use Rattle.consistency.specs.Counts.{answered, relaxable}
 use Rattle.consistency.specs.Unary.{answerTable, answerTables, withAnswers}
 use Rattle.consistency.proofs.Booleans.{T-ext, and-in, and-left, and-right, eq→eqb}
+use Rattle.consistency.proofs.Tables.{Supported}
 use Rattle.consistency.proofs.Those.{those-all, those-has, those-ext, map-all}
 
 -- ---- a field with an answer
@@ -54,10 +55,6 @@ module _ (b : Book) (a : List ℕ) where
 
   added-in : (n : ℕ) → n < length (relaxable b a) → length (b .tables) + n < length (withAnswers b a .tables)
   added-in n l = simp (length-append, length-map) (omega arith)
-
--- code c of field f has support in each column of t for f
-abbrev Supported : Subdomain → ℕ → ℕ → Table → Type 0
-Supported S f c t = (j : ℕ) → j < length (t .fields) → fieldOf t j ≡ f → Support S t j c
 
 -- the one row of an answer's table supports the answer, and nothing else
 answer-supports : {S : Subdomain} (a : List ℕ) (f g c : ℕ) → (g ≡ f → answer a g ≡ c) → Supported S f c (answerTable a g)

@@ -4,6 +4,7 @@ pub mod Removals
 pub mod Rounds
 pub mod Largest
 pub mod Those
+pub mod Tables
 pub mod AlikeLaws
 pub mod AlikeExample
 pub mod Answers
