@@ -8,3 +8,4 @@ pub mod Tables
 pub mod AlikeLaws
 pub mod AlikeExample
 pub mod Answers
+pub mod Chains
