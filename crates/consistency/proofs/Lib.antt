@@ -3,6 +3,10 @@ pub mod Supports
 pub mod Removals
 pub mod Rounds
 pub mod Largest
+pub mod Loops
+pub mod Members
+pub mod Sums
+pub mod CodeCounts
 pub mod Those
 pub mod Tables
 pub mod AlikeLaws
