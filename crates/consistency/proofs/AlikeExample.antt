@@ -1,12 +1,14 @@
 -- Two different books that are alike: document 01's E1, and E1 with its tables the other way round and its repeated row once. Assumes nothing.
 use Prim.Native.Nat.{ℕ, zero, suc, _-_, _<_}
-use mathlib.Core.Path.{refl}
-use mathlib.Core.List.{[], _∷_}
+use mathlib.Core.Path.{_≡_, refl}
+use mathlib.Core.List.{List, [], _∷_}
 use native.Mathlib.Omega.{arith}
-use lib.ListN.{length}
 use Rattle.format.specs.Format.{Table, Book}
 use Rattle.consistency.specs.Consistency.{nth}
+use Rattle.consistency.specs.Largest.{largest}
 use Rattle.consistency.specs.Alike.{RowsIn, AlikeTables, Alike}
+use Rattle.consistency.proofs.Tables.{same-alike}
+use Rattle.consistency.proofs.AlikeLaws.{alike-largest}
 
 -- E1's first table, whose last row repeats its second, the same without the repeat, and E1's second table
 abbrev pub repeating : Table
@@ -39,7 +41,7 @@ back (suc (suc (suc r))) l = absurd (omega arith)
 
 pairs : (i : ℕ) → i < 2 → AlikeTables (nth example i) (nth turned (1 - i))
 pairs zero l = record { same-fields = refl; there = there; back = back }
-pairs (suc zero) l = record { same-fields = refl; there = λ r m. (r, m, refl); back = λ r m. (r, m, refl) }
+pairs (suc zero) l = same-alike refl
 pairs (suc (suc i)) l = absurd (omega arith)
 
 -- table i of E1 stands at place 1 - i of the other book
@@ -55,3 +57,7 @@ example-alike =
       to-from = λ i l. omega arith;
       pairs = pairs;
     }
+
+-- so they have the same largest subdomain, under any answers
+pub example-largest : (a : List ℕ) (f c : ℕ) → largest example a f c ≡ largest turned a f c
+example-largest = alike-largest example-alike

@@ -1,24 +1,25 @@
 -- Source 004's form of the answers, a table with one row for each, says the same as the bound that they put on a subdomain. Assumes nothing.
 use Prim.Native.Nat.{ℕ, zero, suc, _+_, _-_, _≤_, _<_}
-use mathlib.Core.Path.{_≡_, refl, sym, ap, ap₂, _∙_, subst}
-use mathlib.Core.Logic.{_≢_, _↔_}
+use mathlib.Core.Path.{_≡_, refl, sym, ap, _∙_, subst}
+use mathlib.Core.Logic.{_≢_, _↔_, ∥∥₁-elim}
 use mathlib.Core.Bool.{Bool, not, _&&_}
-use mathlib.Core.List.{List, [], _∷_, _++_, map}
+use mathlib.Core.List.{List, [], _∷_, _++_, map-congr-left}
 use native.Mathlib.Decide.{ℕ-discrete, decLt}
 use native.Mathlib.Omega.{arith}
 use lib.ListN.{length, getD, length-append, length-map, List·getD-append, List·getD-eq-default}
 use lib.Seq.{getD-append-add, getD-set-same, getD-set-other, set-out}
-use lib.Dec.{T, eqb, eqb→eq, T-not, not-T}
+use lib.Dec.{T, eqb, eqb→eq, T-not, not-T, T-prop}
 use Rattle.format.specs.Format.{Table, Book}
-use Rattle.format.specs.Basics.{All}
-use Rattle.format.proofs.Elements.{all-at}
-use Rattle.consistency.specs.Consistency.{Subdomain, Support, Fits, IsLargest, fieldOf, codes, nth, answer, relax}
+use Rattle.consistency.specs.Consistency.{Subdomain, Fits, IsLargest, nth, answer, relax}
 use Rattle.consistency.specs.Counting.{those}
 use Rattle.consistency.specs.Counts.{answered, relaxable}
 use Rattle.consistency.specs.Unary.{answerTable, answerTables, withAnswers}
 use Rattle.consistency.proofs.Booleans.{T-ext, and-in, and-left, and-right, eq→eqb}
+use Rattle.consistency.proofs.Members.{in-those, those-in}
+use Rattle.consistency.proofs.Positions.{at-in, in-at}
+use Rattle.consistency.proofs.Sums.{those-ext}
+use Rattle.consistency.proofs.CodeCounts.{field-in}
 use Rattle.consistency.proofs.Tables.{Supported}
-use Rattle.consistency.proofs.Those.{those-all, those-has, those-ext, map-all}
 
 -- ---- a field with an answer
 
@@ -28,9 +29,9 @@ answered-in a f n = not-T (eqb (answer a f) 255) (λ t. n (eqb→eq (answer a f)
 answered-out : (a : List ℕ) (f : ℕ) → T (answered a f) → answer a f ≢ 255
 answered-out a f t e = T-not (eqb (answer a f) 255) t (eq→eqb e)
 
--- the fields with a table of their own are answered
-relaxable-answered : (b : Book) (a : List ℕ) → All (λ f. answer a f ≢ 255) (relaxable b a)
-relaxable-answered b a = those-all (λ f. answer a f ≢ 255) (length (b .counts)) (answered a) (λ f l t. answered-out a f t)
+-- a field with a table of its own is answered
+relaxable-answered : (b : Book) (a : List ℕ) (n : ℕ) → n < length (relaxable b a) → answer a (getD (relaxable b a) n 0) ≢ 255
+relaxable-answered b a n l = answered-out a (getD (relaxable b a) n 0) (in-those (length (b .counts)) (answered a) (at-in 0 (relaxable b a) n l) .1)
 
 -- ---- the tables of the book with its answers
 
@@ -81,7 +82,7 @@ module _ (b : Book) (a : List ℕ) (S : Subdomain) where
       added-supported : (f c : ℕ) → T (S f c) → (n : ℕ) → n < length (relaxable b a) → Supported S f c (nth (withAnswers b a) (length (b .tables) + n))
       added-supported f c t n l =
           let g : ℕ = getD (relaxable b a) n 0 in
-          let held : g ≡ f → answer a g ≡ c = λ e. ap (answer a) e ∙ sym (h .within f c (λ o. all-at (λ f. answer a f ≢ 255) (relaxable b a) 0 (relaxable-answered b a) n l (ap (answer a) e ∙ o)) t) in
+          let held : g ≡ f → answer a g ≡ c = λ e. ap (answer a) e ∙ sym (h .within f c (λ o. relaxable-answered b a n l (ap (answer a) e ∙ o)) t) in
           subst (Supported S f c) (sym (added b a n l)) (answer-supports a f g c held)
 
       turn : (f c : ℕ) → T (S f c) → (i : ℕ) → i < length (withAnswers b a .tables) → Dec (i < length (b .tables)) → Supported S f c (nth (withAnswers b a) i)
@@ -97,18 +98,11 @@ module _ (b : Book) (a : List ℕ) (S : Subdomain) where
       record {
         of-book = h .of-book;
         consistent = λ f c t i l. subst (Supported S f c) (own b a i l) (h .consistent f c t i (own-in b a i l));
-        within = λ f c n t. 
-            let w = those-has (length (b .counts)) (answered a) f (field-in f c t (decLt f (length (b .counts)))) (answered-in a f n) in
+        within = λ f c n t.
+            let w = in-at 0 (those-in (length (b .counts)) (answered a) (field-in b f c (h .of-book f c t)) (answered-in a f n)) in
             let s = h .consistent f c t (length (b .tables) + w .0) (added-in b a (w .0) (w .1)) in
             sym (supports-answer a f (getD (relaxable b a) (w .0) 0) c (w .2) (subst (Supported S f c) (added b a (w .0) (w .1)) s)) ∙ ap (answer a) (w .2);
       }
-    where
-      -- a field with a code is a field of the book
-      field-in : (f c : ℕ) → T (S f c) → Dec (f < length (b .counts)) → f < length (b .counts)
-      field-in f c t (yes l) = l
-      field-in f c t (no l) = 
-         let none : codes b f ≡ 0 = List·getD-eq-default (b .counts) 0 (omega arith) in
-         absurd (omega (arith, h .of-book f c t))
 
   -- a subdomain fits the book and the answers exactly when it fits the book with the answers among its tables
   pub unary-fits : Fits b a S ↔ Fits (withAnswers b a) [] S
@@ -116,9 +110,10 @@ module _ (b : Book) (a : List ℕ) (S : Subdomain) where
 
 -- so the largest is the same
 pub unary-largest : (b : Book) (a : List ℕ) (S : Subdomain) → IsLargest b a S ↔ IsLargest (withAnswers b a) [] S
-unary-largest b a S =
-    (λ h. record { fits = fits-tables b a S (h .fits); has-all = λ R r. h .has-all R (fits-answers b a R r) },
-    λ h. record { fits = fits-answers b a S (h .fits); has-all = λ R r. h .has-all R (fits-tables b a R r) })
+unary-largest b a S = (
+  λ h. record { fits = fits-tables b a S (h .fits); has-all = λ R r. h .has-all R (fits-answers b a R r) },
+  λ h. record { fits = fits-answers b a S (h .fits); has-all = λ R r. h .has-all R (fits-tables b a R r) },
+)
 
 -- ---- relaxing a field
 
@@ -146,7 +141,8 @@ pub relax-leaves-out : (b : Book) (a : List ℕ) (f : ℕ)
 relax-leaves-out b a f =
     let n : ℕ = length (b .counts) in
     let rest : ℕ → Bool = λ g. answered a g && not (eqb g f) in
-    let same : (g : ℕ) → g < n → T (rest g) → answerTable (relax a f) g ≡ answerTable a g = λ g l t.
-        ap (λ (x : ℕ). record { fields = g ∷ []; rows = (x ∷ []) ∷ [] }) (getD-set-other a f g 255 255 (λ e. T-not (eqb g f) (and-right (answered a g) (not (eqb g f)) t) (eq→eqb e))) in
+    let same : (g : ℕ) → T (rest g) → answerTable (relax a f) g ≡ answerTable a g = λ g t.
+    ap (λ (x : ℕ). record { fields = g ∷ []; rows = (x ∷ []) ∷ [] })
+    (getD-set-other a f g 255 255 (λ e. T-not (eqb g f) (and-right (answered a g) (not (eqb g f)) t) (eq→eqb e))) in
     ap (answerTables (relax a f)) (those-ext n (answered (relax a f)) rest (λ g l. relaxed-answered a f g))
-    ∙ map-all (answerTable (relax a f)) (answerTable a) (those n rest) (those-all (λ g. answerTable (relax a f) g ≡ answerTable a g) n rest same)
+    ∙ map-congr-left (λ g m. same g (∥∥₁-elim m (T-prop (rest g)) (λ d. in-those n rest d .1)))

@@ -7,9 +7,10 @@ pub mod Loops
 pub mod Members
 pub mod Sums
 pub mod CodeCounts
-pub mod Those
+pub mod Positions
 pub mod Tables
 pub mod AlikeLaws
 pub mod AlikeExample
 pub mod Answers
 pub mod Chains
+pub mod ChainsExample
