@@ -1,5 +1,6 @@
--- Source 004's form of the answers, a table with one row for each, says the same as the bound that they put on a subdomain. Assumes nothing.
-use Prim.Native.Nat.{ℕ, zero, suc, _+_, _-_, _≤_, _<_}
+-- Answers as tables of one row, as in source 004, say what answers as bounds of the subdomain say; to relax a field is to leave its table
+-- out. Assumes nothing.
+use Prim.Native.Nat.{ℕ, zero, suc, _+_, _-_, _<_}
 use mathlib.Core.Path.{_≡_, refl, sym, ap, _∙_, subst}
 use mathlib.Core.Logic.{_≢_, _↔_, ∥∥₁-elim}
 use mathlib.Core.Bool.{Bool, not, _&&_}
@@ -79,19 +80,21 @@ module _ (b : Book) (a : List ℕ) (S : Subdomain) where
         within = λ f c n t. absurd (n refl);
       }
     where
-      added-supported : (f c : ℕ) → T (S f c) → (n : ℕ) → n < length (relaxable b a) → Supported S f c (nth (withAnswers b a) (length (b .tables) + n))
-      added-supported f c t n l =
-          let g : ℕ = getD (relaxable b a) n 0 in
-          let held : g ≡ f → answer a g ≡ c = λ e. ap (answer a) e ∙ sym (h .within f c (λ o. relaxable-answered b a n l (ap (answer a) e ∙ o)) t) in
-          subst (Supported S f c) (sym (added b a n l)) (answer-supports a f g c held)
+      -- the answer of the field of the n-th table added is c, where that field is f
+      held : (f c : ℕ) → T (S f c) → (n : ℕ) → n < length (relaxable b a)
+          → getD (relaxable b a) n 0 ≡ f → answer a (getD (relaxable b a) n 0) ≡ c
+      held f c t n l e = ap (answer a) e ∙ sym (h .within f c (λ o. relaxable-answered b a n l (ap (answer a) e ∙ o)) t)
 
-      turn : (f c : ℕ) → T (S f c) → (i : ℕ) → i < length (withAnswers b a .tables) → Dec (i < length (b .tables)) → Supported S f c (nth (withAnswers b a) i)
+      turn : (f c : ℕ) → T (S f c) → (i : ℕ) → i < length (withAnswers b a .tables)
+          → Dec (i < length (b .tables)) → Supported S f c (nth (withAnswers b a) i)
       turn f c t i l (yes m) = subst (Supported S f c) (sym (own b a i m)) (h .consistent f c t i m)
       turn f c t i l (no m) =
           let n : ℕ = i - length (b .tables) in
           let at : length (b .tables) + n ≡ i = omega arith in
           let n-in : n < length (relaxable b a) = omega (arith, simp (length-append, length-map) at l) in
-          subst (λ (x : ℕ). Supported S f c (nth (withAnswers b a) x)) at (added-supported f c t n n-in)
+          let table : answerTable a (getD (relaxable b a) n 0) ≡ nth (withAnswers b a) i =
+          sym (added b a n n-in) ∙ ap (nth (withAnswers b a)) at in
+          subst (Supported S f c) table (answer-supports a f (getD (relaxable b a) n 0) c (held f c t n n-in))
 
   fits-answers : Fits (withAnswers b a) [] S → Fits b a S
   fits-answers h =
@@ -101,7 +104,8 @@ module _ (b : Book) (a : List ℕ) (S : Subdomain) where
         within = λ f c n t.
             let w = in-at 0 (those-in (length (b .counts)) (answered a) (field-in b f c (h .of-book f c t)) (answered-in a f n)) in
             let s = h .consistent f c t (length (b .tables) + w .0) (added-in b a (w .0) (w .1)) in
-            sym (supports-answer a f (getD (relaxable b a) (w .0) 0) c (w .2) (subst (Supported S f c) (added b a (w .0) (w .1)) s)) ∙ ap (answer a) (w .2);
+            let g : ℕ = getD (relaxable b a) (w .0) 0 in
+            sym (supports-answer a f g c (w .2) (subst (Supported S f c) (added b a (w .0) (w .1)) s)) ∙ ap (answer a) (w .2);
       }
 
   -- a subdomain fits the book and the answers exactly when it fits the book with the answers among its tables
@@ -117,32 +121,52 @@ unary-largest b a S = (
 
 -- ---- relaxing a field
 
--- the relaxed field has no answer, and the others have theirs
+-- the relaxed field has no answer
 relaxed-here : (a : List ℕ) (f : ℕ) → Dec (f < length a) → answer (relax a f) f ≡ 255
 relaxed-here a f (yes l) = getD-set-same a f 255 255 l
 relaxed-here a f (no l) = ap (λ (x : List ℕ). answer x f) (set-out a f 255 (omega arith)) ∙ List·getD-eq-default a 255 (omega arith)
 
-relaxed-answered : (a : List ℕ) (f g : ℕ) → answered (relax a f) g ≡ (answered a g && not (eqb g f))
-relaxed-answered a f g = turn (ℕ-discrete g f)
-  where
-    turn : Dec (g ≡ f) → answered (relax a f) g ≡ (answered a g && not (eqb g f))
-    turn (yes e) =
-        T-ext (λ t. absurd (answered-out (relax a f) g t (ap (answer (relax a f)) e ∙ relaxed-here a f (decLt f (length a)))))
-        (λ t. absurd (T-not (eqb g f) (and-right (answered a g) (not (eqb g f)) t) (eq→eqb e)))
-    turn (no n) =
-        let same : answer (relax a f) g ≡ answer a g = getD-set-other a f g 255 255 n in
-        let other : T (not (eqb g f)) = not-T (eqb g f) (λ t. n (eqb→eq g f t)) in
-        T-ext (λ t. and-in (answered a g) (not (eqb g f)) (subst (λ (x : ℕ). T (not (eqb x 255))) same t) other)
-        (λ t. subst (λ (x : ℕ). T (not (eqb x 255))) (sym same) (and-left (answered a g) (not (eqb g f)) t))
+-- the book with further tables
+abbrev pub withTables : Book → List Table → Book
+withTables b ts = record { version = b .version; counts = b .counts; tables = b .tables ++ ts }
 
--- relaxing f leaves exactly f's table out
-pub relax-leaves-out : (b : Book) (a : List ℕ) (f : ℕ)
-    → answerTables (relax a f) (relaxable b (relax a f)) ≡ answerTables a (those (length (b .counts)) (λ g. answered a g && not (eqb g f)))
-relax-leaves-out b a f =
-    let n : ℕ = length (b .counts) in
-    let rest : ℕ → Bool = λ g. answered a g && not (eqb g f) in
-    let same : (g : ℕ) → T (rest g) → answerTable (relax a f) g ≡ answerTable a g = λ g t.
-    ap (λ (x : ℕ). record { fields = g ∷ []; rows = (x ∷ []) ∷ [] })
-    (getD-set-other a f g 255 255 (λ e. T-not (eqb g f) (and-right (answered a g) (not (eqb g f)) t) (eq→eqb e))) in
-    ap (answerTables (relax a f)) (those-ext n (answered (relax a f)) rest (λ g l. relaxed-answered a f g))
-    ∙ map-congr-left (λ g m. same g (∥∥₁-elim m (T-prop (rest g)) (λ d. in-those n rest d .1)))
+module _ (b : Book) (a : List ℕ) (f : ℕ) where
+  -- g is answered, and is not the field to relax
+  abbrev others : ℕ → Bool
+  others g = answered a g && not (eqb g f)
+
+  others-in : (g : ℕ) → T (answered a g) → g ≢ f → T (others g)
+  others-in g t n = and-in (answered a g) (not (eqb g f)) t (not-T (eqb g f) (λ e. n (eqb→eq g f e)))
+
+  others-out : (g : ℕ) → T (others g) → g ≢ f
+  others-out g t e = T-not (eqb g f) (and-right (answered a g) (not (eqb g f)) t) (eq→eqb e)
+
+  -- the others keep their answers, so they are the fields that are answered still
+  other-answer : (g : ℕ) → g ≢ f → answer (relax a f) g ≡ answer a g
+  other-answer g n = getD-set-other a f g 255 255 n
+
+  still-answered : (g : ℕ) → Dec (g ≡ f) → answered (relax a f) g ≡ others g
+  still-answered g (yes e) =
+      T-ext (λ t. absurd (answered-out (relax a f) g t (ap (answer (relax a f)) e ∙ relaxed-here a f (decLt f (length a)))))
+      (λ t. absurd (others-out g t e))
+  still-answered g (no n) =
+      T-ext (λ t. others-in g (answered-in a g (λ e. answered-out (relax a f) g t (other-answer g n ∙ e))) n)
+      (λ t. answered-in (relax a f) g (λ e. answered-out a g (and-left (answered a g) (not (eqb g f)) t) (sym (other-answer g n) ∙ e)))
+
+  other-table : (g : ℕ) → T (others g) → answerTable (relax a f) g ≡ answerTable a g
+  other-table g t = ap (λ (x : ℕ). record { fields = g ∷ []; rows = (x ∷ []) ∷ [] }) (other-answer g (others-out g t))
+
+  -- relaxing f leaves exactly f's table out
+  pub relax-leaves-out : answerTables (relax a f) (relaxable b (relax a f))
+      ≡ answerTables a (those (length (b .counts)) (λ g. answered a g && not (eqb g f)))
+  relax-leaves-out =
+      let n : ℕ = length (b .counts) in
+      ap (answerTables (relax a f)) (those-ext n (answered (relax a f)) others (λ g l. still-answered g (ℕ-discrete g f)))
+      ∙ map-congr-left (λ g m. other-table g (∥∥₁-elim m (T-prop (others g)) (λ d. in-those n others d .1)))
+
+  -- so the largest with f relaxed is that of the book with each answer's table but f's
+  pub relax-largest : (S : Subdomain) → IsLargest b (relax a f) S
+      ↔ IsLargest (withTables b (answerTables a (those (length (b .counts)) (λ g. answered a g && not (eqb g f))))) [] S
+  relax-largest S =
+      subst (λ (ts : List Table). IsLargest b (relax a f) S ↔ IsLargest (withTables b ts) [] S) relax-leaves-out
+      (unary-largest b (relax a f) S)

@@ -73,7 +73,7 @@ module _ {b d : Book} {a e : List ℕ} {f : ℕ} (same : SameAround b d a e f) w
       ∙ rounds-agree k (start b a) (start d e) start-agrees g t c
       ∙ ap (λ (m : Domains). has m g c) (enough-rounds d e k (omega arith))
 
--- "A field that becomes empty has no effect on fields that no chain of tables ties to it": nor has any other answer at that field ..
+-- "A field that becomes empty has no effect on fields that no chain of tables ties to it": another answer at field h has none ..
 pub untied-answer : (b : Book) (a : List ℕ) (f h : ℕ) → (Tied b f h → ⊥) → (x g : ℕ) → Tied b f g → (c : ℕ)
     → largest b (set a h x) g c ≡ largest b a g c
 untied-answer b a f h untied x =
@@ -85,18 +85,16 @@ untied-answer b a f h untied x =
       back = λ g t i l w. (i, l, refl);
     })
 
--- .. nor a further table, were it without rows, none of whose fields is tied to f
+-- the book with a table more
+abbrev pub withTable : Table → Book → Book
+withTable u b = record { version = b .version; counts = b .counts; tables = u ∷ b .tables }
+
+-- .. nor a further table, none of whose fields is tied to f, though it may have no rows and empty its fields
 pub untied-table : (b : Book) (a : List ℕ) (f : ℕ) (u : Table) → ((h : ℕ) → FieldIn h u → Tied b f h → ⊥)
-    → (g : ℕ) → Tied b f g → (c : ℕ) → largest b a g c ≡ largest (record { version = b .version; counts = b .counts; tables = u ∷ b .tables }) a g c
-untied-table b a f u untied =
-    around
-    (record {
-      counts = λ g t. refl;
-      answers = λ g t. refl;
-      there = λ g t i l w. (suc i, omega arith, refl);
-      back = behind;
-    })
+    → (g : ℕ) → Tied b f g → (c : ℕ) → largest (withTable u b) a g c ≡ largest b a g c
+untied-table b a f u untied g t c =
+    sym (around (record { counts = λ g t. refl; answers = λ g t. refl; there = λ g t i l w. (suc i, omega arith, refl); back = back }) g t c)
   where
-    behind : TablesAround b (record { version = b .version; counts = b .counts; tables = u ∷ b .tables }) b f
-    behind g t zero l w = absurd (untied g w t)
-    behind g t (suc i) l w = (i, omega arith, refl)
+    back : TablesAround b (withTable u b) b f
+    back g t zero l w = absurd (untied g w t)
+    back g t (suc i) l w = (i, omega arith, refl)

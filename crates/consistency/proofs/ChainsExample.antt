@@ -38,10 +38,11 @@ field-1-empty a c =
     T-false (λ t. let s = largest-is emptied a .fits .consistent 1 c t 0 (omega arith) 0 (omega arith) refl in omega (arith, s .row-in))
 
 -- those of field 0 stand as without the table
-pub field-0-same : (a : List ℕ) (c : ℕ) → largest free a 0 c ≡ largest emptied a 0 c
+pub field-0-same : (a : List ℕ) (c : ℕ) → largest emptied a 0 c ≡ largest free a 0 c
 field-0-same a = untied-table free a 0 emptying (λ h w t. omega (arith, alone t, only-field w)) 0 Tied.here
 
 -- field 0, by E1's first table, field 2, by its second, field 1
 pub chain-of-two : Tied example 0 1
 chain-of-two =
-    Tied.step (Tied.step Tied.here 0 (omega arith) (0, omega arith, refl) 2 (1, omega arith, refl)) 1 (omega arith) (1, omega arith, refl) 1 (0, omega arith, refl)
+    let first : Tied example 0 2 = Tied.step Tied.here 0 (omega arith) (0, omega arith, refl) 2 (1, omega arith, refl) in
+    Tied.step first 1 (omega arith) (1, omega arith, refl) 1 (0, omega arith, refl)
