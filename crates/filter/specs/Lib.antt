@@ -1,0 +1,3 @@
+pub mod Words
+pub mod Cases
+pub mod Support
