@@ -7,3 +7,4 @@ pub mod Loops
 pub mod Members
 pub mod Sums
 pub mod CodeCounts
+pub mod Lines
