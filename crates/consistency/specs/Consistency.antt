@@ -28,6 +28,10 @@ nth b i = getD (b .tables) i (record { fields = []; rows = [] })
 abbrev pub Subdomain : Type 0
 Subdomain = ℕ → ℕ → Bool
 
+-- "one byte for each of 32 places"
+abbrev pub places : ℕ
+places = 32
+
 -- Answers are a sheet's bytes: "the answered code, or 255 for no answer". Nothing there is no answer
 abbrev pub answer : List ℕ → ℕ → ℕ
 answer a f = getD a f 255

@@ -1,0 +1,28 @@
+-- Document 01, "The sheet and its one pass": the cases of a pass, and what the marks and the count say at its end. Assumes nothing.
+use Prim.Native.Nat.{ℕ, _+_, _*_, _/_, _%_}
+use mathlib.Core.List.{List, [], _∷_, map}
+use lib.ListN.{length, getD}
+use Rattle.format.specs.Format.{Book, codeLimit}
+use Rattle.consistency.specs.Counting.{tabulate}
+use Rattle.consistency.specs.Consistency.{places, relax}
+use Rattle.consistency.specs.Largest.{largest}
+use Rattle.consistency.specs.Counts.{outside, relaxable, mask}
+
+-- "n+1 cases: nothing lifted, then each answered field lifted by itself", as the answers of each case
+abbrev pub casesOf : Book → List ℕ → List (List ℕ)
+casesOf b a = a ∷ map (relax a) (relaxable b a)
+
+-- the word of field f and code c: bit k says whether c is in f's part of the largest subdomain of case k
+abbrev pub caseWord : Book → List (List ℕ) → ℕ → ℕ → ℕ
+caseWord b cases f c = mask (length cases) (λ k. largest b (getD cases k []) f c)
+
+-- the words of all places and codes; those that the book lacks are 0
+unfoldable pub marksOf : Book → List (List ℕ) → List ℕ
+marksOf b cases = tabulate (λ i. caseWord b cases (i / codeLimit) (i % codeLimit)) (places * codeLimit) 0
+
+-- the codes outside the largest subdomain, over the cases
+abbrev pub outsideOver : Book → List (List ℕ) → ℕ
+outsideOver b [] = 0
+outsideOver b (a ∷ cases) = outside b (largest b a) + outsideOver b cases
+
+

@@ -1,0 +1,4 @@
+pub mod Words
+pub mod Cases
+pub mod Support
+pub mod Revise

@@ -1,0 +1,64 @@
+// The inner question: which row supports a mark that still looks for one.
+ghost use mathlib.Core.Path.{_≡_};
+ghost use Prim.Native.Nat.{_-_, _≤_, _<_};
+ghost use Rattle.format.specs.Format.{tableAt};
+ghost use Rattle.filter.specs.Support.{InTable, firstFrom, rowCases};
+
+// A table's place, number of fields, place of its first row, and number of rows.
+pub struct Shape {
+    pub at: usize,
+    pub arity: usize,
+    pub first: usize,
+    pub rows: usize,
+}
+
+// The first supporting row, with the cases that it supports.
+pub enum Found {
+    Row(usize, u64),
+    Nothing,
+}
+
+pub fn wide(x: u8) -> usize
+    ensures { λ r. ⌜ r ≡ x ⌝ }
+{
+    x as usize
+}
+
+// The first row at or after `from` that supports its own code in column j in at least one of the cases that need[code] asks
+// for, with those cases. A row is given up at its first code that is struck in every case still asked for.
+pub fn support(
+    book: &[u8],
+    marks: &[u64; 1024],
+    need: &[u64; 32],
+    t: Shape,
+    j: usize,
+    from: usize,
+) -> Found
+    requires { ⌜ InTable (now book) t × ((j < t .arity) × (from ≤ t .rows)) ⌝ }
+    ensures { λ r. ⌜ r ≡ firstFrom (t .rows - from) from (rowCases (now (marks .entry)) (now (need .entry)) (tableAt (now (book .entry)) (t .at)) j) ⌝ }
+{
+    let at = t.at;
+    let arity = t.arity;
+    let first = t.first;
+    let rows = t.rows;
+    'rows: for r in from..rows {
+        let row = first + r * arity;
+        let own = wide(book[row + j]);
+        let mut cases = need[own];
+        if cases == 0 {
+            continue 'rows;
+        }
+        for k in 0..arity {
+            if k != j {
+                let f = wide(book[at + 1 + k]);
+                let code = wide(book[row + k]);
+                cases = cases & marks[f * 32 + code];
+                if cases == 0 {
+                    continue 'rows;
+                }
+            }
+        }
+        return Found::Row(r, cases);
+    }
+    Found::Nothing
+}
