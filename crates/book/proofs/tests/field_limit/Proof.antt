@@ -1,0 +1,17 @@
+use borrow.Author.Needs.{needs}
+use native.Mathlib.Omega.{arith}
+use Rattle.book.proofs.tests.field_limit.Statement.{statement}
+use Rattle.book.proofs.tests.field_limit.Tie as tie
+use Rattle.book.proofs.tests.field_limit.Reads as reads
+use Rattle.book.proofs.tests.field_limit.Lts as lts
+
+-- src/tests.rt:40:1
+returns : tie.Need-returns
+returns c = search needs
+
+-- src/tests.rt:40:1
+returns-2 : tie.Need-returns-2
+returns-2 c = search needs
+
+pub field-limit-spec : {M : Type 1} → statement M
+field-limit-spec = tie.close (tie.spec returns returns-2)
