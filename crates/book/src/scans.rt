@@ -37,10 +37,10 @@ pub fn bad_field(s: &[u8], fields: usize, first: usize, end: usize) -> usize
     let mut least = 0;
     while i < end {
         let field = byte(s, i);
-        if field < least {
+        if fields <= field {
             return i;
         }
-        if fields <= field {
+        if field < least {
             return i;
         }
         least = field + 1;

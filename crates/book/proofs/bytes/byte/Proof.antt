@@ -1,3 +1,5 @@
+-- `book::bytes::byte` meets its contract: an element of the slice is a byte. Assumes nothing.
+use mathlib.Core.Path.{refl}
 use borrow.Author.Needs.{needs}
 use native.Mathlib.Omega.{arith}
 use Rattle.book.proofs.bytes.byte.Statement.{statement}
@@ -11,11 +13,11 @@ shared-slice-read-result c = search needs
 
 -- src/bytes.rt:12:5
 cast-result : tie.Need-cast-result
-cast-result c = search needs
+cast-result c = omega (arith, c .shared-slice-known .given (c .before .args .i))
 
 -- src/bytes.rt:8:1
 returns : tie.Need-returns
-returns c = search needs
+returns c = (refl, omega (arith, c .shared-slice-known .given (c .before .args .i)))
 
 pub byte-spec : {M : Type 1} → statement M
 byte-spec = tie.close (tie.spec shared-slice-read-result cast-result returns)

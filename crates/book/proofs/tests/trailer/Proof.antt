@@ -1,3 +1,6 @@
+-- `book::tests::trailer` meets its contract: each way through the tests. Assumes nothing.
+use mathlib.Core.Path.{_≡_, sym, subst, _∙_}
+use Rattle.format.proofs.Refusals.{trailer-1-short, trailer-1-long, trailer-2-closing, trailer-3-version, trailer-4-none, trailer-4-many, trailer-5-tables, trailer-6-place, trailer-pass}
 use borrow.Author.Needs.{needs}
 use native.Mathlib.Omega.{arith}
 use Rattle.book.proofs.tests.trailer.Statement.{statement}
@@ -10,11 +13,11 @@ use Rattle.book.proofs.tests.field_limit.Reads as field-limit-reads
 
 -- src/tests.rt:52:9
 returns : tie.Need-returns
-returns c = search needs
+returns c = trailer-1-short _ _ _ _ _ _ (c .if1 .taken)
 
 -- src/tests.rt:55:9
 returns-2 : tie.Need-returns-2
-returns-2 c = search needs
+returns-2 c = trailer-1-long _ _ _ _ _ _ (c .before .if1 .left) (c .if2 .taken)
 
 -- src/tests.rt:57:10
 sub-if3 : tie.Need-sub-if3
@@ -30,7 +33,7 @@ sub-t12 c = search needs
 
 -- src/tests.rt:58:9
 returns-3 : tie.Need-returns-3
-returns-3 c = search needs
+returns-3 c = trailer-2-closing _ _ _ _ _ _ (c .before .before .before .if1 .left) (c .before .before .if2 .left) (c .if3 .taken)
 
 -- src/tests.rt:60:31
 sub-field-limit : tie.Need-sub-field-limit
@@ -50,7 +53,7 @@ sub-t15 c = search needs
 
 -- src/tests.rt:62:9
 returns-4 : tie.Need-returns-4
-returns-4 c = search needs
+returns-4 c = trailer-3-version _ _ _ _ _ _ (c .before .before .before .before .before .before .if1 .left) (c .before .before .before .before .before .if2 .left) (c .before .before .before .if3 .left) (omega (arith, c .before .field-limit .ensures))
 
 -- src/tests.rt:64:26
 sub-byte : tie.Need-sub-byte
