@@ -69,7 +69,7 @@ sub-t17 c = search needs
 
 -- src/tests.rt:66:9
 returns-5 : tie.Need-returns-5
-returns-5 c = search needs
+returns-5 c = trailer-4-none _ _ _ _ _ _ (c .before .before .before .before .before .before .before .before .if1 .left) (c .before .before .before .before .before .before .before .if2 .left) (c .before .before .before .before .before .if3 .left) (omega (arith, c .before .before .before .field-limit .ensures)) (omega (arith, c .before .byte .ensures .0))
 
 -- src/tests.rt:69:48
 sub-t19 : tie.Need-sub-t19
@@ -77,7 +77,7 @@ sub-t19 c = search needs
 
 -- src/tests.rt:69:9
 returns-6 : tie.Need-returns-6
-returns-6 c = search needs
+returns-6 c = trailer-4-many _ _ _ _ _ _ (c .before .before .before .before .before .before .before .before .before .if1 .left) (c .before .before .before .before .before .before .before .before .if2 .left) (c .before .before .before .before .before .before .if3 .left) (omega (arith, c .before .before .before .before .field-limit .ensures)) (omega (arith, c .before .before .byte .ensures .0)) (omega (arith, c .before .before .byte .ensures .0, c .before .before .before .before .field-limit .ensures))
 
 -- src/tests.rt:71:30
 sub-byte-2 : tie.Need-sub-byte-2
@@ -93,7 +93,7 @@ sub-t22 c = search needs
 
 -- src/tests.rt:72:9
 returns-7 : tie.Need-returns-7
-returns-7 c = search needs
+returns-7 c = trailer-5-tables _ _ _ _ _ _ (c .before .before .before .before .before .before .before .before .before .before .before .if1 .left) (c .before .before .before .before .before .before .before .before .before .before .if2 .left) (c .before .before .before .before .before .before .before .before .if3 .left) (omega (arith, c .before .before .before .before .before .before .field-limit .ensures)) (omega (arith, c .before .before .before .before .byte .ensures .0)) (omega (arith, c .before .before .before .before .byte .ensures .0, c .before .before .before .before .before .before .field-limit .ensures)) (omega (arith, c .before .byte2 .ensures .0))
 
 -- src/tests.rt:74:8
 pair-requires : tie.Need-pair-requires
@@ -109,11 +109,11 @@ add-if8-2 c = search needs
 
 -- src/tests.rt:75:9
 returns-8 : tie.Need-returns-8
-returns-8 c = search needs
+returns-8 c = trailer-6-place _ _ _ _ _ _ (c .before .before .before .before .before .before .before .before .before .before .before .before .before .if1 .left) (c .before .before .before .before .before .before .before .before .before .before .before .before .if2 .left) (c .before .before .before .before .before .before .before .before .before .before .if3 .left) (omega (arith, c .before .before .before .before .before .before .before .before .field-limit .ensures)) (omega (arith, c .before .before .before .before .before .before .byte .ensures .0)) (omega (arith, c .before .before .before .before .before .before .byte .ensures .0, c .before .before .before .before .before .before .before .before .field-limit .ensures)) (omega (arith, c .before .before .before .byte2 .ensures .0)) (λ e. c .if8 .taken (omega (arith, e, c .before .before .before .before .before .before .byte .ensures .0, c .before .pair .ensures .0)))
 
 -- src/tests.rt:47:1
 returns-9 : tie.Need-returns-9
-returns-9 c = search needs
+returns-9 c = trailer-pass _ _ _ _ _ _ (c .before .before .before .before .before .before .before .before .before .before .before .before .before .if1 .left) (c .before .before .before .before .before .before .before .before .before .before .before .before .if2 .left) (c .before .before .before .before .before .before .before .before .before .before .if3 .left) (omega (arith, c .before .before .before .before .before .before .before .before .field-limit .ensures)) (omega (arith, c .before .before .before .before .before .before .byte .ensures .0)) (omega (arith, c .before .before .before .before .before .before .byte .ensures .0, c .before .before .before .before .before .before .before .before .field-limit .ensures)) (omega (arith, c .before .before .before .byte2 .ensures .0)) (omega (arith, c .if8 .left, c .before .before .before .before .before .before .byte .ensures .0, c .before .pair .ensures .0))
 
 pub trailer-spec : {M : Type 1} → statement M
 trailer-spec =
