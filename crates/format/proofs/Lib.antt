@@ -1,6 +1,11 @@
 pub mod Scans
 pub mod Elements
-pub mod Refusals
 pub mod Views
 pub mod Conditions
 pub mod Tables
+pub mod Refusals
+pub mod Picks
+pub mod Trailer
+pub mod Places
+pub mod TableTests
+pub mod AllTables

@@ -115,9 +115,9 @@ module _ (s : List ℕ) (list fields at rows : ℕ) where
           unfolding tableStep
           table-10-field h = simp (lt-ltb, ← ea, le-leb, ← e)
 
-          pub table-rows : at + 1 + a ≤ bad → rowsStep s list at rows ≡ tableStep s list fields at rows
+          pub table-fields-pass : at + 1 + a ≤ bad → rowsStep s list at rows ≡ tableStep s list fields at rows
           unfolding tableStep
-          table-rows h = simp (lt-ltb, ← ea, le-leb, ← e, le-ltb)
+          table-fields-pass h = simp (lt-ltb, ← ea, le-leb, ← e, le-ltb)
 
 -- ---- n tables from at on
 
