@@ -2,11 +2,14 @@
 use Prim.Native.Nat.{ℕ, _+_, _≤_, _<_}
 use mathlib.Core.List.{List}
 use lib.ListN.{length}
-use Rattle.format.specs.Format.{byte, arityAt, firstRow, arityLimit, rowLimit, lengthLimit}
+use mathlib.Core.Path.{_≡_}
+use Rattle.format.specs.Format.{byte, listPlace, fieldCount, arityAt, firstRow, arityLimit, rowLimit, lengthLimit}
 
--- the field list from list on lies within the bytes, which are few
+-- the trailer's place of the field list and number of fields, which lie within the bytes, and few bytes
 pub record BodyFits (s : List ℕ) (list fields : ℕ) : Type 0 where
   pub short : length s ≤ lengthLimit
+  pub list-is : list ≡ listPlace s
+  pub fields-is : fields ≡ fieldCount s
   pub within : list + fields ≤ length s
 
 -- the table at at has its field numbers and its number of rows before the field list, and rows before it within the limit
