@@ -9,3 +9,5 @@ pub mod Trailer
 pub mod Places
 pub mod TableTests
 pub mod AllTables
+pub mod Verdict
+pub mod Accepted
