@@ -8,4 +8,5 @@ pub mod Places
 pub mod TableTests
 pub mod AllTables
 pub mod Verdict
+pub mod Numbers
 pub mod Accepted
