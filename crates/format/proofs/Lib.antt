@@ -16,3 +16,4 @@ pub mod Encode
 pub mod Bytes
 pub mod Sizes
 pub mod Witness
+pub mod Accepted

@@ -1,13 +1,13 @@
 -- Each way through the reader's tests: the tests passed so far and the one that fails give the refusal, all passed give the next step. A law's name has the refusal's number. Assumes nothing.
 use mathlib.Core.Path.{_≡_, refl}
-use mathlib.Core.List.{List}
+use mathlib.Core.List.{List, [], _∷_}
 use Prim.Native.Nat.{ℕ, zero, suc, _+_, _-_, _*_, _≤_, _<_}
 use native.Mathlib.Omega.{arith}
 use borrow.Author.Tests.{le-leb, lt-leb, lt-ltb, le-ltb, eq-eqb, ne-eqb}
 use lib.ListN.{length}
 use Rattle.format.specs.Basics.{firstBad}
-use Rattle.format.specs.Format.{fieldLimit, arityLimit, tableLimit, rowLimit, lengthLimit, closingByte, byte, le16, listPlace, fieldCount, tableCount, versionOf, arityAt}
-use Rattle.format.specs.Reading.{pass, fail, next, stop, afterStep, trailerTest, countOk, listTest, fieldOk, codeOk, rowsStep, tableStep, tablesStep, lastTest, verdict}
+use Rattle.format.specs.Format.{fieldLimit, arityLimit, tableLimit, rowLimit, lengthLimit, closingByte, rowTotal, bookCounts, byte, le16, listPlace, fieldCount, tableCount, versionOf, arityAt, bookOf}
+use Rattle.format.specs.Reading.{refused, accepted, pass, fail, next, stop, afterStep, trailerTest, countOk, listTest, fieldOk, codeOk, rowsStep, tableStep, tablesStep, lastTest, verdict, reading, checking}
 
 -- ---- the trailer
 
@@ -174,3 +174,24 @@ module _ (s : List ℕ) where
         → lastTest (listPlace s) (tablesStep s (listPlace s) (fieldCount s) (tableCount s) 0 0) ≡ verdict s
     unfolding verdict
     verdict-tables e = simp (← p, ← e)
+
+-- ---- what reading and checking answer, from the verdict
+
+module _ (s : List ℕ) where
+  module _ (e : pass ≡ verdict s) where
+    pub reading-pass : accepted (bookCounts (bookOf s)) ≡ reading s
+    unfolding reading
+    reading-pass = simp (← e)
+
+    pub checking-pass : accepted (listPlace s ∷ fieldCount s ∷ tableCount s ∷ rowTotal (bookOf s .tables) ∷ []) ≡ checking s
+    unfolding checking
+    checking-pass = simp (← e)
+
+  module _ (number place : ℕ) (e : fail number place ≡ verdict s) where
+    pub reading-fail : refused 4 number place ≡ reading s
+    unfolding reading
+    reading-fail = simp (← e)
+
+    pub checking-fail : refused 4 number place ≡ checking s
+    unfolding checking
+    checking-fail = simp (← e)
