@@ -8,12 +8,13 @@ pub mod Places
 pub mod TableTests
 pub mod AllTables
 pub mod Verdict
+pub mod Accepted
 pub mod Conditions
 pub mod Tables
 pub mod Drops
 pub mod Decode
 pub mod Encode
 pub mod Bytes
+pub mod Accepts
 pub mod Sizes
 pub mod Witness
-pub mod Accepted
