@@ -1,5 +1,5 @@
 -- Where the rounds start, what each keeps, and that enough of them leave an arc-consistent subdomain. Assumes nothing.
-use mathlib.Core.Path.{_≡_, refl, sym, ap, ap₂, _∙_, subst}
+use mathlib.Core.Path.{_≡_, refl, sym, ap, _∙_, subst}
 use mathlib.Core.Logic.{⊎-elim, _≢_}
 use mathlib.Core.Bool.{true, _&&_}
 use mathlib.Core.List.{List, map}
@@ -10,7 +10,7 @@ use native.Mathlib.Omega.{arith}
 use lib.ListN.{replicate}
 use lib.Dec.{T, eqb, ltb, eqb→eq, ltb→lt, lt→ltb}
 use Rattle.format.specs.Format.{Book}
-use Rattle.consistency.specs.Consistency.{Subdomain, codes, nth, answer, ArcConsistent, OfBook, WithinAnswers, Inside, HoldsAll}
+use Rattle.consistency.specs.Consistency.{codes, nth, answer, ArcConsistent, OfBook, WithinAnswers, Inside, HoldsAll}
 use Rattle.consistency.specs.Largest.{Domains, has, remove, count, bookSupports, allowed, start, rounds, largestDomains}
 use Rattle.consistency.proofs.Booleans.{and-in, and-left, and-right, or-left, or-right, or-out, eq→eqb}
 use Rattle.consistency.proofs.Supports.{support-grows, book-in, book-out}

@@ -3,7 +3,7 @@
 use mathlib.Core.Path.{_≡_, refl, sym, ap, ap₂, _∙_, subst}
 use mathlib.Core.Logic.{_⊎_, inl, inr, _≢_}
 use mathlib.Core.Bool.{Bool, true, false, not}
-use mathlib.Core.List.{List, [], _∷_, _++_, List·Memᴰ·head, List·Memᴰ·tail}
+use mathlib.Core.List.{List, [], _∷_, List·Memᴰ·head, List·Memᴰ·tail}
 use Prim.Native.Nat.{ℕ, zero, suc, _+_, _<_}
 use native.Mathlib.Nat.{lt-suc-self, not-suc-le-zero, le-of-suc-le-suc, add-zero, add-suc, suc-add}
 use native.Mathlib.Omega.{arith}
@@ -18,16 +18,16 @@ use Rattle.consistency.proofs.Booleans.{below-suc, below-less}
 pub many-ext : (n : ℕ) (p q : ℕ → Bool) → ((k : ℕ) → k < n → p k ≡ q k) → howMany n p ≡ howMany n q
 many-ext zero p q h = refl
 many-ext (suc n) p q h =
-    ap₂ (λ (x : ℕ) (y : Bool). x + pick y 1 0) (many-ext n p q (below-less (λ k. p k ≡ q k) h)) (h n (lt-suc-self n))
+    rw (many-ext n p q (below-less (λ k. p k ≡ q k) h), h n (lt-suc-self n))
 
 pub those-ext : (n : ℕ) (p q : ℕ → Bool) → ((k : ℕ) → k < n → p k ≡ q k) → those n p ≡ those n q
 those-ext zero p q h = refl
 those-ext (suc n) p q h =
-    ap₂ (λ (x : List ℕ) (y : Bool). x ++ pick y (n ∷ []) []) (those-ext n p q (below-less (λ k. p k ≡ q k) h)) (h n (lt-suc-self n))
+    rw (those-ext n p q (below-less (λ k. p k ≡ q k) h), h n (lt-suc-self n))
 
 pub sum-ext : (n : ℕ) (g h : ℕ → ℕ) → ((k : ℕ) → k < n → g k ≡ h k) → sumBelow n g ≡ sumBelow n h
 sum-ext zero g h e = refl
-sum-ext (suc n) g h e = ap₂ _+_ (sum-ext n g h (below-less (λ k. g k ≡ h k) e)) (e n (lt-suc-self n))
+sum-ext (suc n) g h e = rw (sum-ext n g h (below-less (λ k. g k ≡ h k) e), e n (lt-suc-self n))
 
 pub sum-over-ext : (xs : List ℕ) (g h : ℕ → ℕ) → ((x : ℕ) → In x xs → g x ≡ h x) → sumOver xs g ≡ sumOver xs h
 sum-over-ext [] g h e = refl

@@ -29,14 +29,24 @@ module _ (S : Subdomain) (t : Table) where
     abbrev column : ℕ → Bool
     column k = eqb k j || S (fieldOf t k) (codeOf t r k)
 
-    column-in : (k : ℕ) → (k ≢ j → T (S (fieldOf t k) (codeOf t r k))) → Dec (k ≡ j) → T (column k)
-    column-in k h (yes e) = or-left (eqb k j) (S (fieldOf t k) (codeOf t r k)) (eq→eqb e)
-    column-in k h (no n) = or-right (eqb k j) (S (fieldOf t k) (codeOf t r k)) (h n)
-
     column-out : (k : ℕ) → T (column k) → k ≢ j → T (S (fieldOf t k) (codeOf t r k))
     column-out k u n =
         ⊎-elim (λ (q : T (eqb k j)). absurd (n (eqb→eq k j q))) (λ (q : T (S (fieldOf t k) (codeOf t r k))). q)
         (or-out (eqb k j) (S (fieldOf t k) (codeOf t r k)) u)
+
+    pub row-others : T (rowSupports S t j c r) → (k : ℕ) → k < length (t .fields) → k ≢ j → T (S (fieldOf t k) (codeOf t r k))
+    unfolding rowSupports
+    row-others u k l =
+        column-out k
+        (all-out (length (t .fields)) column (and-right (eqb (codeOf t r j) c) (allBelow (length (t .fields)) column) u) k l)
+
+    pub row-there : T (rowSupports S t j c r) → codeOf t r j ≡ c
+    unfolding rowSupports
+    row-there u = eqb→eq (codeOf t r j) c (and-left (eqb (codeOf t r j) c) (allBelow (length (t .fields)) column) u)
+
+    column-in : (k : ℕ) → (k ≢ j → T (S (fieldOf t k) (codeOf t r k))) → Dec (k ≡ j) → T (column k)
+    column-in k h (yes e) = or-left (eqb k j) (S (fieldOf t k) (codeOf t r k)) (eq→eqb e)
+    column-in k h (no n) = or-right (eqb k j) (S (fieldOf t k) (codeOf t r k)) (h n)
 
     pub row-in : codeOf t r j ≡ c → ((k : ℕ) → k < length (t .fields) → k ≢ j → T (S (fieldOf t k) (codeOf t r k)))
         → T (rowSupports S t j c r)
@@ -44,16 +54,6 @@ module _ (S : Subdomain) (t : Table) where
     row-in e h =
         and-in (eqb (codeOf t r j) c) (allBelow (length (t .fields)) column) (eq→eqb e)
         (all-in (length (t .fields)) column (λ k l. column-in k (h k l) (ℕ-discrete k j)))
-
-    pub row-there : T (rowSupports S t j c r) → codeOf t r j ≡ c
-    unfolding rowSupports
-    row-there u = eqb→eq (codeOf t r j) c (and-left (eqb (codeOf t r j) c) (allBelow (length (t .fields)) column) u)
-
-    pub row-others : T (rowSupports S t j c r) → (k : ℕ) → k < length (t .fields) → k ≢ j → T (S (fieldOf t k) (codeOf t r k))
-    unfolding rowSupports
-    row-others u k l =
-        column-out k
-        (all-out (length (t .fields)) column (and-right (eqb (codeOf t r j) c) (allBelow (length (t .fields)) column) u) k l)
 
   -- some row supports code c in column j
   module _ (j c : ℕ) where
