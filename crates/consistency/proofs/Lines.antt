@@ -19,6 +19,7 @@ use Rattle.consistency.proofs.Largest.{largest-is}
 pub relaxable-are : (b : Book) (a : List ℕ) (f : ℕ) → In f (relaxable b a) ↔ ((f < length (b .counts)) × T (answered a f))
 relaxable-are b a f = (in-those (length (b .counts)) (answered a), λ h. those-in (length (b .counts)) (answered a) (h .0) (h .1))
 
+-- field f, code c
 abbrev line : ℕ → ℕ → Line
 line f c = record { field = f; code = c }
 
@@ -27,6 +28,7 @@ module _ (b : Book) (a : List ℕ) where
   abbrev alternatives : ℕ → List ℕ
   alternatives f = those (codes b f) (listed b a f)
 
+  -- the lines of field f
   abbrev fieldLines : ℕ → List Line
   fieldLines f = linesOf b (listed b a f) f
 

@@ -10,8 +10,8 @@ use Rattle.consistency.specs.Consistency.{Subdomain, relax}
 use Rattle.consistency.specs.Largest.{largest}
 use Rattle.consistency.specs.Counts.{outside, answered, total, struck, lines, mask, masks}
 
--- what is a function of the field list and of the largest subdomain for each sheet
 module _ (b d : Book) (counts : d .counts ≡ b .counts) (same : (a : List ℕ) (f c : ℕ) → largest b a f c ≡ largest d a f c) where
+  -- what is a function of the field list and of the largest subdomain for each sheet is the same
   by-both : {A : Type 0} (F : List ℕ → (List ℕ → Subdomain) → A) → F (b .counts) (largest b) ≡ F (d .counts) (largest d)
   by-both F = ap₂ F (sym counts) (fun-ext (λ a. fun-ext (λ f. fun-ext (λ c. same a f c))))
 
