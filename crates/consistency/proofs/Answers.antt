@@ -1,6 +1,6 @@
 -- Answers as tables of one row, as in source 004, say what answers as bounds of the subdomain say; to relax a field is to leave its table
 -- out. Assumes nothing.
-use Prim.Native.Nat.{ℕ, zero, suc, _+_, _-_, _<_}
+use Prim.Native.Nat.{ℕ, zero, suc, _+_, _-_, _≤_, _<_}
 use mathlib.Core.Path.{_≡_, refl, sym, ap, _∙_, subst}
 use mathlib.Core.Logic.{_≢_, _↔_, ∥∥₁-elim}
 use mathlib.Core.Bool.{Bool, not, _&&_}
@@ -58,6 +58,11 @@ module _ (b : Book) (a : List ℕ) where
   added-in : (n : ℕ) → n < length (relaxable b a) → length (b .tables) + n < length (withAnswers b a .tables)
   added-in n l = simp (length-append, length-map) (omega arith)
 
+  -- and no others
+  added-all : (i : ℕ) → length (b .tables) ≤ i → i < length (withAnswers b a .tables)
+      → (n : ℕ) × (n < length (relaxable b a)) × (length (b .tables) + n ≡ i)
+  added-all i h l = (i - length (b .tables), omega (arith, simp (length-append, length-map) at l), omega arith)
+
 -- the one row of an answer's table supports the answer, and nothing else
 answer-supports : {S : Subdomain} (a : List ℕ) (f g c : ℕ) → (g ≡ f → answer a g ≡ c) → Supported S f c (answerTable a g)
 answer-supports a f g c h zero l e = record { row = 0; row-in = omega arith; there = h e; others = λ k m n. absurd (n (omega arith)) }
@@ -89,12 +94,9 @@ module _ (b : Book) (a : List ℕ) (S : Subdomain) where
           → Dec (i < length (b .tables)) → Supported S f c (nth (withAnswers b a) i)
       turn f c t i l (yes m) = subst (Supported S f c) (sym (own b a i m)) (h .consistent f c t i m)
       turn f c t i l (no m) =
-          let n : ℕ = i - length (b .tables) in
-          let at : length (b .tables) + n ≡ i = omega arith in
-          let n-in : n < length (relaxable b a) = omega (arith, simp (length-append, length-map) at l) in
-          let table : answerTable a (getD (relaxable b a) n 0) ≡ nth (withAnswers b a) i =
-          sym (added b a n n-in) ∙ ap (nth (withAnswers b a)) at in
-          subst (Supported S f c) table (answer-supports a f (getD (relaxable b a) n 0) c (held f c t n n-in))
+          let w = added-all b a i (omega arith) l in
+          let table : Supported S f c (answerTable a (getD (relaxable b a) (w .0) 0)) = answer-supports a f (getD (relaxable b a) (w .0) 0) c (held f c t (w .0) (w .1)) in
+          subst (λ (k : ℕ). Supported S f c (nth (withAnswers b a) k)) (w .2) (subst (Supported S f c) (sym (added b a (w .0) (w .1))) table)
 
   fits-answers : Fits (withAnswers b a) [] S → Fits b a S
   fits-answers h =
