@@ -14,3 +14,6 @@ pub mod AlikeExample
 pub mod Answers
 pub mod Chains
 pub mod ChainsExample
+pub mod Lines
+pub mod Masks
+pub mod SameLargest
