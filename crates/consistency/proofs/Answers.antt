@@ -16,10 +16,11 @@ use Rattle.consistency.specs.Counting.{those}
 use Rattle.consistency.specs.Counts.{answered, relaxable}
 use Rattle.consistency.specs.Unary.{answerTable, answerTables, withAnswers}
 use Rattle.consistency.proofs.Booleans.{T-ext, and-in, and-left, and-right, eq→eqb}
-use Rattle.consistency.proofs.Members.{in-those, those-in}
+use Rattle.consistency.proofs.Members.{in-those}
 use Rattle.consistency.proofs.Positions.{at-in, in-at}
 use Rattle.consistency.proofs.Sums.{those-ext}
 use Rattle.consistency.proofs.CodeCounts.{field-in}
+use Rattle.consistency.proofs.Lines.{relaxable-are}
 use Rattle.consistency.proofs.Tables.{Supported}
 
 -- ---- a field with an answer
@@ -32,7 +33,8 @@ answered-out a f t e = T-not (eqb (answer a f) 255) t (eq→eqb e)
 
 -- a field with a table of its own is answered
 relaxable-answered : (b : Book) (a : List ℕ) (n : ℕ) → n < length (relaxable b a) → answer a (getD (relaxable b a) n 0) ≢ 255
-relaxable-answered b a n l = answered-out a (getD (relaxable b a) n 0) (in-those (length (b .counts)) (answered a) (at-in 0 (relaxable b a) n l) .1)
+relaxable-answered b a n l =
+    answered-out a (getD (relaxable b a) n 0) (relaxable-are b a (getD (relaxable b a) n 0) .0 (at-in 0 (relaxable b a) n l) .1)
 
 -- ---- the tables of the book with its answers
 
@@ -85,18 +87,19 @@ module _ (b : Book) (a : List ℕ) (S : Subdomain) where
         within = λ f c n t. absurd (n refl);
       }
     where
-      -- the answer of the field of the n-th table added is c, where that field is f
-      held : (f c : ℕ) → T (S f c) → (n : ℕ) → n < length (relaxable b a)
-          → getD (relaxable b a) n 0 ≡ f → answer a (getD (relaxable b a) n 0) ≡ c
-      held f c t n l e = ap (answer a) e ∙ sym (h .within f c (λ o. relaxable-answered b a n l (ap (answer a) e ∙ o)) t)
+      -- the n-th table added: where its field is f, its answer is c
+      added-supported : (f c : ℕ) → T (S f c) → (n : ℕ) → n < length (relaxable b a) → Supported S f c (answerTable a (getD (relaxable b a) n 0))
+      added-supported f c t n l =
+          answer-supports a f (getD (relaxable b a) n 0) c
+          (λ e. ap (answer a) e ∙ sym (h .within f c (λ o. relaxable-answered b a n l (ap (answer a) e ∙ o)) t))
 
       turn : (f c : ℕ) → T (S f c) → (i : ℕ) → i < length (withAnswers b a .tables)
           → Dec (i < length (b .tables)) → Supported S f c (nth (withAnswers b a) i)
       turn f c t i l (yes m) = subst (Supported S f c) (sym (own b a i m)) (h .consistent f c t i m)
       turn f c t i l (no m) =
           let w = added-all b a i (omega arith) l in
-          let table : Supported S f c (answerTable a (getD (relaxable b a) (w .0) 0)) = answer-supports a f (getD (relaxable b a) (w .0) 0) c (held f c t (w .0) (w .1)) in
-          subst (λ (k : ℕ). Supported S f c (nth (withAnswers b a) k)) (w .2) (subst (Supported S f c) (sym (added b a (w .0) (w .1))) table)
+          subst (λ (k : ℕ). Supported S f c (nth (withAnswers b a) k)) (w .2)
+          (subst (Supported S f c) (sym (added b a (w .0) (w .1))) (added-supported f c t (w .0) (w .1)))
 
   fits-answers : Fits (withAnswers b a) [] S → Fits b a S
   fits-answers h =
@@ -104,7 +107,7 @@ module _ (b : Book) (a : List ℕ) (S : Subdomain) where
         of-book = h .of-book;
         consistent = λ f c t i l. subst (Supported S f c) (own b a i l) (h .consistent f c t i (own-in b a i l));
         within = λ f c n t.
-            let w = in-at 0 (those-in (length (b .counts)) (answered a) (field-in b f c (h .of-book f c t)) (answered-in a f n)) in
+            let w = in-at 0 (relaxable-are b a f .1 (field-in b f c (h .of-book f c t), answered-in a f n)) in
             let s = h .consistent f c t (length (b .tables) + w .0) (added-in b a (w .0) (w .1)) in
             let g : ℕ = getD (relaxable b a) (w .0) 0 in
             sym (supports-answer a f g c (w .2) (subst (Supported S f c) (added b a (w .0) (w .1)) s)) ∙ ap (answer a) (w .2);

@@ -7,6 +7,9 @@ pub mod Loops
 pub mod Members
 pub mod Sums
 pub mod CodeCounts
+pub mod Lines
+pub mod Masks
+pub mod SameLargest
 pub mod Positions
 pub mod Tables
 pub mod AlikeLaws
@@ -14,6 +17,3 @@ pub mod AlikeExample
 pub mod Answers
 pub mod Chains
 pub mod ChainsExample
-pub mod Lines
-pub mod Masks
-pub mod SameLargest
