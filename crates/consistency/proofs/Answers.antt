@@ -25,6 +25,7 @@ use Rattle.consistency.proofs.Tables.{Supported}
 
 -- ---- a field with an answer
 
+-- the test says that the answer is not 255
 answered-in : (a : List ℕ) (f : ℕ) → answer a f ≢ 255 → T (answered a f)
 answered-in a f n = not-T (eqb (answer a f) 255) (λ t. n (eqb→eq (answer a f) 255 t))
 
@@ -38,6 +39,7 @@ relaxable-answered b a n l =
 
 -- ---- the tables of the book with its answers
 
+-- the n-th of the answers' tables
 table-at : (a fs : List ℕ) (d : Table) (n : ℕ) → n < length fs → getD (answerTables a fs) n d ≡ answerTable a (getD fs n 0)
 table-at a [] d n l = absurd (omega arith)
 table-at a (f ∷ fs) d zero l = refl
@@ -79,6 +81,7 @@ supports-answer a f g c e h =
 -- ---- the two forms
 
 module _ (b : Book) (a : List ℕ) (S : Subdomain) where
+  -- each added table has the one code that the answer leaves
   fits-tables : Fits b a S → Fits (withAnswers b a) [] S
   fits-tables h =
       record {
@@ -93,6 +96,7 @@ module _ (b : Book) (a : List ℕ) (S : Subdomain) where
           answer-supports a f (getD (relaxable b a) n 0) c
           (λ e. ap (answer a) e ∙ sym (h .within f c (λ o. relaxable-answered b a n l (ap (answer a) e ∙ o)) t))
 
+      -- a table of the book, or one added
       turn : (f c : ℕ) → T (S f c) → (i : ℕ) → i < length (withAnswers b a .tables)
           → Dec (i < length (b .tables)) → Supported S f c (nth (withAnswers b a) i)
       turn f c t i l (yes m) = subst (Supported S f c) (sym (own b a i m)) (h .consistent f c t i m)
@@ -101,6 +105,7 @@ module _ (b : Book) (a : List ℕ) (S : Subdomain) where
           subst (λ (k : ℕ). Supported S f c (nth (withAnswers b a) k)) (w .2)
           (subst (Supported S f c) (sym (added b a (w .0) (w .1))) (added-supported f c t (w .0) (w .1)))
 
+  -- a field with a code is in the field list, so that its answer has a table
   fits-answers : Fits (withAnswers b a) [] S → Fits b a S
   fits-answers h =
       record {

@@ -43,6 +43,7 @@ module _ {b d : Book} {a e : List ℕ} {f : ℕ} (same : SameAround b d a e f) w
   abbrev Agree : Domains → Domains → Type 0
   Agree m n = (g : ℕ) → Tied b f g → (c : ℕ) → has m g c ≡ has n g c
 
+  -- what the answers allow is the same there
   start-agrees : Agree (start b a) (start d e)
   start-agrees g t c =
       start-at b a g c
@@ -72,6 +73,7 @@ module _ {b d : Book} {a e : List ℕ} {f : ℕ} (same : SameAround b d a e f) w
         (λ s. book-in b (has m) g c (supported-back g t c (book-out d (has n) g c s))))
         ∙ sym (remove-at (bookSupports d (has n)) n g c)
 
+  -- and so do as many rounds in the one as in the other
   rounds-agree : (k : ℕ) (m n : Domains) → Agree m n → Agree (rounds b k m) (rounds d k n)
   unfolding rounds
   rounds-agree zero m n h = h
