@@ -19,6 +19,14 @@ use Rattle.consistency.proofs.Tables.{same-alike, supported-moves}
 
 -- ---- chains
 
+-- every field of the table is tied to f
+abbrev AllTied : Book → ℕ → Table → Type 0
+AllTied b f t = (k : ℕ) → k < length (t .fields) → Tied b f (fieldOf t k)
+
+-- so it is where one of them is
+all-tied : {b : Book} {f g : ℕ} → Tied b f g → (i : ℕ) → i < length (b .tables) → FieldIn g (nth b i) → AllTied b f (nth b i)
+all-tied {b} t i l w k h = Tied.step t i l w (fieldOf (nth b i) k) (k, h, refl)
+
 -- one chain behind another, and a chain backwards
 pub tied-trans : {b : Book} {f g h : ℕ} → Tied b f g → Tied b g h → Tied b f h
 tied-trans t Tied.here = t
@@ -27,14 +35,6 @@ tied-trans t (Tied.step u i l w h v) = Tied.step (tied-trans t u) i l w h v
 pub tied-sym : {b : Book} {f g : ℕ} → Tied b f g → Tied b g f
 tied-sym Tied.here = Tied.here
 tied-sym (Tied.step {g = g} t i l w h v) = tied-trans (Tied.step Tied.here i l v g w) (tied-sym t)
-
--- every field of the table is tied to f
-abbrev AllTied : Book → ℕ → Table → Type 0
-AllTied b f t = (k : ℕ) → k < length (t .fields) → Tied b f (fieldOf t k)
-
--- so it is where one of them is
-all-tied : {b : Book} {f g : ℕ} → Tied b f g → (i : ℕ) → i < length (b .tables) → FieldIn g (nth b i) → AllTied b f (nth b i)
-all-tied {b} t i l w k h = Tied.step t i l w (fieldOf (nth b i) k) (k, h, refl)
 
 -- ---- what is the same around f
 
