@@ -10,6 +10,7 @@ use Rattle.consistency.specs.Alike.{AlikeTables, Alike}
 use Rattle.consistency.proofs.Largest.{largest-is, largest-unique}
 use Rattle.consistency.proofs.Tables.{supported-moves}
 
+-- alike either way round: tables, then books
 tables-sym : {t u : Table} → AlikeTables t u → AlikeTables u t
 tables-sym a = record { same-fields = sym (a .same-fields); there = a .back; back = a .there }
 
@@ -40,6 +41,7 @@ module _ {b d : Book} (p : Alike b d) where
         within = h .within;
       }
 
+-- so one's largest is the other's
 pub alike-largest : {b d : Book} → Alike b d → (a : List ℕ) (f c : ℕ) → largest b a f c ≡ largest d a f c
 alike-largest {b} {d} p a =
     largest-unique {b = d} {a = a}

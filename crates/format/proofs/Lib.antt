@@ -8,6 +8,7 @@ pub mod Places
 pub mod TableTests
 pub mod AllTables
 pub mod Verdict
+pub mod Numbers
 pub mod Accepted
 pub mod Conditions
 pub mod Tables
@@ -15,5 +16,6 @@ pub mod Drops
 pub mod Decode
 pub mod Encode
 pub mod Bytes
+pub mod Accepts
 pub mod Sizes
 pub mod Witness
