@@ -5,3 +5,4 @@ pub mod Firsts
 pub mod Shapes
 pub mod Narrowing
 pub mod RowSearch
+pub mod FirstRow
