@@ -33,7 +33,7 @@ module _ (s : List ℕ) (fields first : ℕ) where
       go false e = lt-ltb (byte s (i - 1)) (byte s i) (g (leb-false i first e))
 
   module _ (a : ℕ) where
-    fields-known : first + a ≤ firstBad (fieldOk s fields first) first (first + a)
+    pub fields-known : first + a ≤ firstBad (fieldOk s fields first) first (first + a)
         → (j : ℕ) → j < a → byte s (first + j) < fields
     fields-known e j h =
         field-ok (first + j) (all-pass (fieldOk s fields first) first (first + a) (omega arith) e (first + j) (omega arith) (omega arith)) .0
