@@ -30,7 +30,7 @@ different-total-requires c κs = read-fits (c .before .before .before .before .b
 
 -- src/lib.rt:84:1
 returns : tie.Need-returns
-returns c = read-bad (c .before .before .before .before .before .args .book .now) _ _ (number-some _) (sym (ap shownCheck (c .before .checked .given .1)) ∙ c .before .before .before .check .ensures)
+returns c = read-bad (c .before .before .before .before .before .args .book .now) _ _ (number-some (c .before .checked .given .0 .0)) (sym (ap shownCheck (c .before .checked .given .1)) ∙ c .before .before .before .check .ensures)
 
 -- src/lib.rt:84:1
 returns-2 : tie.Need-returns-2
