@@ -1,9 +1,9 @@
--- A turn of each loop that counts different rows. Assumes nothing.
+-- A turn of each loop that counts different rows: of two rows, of the later rows, of a table's rows, of all tables. Assumes nothing.
 use mathlib.Core.Path.{_≡_, refl, sym, ap, _∙_}
 use mathlib.Core.Bool.{Bool, true, false, _&&_, _||_}
 use mathlib.Core.List.{List, [], _∷_}
 use Prim.Native.Nat.{ℕ, zero, suc, _+_, _-_, _*_, _≤_, _<_}
-use native.Mathlib.Nat.{suc-mul}
+use native.Mathlib.Nat.{suc-mul, sub-zero}
 use native.Mathlib.Numerals.{add-one}
 use native.Mathlib.Omega.{arith}
 use lib.ListN.{length, take}
@@ -11,7 +11,9 @@ use lib.Seq.{drop-cons}
 use lib.Dec.{eqb}
 use borrow.Author.Tests.{eq-eqb, ne-eqb}
 use Rattle.format.specs.Basics.{pick}
-use Rattle.format.specs.Format.{byte, part, rowsAt, sameCodes, isIn, different}
+use Rattle.format.specs.Format.{byte, le16, part, arityAt, tableEnd, rowsAt, tableAt, tablesAt, sameCodes, isIn, different, differentTotal}
+use Rattle.format.specs.Promise.{place}
+use Rattle.format.proofs.Views.{places-rise}
 
 -- the bytes of n rows, one row apart
 pub one-less : (n a : ℕ) → 0 < n → n * a ≡ (n - 1) * a + a
@@ -79,3 +81,40 @@ module _ (s : List ℕ) where
 
     pub different-end : n ≤ 0 → different (rowsAt s a p n) ≡ 0
     different-end h = rw (rows-none a p n h)
+
+  -- the numbers of a table stand before the place behind all tables
+  pub head-within : (tables i at : ℕ) → i < tables → at ≡ place s i → at + 3 + arityAt s at ≤ place s tables
+  head-within tables i at h e = rw e (omega (arith, places-rise s i tables h))
+
+  -- the table at at, of a codes in each of n rows
+  module _ (tables i at a n : ℕ) (h : i < tables) (ea : a ≡ arityAt s at) (en : n ≡ le16 s (at + 1 + a)) where
+    end-is : at + 3 + a + n * a ≡ tableEnd s at
+    end-is = rw (en, ea)
+
+    -- its end is the next table's place
+    pub place-next : at ≡ place s i → at + 3 + a + n * a ≡ place s (i + 1)
+    unfolding place
+    place-next e = end-is ∙ (ap (λ (x : ℕ). tableEnd s x) e ∙ sym (ap (place s) (add-one i)))
+
+    -- it ends before the place behind all tables
+    pub table-within : at ≡ place s i → at + 3 + a + n * a ≤ place s tables
+    table-within e = rw (end-is, e) (places-rise s i tables h)
+
+    -- the different rows of the tables from here on are those of this table and of the tables behind it
+    pub total-on : different (rowsAt s a (at + 3 + a) n) + differentTotal (tablesAt s (at + 3 + a + n * a) (tables - (i + 1)))
+        ≡ differentTotal (tablesAt s at (tables - i))
+    unfolding tablesAt tableAt
+    total-on =
+        let d : tables - i ≡ suc (tables - (i + 1)) = omega arith in
+        rw (d, en, ea)
+
+  pub place-start : 0 ≡ place s 0
+  unfolding place
+  place-start = refl
+
+  pub total-start : (tables : ℕ) → 0 + differentTotal (tablesAt s 0 (tables - 0)) ≡ differentTotal (tablesAt s 0 tables)
+  total-start tables = rw sub-zero (omega arith)
+
+  pub total-end : (tables i at : ℕ) → tables ≤ i → differentTotal (tablesAt s at (tables - i)) ≡ 0
+  unfolding tablesAt
+  total-end tables i at h = let d : tables - i ≡ 0 = omega arith in rw d

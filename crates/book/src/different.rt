@@ -2,7 +2,7 @@
 ghost use mathlib.Core.Path.{_≡_};
 ghost use Prim.Native.Nat.{_+_, _*_, _≤_};
 ghost use lib.ListN.{length};
-ghost use Rattle.format.specs.Format.{sameCodes, isIn, different, differentTotal, part, rowsAt, tablesAt};
+ghost use Rattle.format.specs.Format.{sameCodes, isIn, different, differentTotal, part, rowsAt, tablesAt, tableLimit};
 ghost use Rattle.format.specs.Promise.{place};
 use super::bytes::byte;
 use super::bytes::pair;
@@ -66,7 +66,7 @@ fn different_rows(s: &[u8], start: usize, a: usize, n: usize) -> usize
 
 // The number of different rows of all tables, which end within the bytes.
 pub fn different_total(s: &[u8], tables: usize) -> usize
-    requires { ⌜ (tables ≤ 64) × (place (now s) tables ≤ length (now s)) ⌝ }
+    requires { ⌜ (tables ≤ tableLimit) × (place (now s) tables ≤ length (now s)) ⌝ }
     ensures { λ r. ⌜ r ≡ differentTotal (tablesAt (now (s .entry)) 0 tables) ⌝ }
 {
     let mut at = 0;

@@ -52,14 +52,30 @@ pub fn check(book: &[u8]) -> Checked
     ensures { λ r. ⌜ shownCheck r ≡ checking (now (book .entry)) ⌝ }
 {
     let trailer = tests::trailer(book);
-    match trailer {
-        tests::Test::Fail(kind, place) => Checked::Bad(kind, place),
-        tests::Test::Pass => {
-            let n = book.len();
-            let list = bytes::pair(book, n - 6);
-            let fields = bytes::byte(book, n - 4);
-            let tables = bytes::byte(book, n - 3);
-            tests::body(book, list, fields, tables)
+    if let tests::Test::Fail(kind, place) = trailer {
+        return Checked::Bad(kind, place);
+    }
+    let n = book.len();
+    let list = bytes::pair(book, n - 6);
+    let fields = bytes::byte(book, n - 4);
+    let tables = bytes::byte(book, n - 3);
+    let counts = tests::field_list(book, list, fields);
+    if let tests::Test::Fail(kind, place) = counts {
+        return Checked::Bad(kind, place);
+    }
+    let step = tests::tables(book, list, fields, tables);
+    match step {
+        tests::Step::Stop(kind, place) => Checked::Bad(kind, place),
+        tests::Step::Next { at, rows } => {
+            if at < list {
+                return Checked::Bad(Refusal::LeftOver, at);
+            }
+            Checked::Good {
+                list: list,
+                fields: fields,
+                tables: tables,
+                rows: rows,
+            }
         }
     }
 }

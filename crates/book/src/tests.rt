@@ -1,14 +1,11 @@
 // The tests of a book, in document 01's order.
 ghost use mathlib.Core.Path.{_≡_};
-ghost use mathlib.Core.List.{[], _∷_};
 ghost use Prim.Native.Nat.{_+_, _≤_};
 ghost use lib.ListN.{length};
 ghost use Rattle.format.specs.Format as format;
-ghost use Rattle.format.specs.Reading.{listTest, rowsStep, tableStep, tablesStep, outcome};
-ghost use Rattle.book.specs.Shown.{verdictOf, stepOf, shownCheck};
-ghost use Rattle.book.specs.Parts.{trailerPart, bodyPart};
+ghost use Rattle.format.specs.Reading.{listTest, rowsStep, tableStep, tablesStep};
+ghost use Rattle.book.specs.Shown.{verdictOf, stepOf, trailerVerdict};
 ghost use Rattle.book.specs.Bounds.{BodyFits, HeadFits};
-use super::Checked;
 use super::Refusal;
 use super::bytes::byte;
 use super::bytes::pair;
@@ -45,7 +42,7 @@ fn field_limit(version: u8) -> usize
 
 // 1 to 6.
 pub fn trailer(s: &[u8]) -> Test
-    ensures { λ r. ⌜ verdictOf r ≡ trailerPart (now (s .entry)) ⌝ }
+    ensures { λ r. ⌜ verdictOf r ≡ trailerVerdict (now (s .entry)) ⌝ }
 {
     let n = s.len();
     if n < 6 {
@@ -78,7 +75,7 @@ pub fn trailer(s: &[u8]) -> Test
 }
 
 // 7, of the field list from list on.
-fn field_list(s: &[u8], list: usize, fields: usize) -> Test
+pub fn field_list(s: &[u8], list: usize, fields: usize) -> Test
     requires { ⌜ list + fields ≤ length (now s) ⌝ }
     ensures { λ r. ⌜ verdictOf r ≡ listTest (now (s .entry)) list fields ⌝ }
 {
@@ -143,7 +140,7 @@ fn table(s: &[u8], list: usize, fields: usize, at: usize, rows: usize) -> Step
 }
 
 // The tables, one after another from byte 0.
-fn tables(s: &[u8], list: usize, fields: usize, count: usize) -> Step
+pub fn tables(s: &[u8], list: usize, fields: usize, count: usize) -> Step
     requires { ⌜ BodyFits (now s) list fields ⌝ }
     ensures { λ r. ⌜ stepOf r ≡ tablesStep (now (s .entry)) list fields count 0 0 ⌝ }
 {
@@ -167,33 +164,4 @@ fn tables(s: &[u8], list: usize, fields: usize, count: usize) -> Step
         left -= 1;
     }
     Step::Next { at: at, rows: rows }
-}
-
-// 7, the tables, and 13: what stands before the trailer.
-pub fn body(s: &[u8], list: usize, fields: usize, count: usize) -> Checked
-    requires { ⌜ BodyFits (now s) list fields ⌝ }
-    ensures { λ r. ⌜ shownCheck r ≡ outcome (bodyPart (now (s .entry)) list fields count) (list ∷ fields ∷ count ∷ format.rowTotal (format.tablesAt (now (s .entry)) 0 count) ∷ []) ⌝ }
-{
-    let test = field_list(s, list, fields);
-    match test {
-        Test::Fail(kind, place) => {
-            return Checked::Bad(kind, place);
-        }
-        Test::Pass => {}
-    }
-    let step = tables(s, list, fields, count);
-    match step {
-        Step::Stop(kind, place) => Checked::Bad(kind, place),
-        Step::Next { at, rows } => {
-            if at < list {
-                return Checked::Bad(Refusal::LeftOver, at);
-            }
-            Checked::Good {
-                list: list,
-                fields: fields,
-                tables: count,
-                rows: rows,
-            }
-        }
-    }
 }

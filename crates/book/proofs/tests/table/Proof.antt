@@ -2,6 +2,7 @@
 use mathlib.Core.Path.{_∙_}
 use Rattle.format.proofs.Refusals.{table-8-none, table-9-none, table-9-many, table-8-head, table-10-field, table-fields-pass}
 use Rattle.format.proofs.TableTests.{fields-known}
+use Prim.Native.Nat.{_+_}
 use borrow.Author.Needs.{needs}
 use native.Mathlib.Omega.{arith}
 use Rattle.book.proofs.tests.table.Statement.{statement}
@@ -62,7 +63,7 @@ returns-5 c = table-10-field (c .before .before .before .before .before .before 
 
 -- src/tests.rt:142:5
 table-rows-requires : tie.Need-table-rows-requires
-table-rows-requires c κs = let known = fields-known (c .before .before .before .before .before .before .before .before .args .s .now) (c .before .before .before .before .before .before .before .before .args .fields) _ (c .before .before .before .before .before .byte .result) (omega (arith, c .before .bad-field .ensures, c .if5 .left)) in
+table-rows-requires c κs = let known = fields-known (c .before .before .before .before .before .before .before .before .args .s .now) (c .before .before .before .before .before .before .before .before .args .fields) (c .before .before .before .before .before .before .before .before .args .at + 1) (c .before .before .before .before .before .byte .result) (omega (arith, c .before .bad-field .ensures, c .if5 .left)) in
     record { short = c .before .before .before .before .before .before .before .before .pre .0 .short; within = omega (arith, c .before .before .before .before .before .before .before .before .pre .0 .within); head = omega (arith, c .before .before .if4 .left, c .before .before .before .before .before .byte .ensures .0); some = omega (arith, c .before .before .before .before .if2 .left, c .before .before .before .before .before .byte .ensures .0); few = omega (arith, c .before .before .before .if3 .left, c .before .before .before .before .before .byte .ensures .0); known = λ j h. omega (arith, c .before .before .before .before .before .before .before .before .pre .0 .within, known j (omega (arith, h, c .before .before .before .before .before .byte .ensures .0))); before = c .before .before .before .before .before .before .before .before .pre .1 }
 
 -- src/tests.rt:120:1
