@@ -1,7 +1,7 @@
 // The sheet and its calls. Document 01, "The sheet and its one pass" and "When a call is turned down".
 ghost use mathlib.Core.Path.{_≡_};
 ghost use mathlib.Core.List.{[]};
-ghost use Rattle.calls.specs.Calls.{freshSheet, entered, withdrawn, cleared, loaded, stored};
+ghost use Rattle.calls.specs.Calls.{freshSheet, cleared};
 ghost use Rattle.sheet.specs.Shown.{resultOf};
 use book::Refusal;
 
@@ -47,14 +47,6 @@ pub struct HandedList {
     pub sheet: Sheet,
 }
 
-// A refusal behind 14 has place 0, and hands the sheet back as given.
-fn turned(sheet: Sheet, reason: Reason, place: usize) -> Handed {
-    Handed {
-        answer: Answer::Refused(reason, place),
-        sheet: sheet,
-    }
-}
-
 impl Sheet {
     // A sheet without answers.
     pub fn fresh() -> Sheet
@@ -70,28 +62,6 @@ impl Sheet {
         Handed {
             answer: Answer::Done,
             sheet: Sheet::fresh(),
-        }
-    }
-
-    // Answers a field, replacing an older answer.
-    pub fn enter(self, book: &[u8], field: u8, code: u8) -> Handed
-        ensures { λ r. ⌜ resultOf r [] ≡ entered (now (book .entry)) (self .places) field code ⌝ }
-    {
-        let places = self.places;
-        match opened::open(book, &places) {
-            Opened::Turned(reason, place) => turned(self, reason, place),
-            Opened::Ready { list, fields } => {
-                let f = wide(field);
-                if fields <= f {
-                    return turned(self, Reason::Field, 0);
-                }
-                if book[list + f] <= code {
-                    return turned(self, Reason::Code, 0);
-                }
-                let mut next = places;
-                next[f] = code;
-                Handed { answer: Answer::Done, sheet: Sheet { places: next } }
-            }
         }
     }
 }
