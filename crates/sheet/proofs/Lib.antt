@@ -1,1 +1,3 @@
 pub mod Upward
+pub mod Openings
+pub mod Places
