@@ -1,9 +1,9 @@
 -- The reader's promise: what the layers above know of accepted bytes, by places in them. Assumes nothing.
-use Prim.Native.Nat.{ℕ, zero, suc, _+_, _*_, _≤_, _<_}
+use Prim.Native.Nat.{ℕ, zero, suc, _+_, _-_, _*_, _≤_, _<_}
 use mathlib.Core.Path.{_≡_}
 use mathlib.Core.List.{List}
 use lib.ListN.{length}
-use Rattle.format.specs.Format.{fieldLimit, codeLimit, arityLimit, tableLimit, rowLimit, lengthLimit, rowTotal, byte, listPlace, fieldCount, tableCount, versionOf, arityAt, rowsOf, firstRow, tableEnd, bookOf}
+use Rattle.format.specs.Format.{fieldLimit, codeLimit, arityLimit, tableLimit, rowLimit, lengthLimit, closingByte, rowTotal, byte, listPlace, fieldCount, tableCount, versionOf, arityAt, rowsOf, firstRow, tableEnd, bookOf}
 
 -- the place of table i
 unfoldable pub place : List ℕ → ℕ → ℕ
@@ -32,6 +32,7 @@ pub record TablePromise (s : List ℕ) (p : ℕ) : Type 0 where
 
 pub record Promise (s : List ℕ) : Type 0 where
   pub short : length s ≤ lengthLimit
+  pub closed : byte s (length s - 1) ≡ closingByte
   pub whole : listPlace s + fieldCount s + 6 ≡ length s
   pub some : 1 ≤ fieldCount s
   pub few : fieldCount s ≤ fieldLimit (versionOf s)
