@@ -98,10 +98,10 @@ any-out (suc n) p t =
     (λ (u : T (p n)). (n, lt-suc-self n, u)) (or-out (anyBelow n p) (p n) t)
 
 -- tests that are equal at each number below n
-pub all-ext : (n : ℕ) {p q : ℕ → Bool} → ((k : ℕ) → k < n → p k ≡ q k) → allBelow n p ≡ allBelow n q
-all-ext zero h = refl
-all-ext (suc n) {p} {q} h = ap₂ _&&_ (all-ext n (below-less (λ k. p k ≡ q k) h)) (h n (lt-suc-self n))
+pub all-ext : (n : ℕ) (p q : ℕ → Bool) → ((k : ℕ) → k < n → p k ≡ q k) → allBelow n p ≡ allBelow n q
+all-ext zero p q h = refl
+all-ext (suc n) p q h = ap₂ _&&_ (all-ext n p q (below-less (λ k. p k ≡ q k) h)) (h n (lt-suc-self n))
 
-pub any-ext : (n : ℕ) {p q : ℕ → Bool} → ((k : ℕ) → k < n → p k ≡ q k) → anyBelow n p ≡ anyBelow n q
-any-ext zero h = refl
-any-ext (suc n) {p} {q} h = ap₂ _||_ (any-ext n (below-less (λ k. p k ≡ q k) h)) (h n (lt-suc-self n))
+pub any-ext : (n : ℕ) (p q : ℕ → Bool) → ((k : ℕ) → k < n → p k ≡ q k) → anyBelow n p ≡ anyBelow n q
+any-ext zero p q h = refl
+any-ext (suc n) p q h = ap₂ _||_ (any-ext n p q (below-less (λ k. p k ≡ q k) h)) (h n (lt-suc-self n))

@@ -4,3 +4,6 @@ pub mod Removals
 pub mod Rounds
 pub mod Largest
 pub mod Loops
+pub mod Members
+pub mod Sums
+pub mod CodeCounts
