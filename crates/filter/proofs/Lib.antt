@@ -1,1 +1,4 @@
+pub mod Tallies
+pub mod Bits
+pub mod Words
 pub mod Removals
