@@ -2,3 +2,4 @@ pub mod Tallies
 pub mod Bits
 pub mod Words
 pub mod Removals
+pub mod Limits
