@@ -111,12 +111,13 @@ module _ (s : List ℕ) (short : length s ≤ lengthLimit) (closed : byte s (len
         }
 
 -- a book, written and read
-module _ (b : Book) (well : WellFormed b) where
+module _ (b : Book) where
   -- the bytes' length
-  encode-length : length (encode b) ≡ length (tablesBytes (b .tables)) + length (b .counts) + 6
+  pub encode-length : length (encode b) ≡ length (tablesBytes (b .tables)) + length (b .counts) + 6
   unfolding encode trailerBytes
   encode-length = simp length-append (omega arith)
 
+  -- the field list and the trailer, in their places
   list-here : drop (length (tablesBytes (b .tables))) (encode b) ≡ b .counts ++ trailerBytes b
   unfolding encode
   list-here = drop-append-seam (tablesBytes (b .tables)) (b .counts ++ trailerBytes b)
@@ -130,6 +131,7 @@ module _ (b : Book) (well : WellFormed b) where
   trailer-byte : (k j : ℕ) → length (encode b) - 6 + j ≡ k → byte (encode b) k ≡ getD (trailerBytes b) j 0
   trailer-byte k j e = rw (← e, ← getD-drop, trailer-here)
 
+  -- the trailer's numbers, read
   list-read : listPlace (encode b) ≡ length (tablesBytes (b .tables))
   unfolding trailerBytes
   list-read = word-read (encode b) (length (encode b) - 6) (length (tablesBytes (b .tables))) _ trailer-here
@@ -150,24 +152,28 @@ module _ (b : Book) (well : WellFormed b) where
   unfolding trailerBytes
   closing-read = trailer-byte (length (encode b) - 1) 5 (omega (arith, encode-length))
 
-  all-read : (tablesAt (encode b) 0 (length (b .tables)) ≡ b .tables)
-      × (drop (place (encode b) (0 + length (b .tables))) (encode b) ≡ b .counts ++ trailerBytes b)
-  unfolding place encode
-  all-read = tables-read (encode b) (b .counts) (b .counts ++ trailerBytes b) (b .tables) 0 (well .each) refl
+  module _ (well : WellFormed b) where
+    -- the tables, read
+    all-read : (tablesAt (encode b) 0 (length (b .tables)) ≡ b .tables)
+        × (drop (place (encode b) (0 + length (b .tables))) (encode b) ≡ b .counts ++ trailerBytes b)
+    unfolding place encode
+    all-read = tables-read (encode b) (b .counts) (b .counts ++ trailerBytes b) (b .tables) 0 (well .each) refl
 
-  -- the tables end where the field list begins
-  last-read : place (encode b) (length (b .tables)) ≡ length (tablesBytes (b .tables))
-  last-read =
-      let d = rw zero-add at (all-read .1) in
-      let l = simp (length-drop, length-append) at (ap length d) in
-      let m = simp (length-drop, length-append) at (ap length list-here) in
-      omega (arith, encode-length)
+    -- the tables end where the field list begins
+    last-read : place (encode b) (length (b .tables)) ≡ length (tablesBytes (b .tables))
+    last-read =
+        let d = rw zero-add at (all-read .1) in
+        let l = simp (length-drop, length-append) at (ap length d) in
+        let m = simp (length-drop, length-append) at (ap length list-here) in
+        omega (arith, encode-length)
 
-  pub book-of : bookOf (encode b) ≡ b
-  unfolding bookOf
-  book-of = rw (version-read, list-read, fields-read, count-read, all-read .0, part-front (encode b) (length (tablesBytes (b .tables))) (b .counts) (trailerBytes b) list-here)
+    -- the bytes hold the book
+    pub book-of : bookOf (encode b) ≡ b
+    unfolding bookOf
+    book-of = rw (version-read, list-read, fields-read, count-read, all-read .0, part-front (encode b) (length (tablesBytes (b .tables))) (b .counts) (trailerBytes b) list-here)
 
-  pub layout-promise : Promise (encode b)
-  layout-promise =
-      promise-from (encode b) (well .short) closing-read (omega (arith, list-read, fields-read, encode-length))
-      (rw (count-read, list-read) last-read) (rw book-of well)
+    -- the bytes meet the promise
+    pub layout-promise : Promise (encode b)
+    layout-promise =
+        promise-from (encode b) (well .short) closing-read (omega (arith, list-read, fields-read, encode-length))
+        (rw (count-read, list-read) last-read) (rw book-of well)

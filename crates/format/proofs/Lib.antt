@@ -6,3 +6,4 @@ pub mod Tables
 pub mod Drops
 pub mod Decode
 pub mod Encode
+pub mod Bytes

@@ -1,0 +1,5 @@
+pub mod Tallies
+pub mod Bits
+pub mod Words
+pub mod Removals
+pub mod Limits
