@@ -48,8 +48,8 @@ in-those zero p m = absurd (List·Memᴰ·not-nil m)
 in-those (suc n) p {k} m =
     ⊎-elim {C = (k < suc n) × T (p k)} (λ (h : In k (those n p)). let r = in-those n p h in (le-trans (r .0) (le-suc n), r .1))
     (λ (h : In k (pick (p n) (n ∷ []) [])).
-        let r = in-pick (p n) h in
-        (subst (λ (i : ℕ). i < suc n) (sym (r .1)) (lt-suc-self n), subst (λ (i : ℕ). T (p i)) (sym (r .1)) (r .0)))
+    let r = in-pick (p n) h in
+    (subst (λ (i : ℕ). i < suc n) (sym (r .1)) (lt-suc-self n), subst (λ (i : ℕ). T (p i)) (sym (r .1)) (r .0)))
     (List·Memᴰ·append-cases (those n p) m)
 
 pub those-in : (n : ℕ) (p : ℕ → Bool) {k : ℕ} → k < n → T (p k) → In k (those n p)
@@ -76,7 +76,7 @@ module _ {A : Type 0} (R : A → A → Type 0) where
   append-in-order [] ys p q h = q
   append-in-order (x ∷ xs) ys p q h = (
     all-in-list (R x) (xs ++ ys)
-    (λ z m.
+        (λ z m.
         ⊎-elim (λ (n : In z xs). of-member (R x) xs (p .0) z n) (λ (n : In z ys). h x z (List·Memᴰ·head refl) n)
         (List·Memᴰ·append-cases xs m)),
     append-in-order xs ys (p .1) q (λ z y m k. h z y (List·Memᴰ·tail m) k),
@@ -87,7 +87,7 @@ module _ {A : Type 0} (R : A → A → Type 0) where
   map-in-order g h [] p = tt
   map-in-order g h (i ∷ is) p = (
     all-in-list (R (g i)) (map g is)
-    (λ y m.
+        (λ y m.
         let r = in-map g is m in
         subst (R (g i)) (sym (r .2)) (h i (r .0) (of-member (λ k. i < k) is (p .0) (r .0) (r .1)))),
     map-in-order g h is (p .1),
@@ -100,8 +100,8 @@ module _ {A : Type 0} (R : A → A → Type 0) where
   join-in-order g o h (i ∷ is) p =
       append-in-order (g i) (joinOver is g) (o i) (join-in-order g o h is (p .1))
       (λ x y m n.
-          let r = in-join g is n in
-          h i (r .0) (of-member (λ k. i < k) is (p .0) (r .0) (r .1)) x y m (r .2))
+      let r = in-join g is n in
+      h i (r .0) (of-member (λ k. i < k) is (p .0) (r .0) (r .1)) x y m (r .2))
 
 pick-rising : (x : Bool) (n : ℕ) → Pairwise _<_ (pick x (n ∷ []) [])
 pick-rising true n = (tt, tt)

@@ -3,3 +3,7 @@ pub mod Bits
 pub mod Words
 pub mod Removals
 pub mod Limits
+pub mod Stores
+pub mod Starts
+pub mod StartFields
+pub mod CaseWords

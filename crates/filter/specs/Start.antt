@@ -28,10 +28,6 @@ pub record CasesAre (a own : List ℕ) (all : ℕ) (cs : List (List ℕ)) : Type
 abbrev pub casesBelow : ℕ → List ℕ → List (List ℕ)
 casesBelow n a = a ∷ map (relax a) (those n (answered a))
 
--- each case of u is one of w
-abbrev pub WithinCases : ℕ → ℕ → Type 0
-WithinCases u w = (k : ℕ) → T (bit u k) → T (bit w k)
-
 -- ---- the start
 
 -- the word of code c of a field with answer x: all cases, but where the answer forbids c only those that relax the field
@@ -43,7 +39,7 @@ pub record StartsField (M : List ℕ) (f k all own s : ℕ) : Type 0 where
   pub size : length M ≡ places * codeLimit
   pub field-in : f < places
   pub codes-in : k ≤ codeLimit
-  pub within : WithinCases own all
+  pub within : (k : ℕ) → T (bit own k) → T (bit all k)
   pub small : s ≤ 65536
 
 -- the words of the codes below k of field f, and the count of the marks forbidden there: "those forbidden by an answer included"
@@ -59,7 +55,7 @@ pub record Starts (s own : List ℕ) (all list fields : ℕ) : Type 0 where
   pub promise : Promise s
   pub list-is : list ≡ listPlace s
   pub fields-is : fields ≡ fieldCount s
-  pub within : (f : ℕ) → WithinCases (getD own f 0) all
+  pub within : (f k : ℕ) → T (bit (getD own f 0) k) → T (bit all k)
 
 -- Each word is its start; those that the book lacks are 0. What is counted and what stands are all marks of the cases
 pub record Started (b : Book) (a own : List ℕ) (all : ℕ) (N : List ℕ) (r : ℕ) : Type 0 where

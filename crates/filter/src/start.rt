@@ -49,15 +49,7 @@ fn start_word(x: u8, c: u8, all: u64, own: u64) -> u64
 }
 
 // The words of the codes below k of field f, and the count s with the marks that the answer x forbids there.
-fn start_field(
-    marks: &mut [u64; 1024],
-    f: usize,
-    k: u8,
-    x: u8,
-    all: u64,
-    own: u64,
-    s: u32,
-) -> u32
+fn start_field(marks: &mut [u64; 1024], f: usize, k: u8, x: u8, all: u64, own: u64, s: u32) -> u32
     requires { ⌜ StartsField (now marks) f k all own s ⌝ }
     ensures { λ r. ⌜ FieldStarted (now (marks .entry)) (now (marks .exit)) f k x all own s r ⌝ }
 {

@@ -47,8 +47,8 @@ module _ (counts : List ℕ) (small : (f : ℕ) → getD counts f 0 < 256) where
     table-bytes t o h = (
       omega (arith, o .few),
       join (t .fields) (word (length (t .rows)) ++ flat (t .rows))
-      (all-of (λ x. x < 256) (t .fields) 0 (λ k l. omega (arith, all-at (λ f. f < length counts) (t .fields) 0 (o .known) k l)))
-      (join (word (length (t .rows))) (flat (t .rows)) (word-bytes (length (t .rows)) h) (rows-bytes (t .fields) (t .rows) (o .codes))),
+          (all-of (λ x. x < 256) (t .fields) 0 (λ k l. omega (arith, all-at (λ f. f < length counts) (t .fields) 0 (o .known) k l)))
+          (join (word (length (t .rows))) (flat (t .rows)) (word-bytes (length (t .rows)) h) (rows-bytes (t .fields) (t .rows) (o .codes))),
     )
 
     tables-bytes : (ts : List Table) → All (TableOk counts) ts → rowTotal ts < 65536 → Bytes (tablesBytes ts)

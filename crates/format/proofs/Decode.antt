@@ -84,11 +84,14 @@ module _ (s : List ℕ) (bytes : Bytes s) where
     last-four : drop (length s - 4) s ≡ fieldCount s ∷ tableCount s ∷ versionOf s ∷ closingByte ∷ []
     last-four =
         let w = p .whole in
-        rw (one-then s (length s - 4) (length s - 3) (omega arith) (omega arith),
-        one-then s (length s - 3) (length s - 2) (omega arith) (omega arith),
-        one-then s (length s - 2) (length s - 1) (omega arith) (omega arith),
-        one-then s (length s - 1) (length s) (omega arith) (omega arith),
-        drop-length s, p .closed)
+        rw (
+          one-then s (length s - 4) (length s - 3) (omega arith) (omega arith),
+          one-then s (length s - 3) (length s - 2) (omega arith) (omega arith),
+          one-then s (length s - 2) (length s - 1) (omega arith) (omega arith),
+          one-then s (length s - 1) (length s) (omega arith) (omega arith),
+          drop-length s,
+          p .closed,
+        )
 
     -- the trailer, written
     trailer-then : trailerBytes (bookOf s) ≡ drop (listPlace s + fieldCount s) s

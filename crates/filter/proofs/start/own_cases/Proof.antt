@@ -1,55 +1,52 @@
-use borrow.Author.Needs.{needs}
+-- `start::own_cases` meets its contract. The invariant: the fields below f have their cases. Assumes nothing.
+use Prim.Native.Nat.{_≤_, _-_}
+use mathlib.Core.Path.{refl}
+use mathlib.Core.Logic.{⊎-elim}
+use Rattle.filter.proofs.StartFields.{zeros}
+use Rattle.filter.proofs.CaseWords.{CasesBelow, cases-none, own-fits, cases-same, cases-answered, cases-open, cases-done}
 use native.Mathlib.Omega.{arith}
 use Rattle.filter.proofs.start.own_cases.Statement.{statement}
 use Rattle.filter.proofs.start.own_cases.Tie as tie
-use Rattle.filter.proofs.start.own_cases.Reads as reads
-use Rattle.filter.proofs.start.own_cases.Lts as lts
 
 abbrev Inv-loop : tie.InvT-loop
-Inv-loop fields answers words₀ all₀ f₀ words all f = ?
+Inv-loop fields answers words₀ all₀ f₀ words all f = (f ≤ fields) × CasesBelow answers words all f
 
 abbrev μ-loop : tie.MeasureT-loop
-μ-loop fields answers words₀ all₀ f₀ words all f = ?
+μ-loop fields answers words₀ all₀ f₀ words all f = fields - f
 
--- src/start.rt:24:5
 loop-holds : tie.Need-loop-holds Inv-loop μ-loop
-loop-holds c = search needs
+loop-holds c = (omega arith, cases-none _ _ (c .good .0 .1 .0 .1) refl (zeros 32))
 
--- src/start.rt:25:12
 array-read-if1 : tie.Need-array-read-if1 Inv-loop μ-loop
-array-read-if1 c = search needs
+array-read-if1 c = omega (arith, (c .before .before .pre))
 
--- src/start.rt:26:23
 add-own : tie.Need-add-own Inv-loop μ-loop
-add-own c = search needs
+add-own c = omega (arith, own-fits _ _ _ _ (c .before .before .loop .inv .1) (omega (arith, (c .before .before .before .pre))))
 
--- src/start.rt:27:13
 mul-words : tie.Need-mul-words Inv-loop μ-loop
-mul-words c = search needs
+mul-words c = omega (arith, (c .before .before .before .pre))
 
--- src/start.rt:27:13
 array-write-words : tie.Need-array-write-words Inv-loop μ-loop
-array-write-words c = search needs
+array-write-words c = omega (arith, (c .before .before .before .pre))
 
--- src/start.rt:28:19
 add-all : tie.Need-add-all Inv-loop μ-loop
-add-all c = search needs
+add-all c = omega (arith, own-fits _ _ _ _ (c .before .before .loop .inv .1) (omega (arith, (c .before .before .before .pre))))
 
--- src/start.rt:30:9
 add-f : tie.Need-add-f Inv-loop μ-loop
-add-f c = search needs
+add-f c = omega (arith, (c .before .before .before .pre))
 
--- src/start.rt:24:5
 loop-less : tie.Need-loop-less Inv-loop μ-loop
-loop-less c = search needs
+loop-less c = omega arith
 
--- src/start.rt:24:5
 loop-again : tie.Need-loop-again Inv-loop μ-loop
-loop-again c = search needs
+loop-again c = (
+  omega arith,
+  ⊎-elim (λ w. cases-same (w .1) (w .2) (cases-answered _ _ _ _ (c .before .before .loop .inv .1) (omega (arith, (c .before .before .before .pre))) (w .0 .taken)))
+      (λ w. cases-same (w .1) (w .2) (cases-open _ _ _ _ (c .before .before .loop .inv .1) (omega (arith, (c .before .before .before .pre))) (w .0 .left))) (c .if1 .came),
+)
 
--- src/start.rt:17:1
 returns : tie.Need-returns Inv-loop μ-loop
-returns c = search needs
+returns c = cases-done _ _ _ _ (c .before .before .args .fields) (c .before .loop .inv .1) (omega arith)
 
 pub own-cases-spec : {M : Type 1} → statement M
 own-cases-spec =

@@ -1,65 +1,52 @@
-use borrow.Author.Needs.{needs}
+-- `start::start_field` meets its contract. The invariant: the words of the codes below c are started. Assumes nothing.
+use Prim.Native.Nat.{_≤_, _-_}
+use Rattle.filter.specs.Start.{FieldStarted}
+use Rattle.filter.proofs.Starts.{field-none, start-in, few-struck, field-more, field-done}
 use native.Mathlib.Omega.{arith}
 use Rattle.filter.proofs.start.start_field.Statement.{statement}
 use Rattle.filter.proofs.start.start_field.Tie as tie
-use Rattle.filter.proofs.start.start_field.Reads as reads
-use Rattle.filter.proofs.start.start_field.Lts as lts
-use Rattle.filter.proofs.start.start_word.Reads as start-word-reads
-use Rattle.filter.proofs.support.wide.Reads as wide-reads
 
 abbrev Inv-loop : tie.InvT-loop
-Inv-loop marks₀ f k x all own s struck₀ c₀ marks struck c = ?
+Inv-loop marks₀ f k x all own s struck₀ c₀ marks struck c = (c ≤ k) × FieldStarted marks₀ marks f c x all own s struck
 
 abbrev μ-loop : tie.MeasureT-loop
-μ-loop marks₀ f k x all own s struck₀ c₀ marks struck c = ?
+μ-loop marks₀ f k x all own s struck₀ c₀ marks struck c = k - c
 
--- src/start.rt:66:5
 loop-holds : tie.Need-loop-holds Inv-loop μ-loop
-loop-holds c = search needs
+loop-holds c = (omega arith, field-none _ _ _ _ _ _)
 
--- src/start.rt:67:13
 start-word-requires : tie.Need-start-word-requires Inv-loop μ-loop
-start-word-requires c κs = search needs
+start-word-requires c κs = tt
 
--- src/start.rt:68:13
 wide-requires : tie.Need-wide-requires Inv-loop μ-loop
-wide-requires c κs = search needs
+wide-requires c κs = tt
 
--- src/start.rt:69:15
 mul-marks : tie.Need-mul-marks Inv-loop μ-loop
-mul-marks c = search needs
+mul-marks c = omega (arith, c .before .before .before .before .pre .field-in)
 
--- src/start.rt:69:15
 add-marks : tie.Need-add-marks Inv-loop μ-loop
-add-marks c = search needs
+add-marks c = omega (arith, c .wide .ensures, c .before .before .before .before .pre .field-in, c .before .before .before .before .pre .codes-in)
 
--- src/start.rt:69:9
 mul-marks-2 : tie.Need-mul-marks-2 Inv-loop μ-loop
-mul-marks-2 c = search needs
+mul-marks-2 c = omega (arith, c .wide .ensures, c .before .before .before .before .pre .field-in, c .before .before .before .before .pre .codes-in)
 
--- src/start.rt:69:9
 element-write-marks : tie.Need-element-write-marks Inv-loop μ-loop
-element-write-marks c = search needs
+element-write-marks c = omega (arith, c .wide .ensures, start-in _ _ _ _ _ _ _ _ _ _ (c .before .before .before .before .pre) (c .before .before .before .loop .inv .1) (c .before .before .loop-test .taken) (omega (arith, c .before .before .before .before .fits .all)) (omega (arith, c .before .before .before .before .fits .own)))
 
--- src/start.rt:70:9
 add-struck : tie.Need-add-struck Inv-loop μ-loop
-add-struck c = search needs
+add-struck c = omega (arith, c .before .before .before .loop .inv .1 .few, c .before .before .before .before .pre .small, c .before .before .before .before .pre .codes-in, few-struck _ _ _ _ _ _ _ _ _ _ (c .before .before .before .before .pre) (c .before .before .before .loop .inv .1) (c .before .before .loop-test .taken) (omega (arith, c .before .before .before .before .fits .all)) (omega (arith, c .before .before .before .before .fits .own)) _ (c .before .start-word .ensures))
 
--- src/start.rt:71:9
 add-c : tie.Need-add-c Inv-loop μ-loop
-add-c c = search needs
+add-c c = omega (arith, c .before .before .before .before .pre .codes-in)
 
--- src/start.rt:66:5
 loop-less : tie.Need-loop-less Inv-loop μ-loop
-loop-less c = search needs
+loop-less c = omega arith
 
--- src/start.rt:66:5
 loop-again : tie.Need-loop-again Inv-loop μ-loop
-loop-again c = search needs
+loop-again c = (omega arith, field-more _ _ _ _ _ _ _ _ _ _ (c .before .before .before .before .pre) (c .before .before .before .loop .inv .1) (c .before .before .loop-test .taken) (omega (arith, c .before .before .before .before .fits .all)) (omega (arith, c .before .before .before .before .fits .own)) _ (c .before .start-word .ensures) _ (c .wide .ensures))
 
--- src/start.rt:52:1
 returns : tie.Need-returns Inv-loop μ-loop
-returns c = search needs
+returns c = field-done _ _ _ _ _ _ _ _ _ _ (c .before .loop .inv .1) (omega arith)
 
 pub start-field-spec : {M : Type 1} → statement M
 start-field-spec =
