@@ -3,3 +3,4 @@ pub mod Bits
 pub mod Words
 pub mod Removals
 pub mod Limits
+pub mod Surveys
