@@ -4,3 +4,8 @@ pub mod Words
 pub mod Removals
 pub mod Limits
 pub mod Surveys
+pub mod Firsts
+pub mod Shapes
+pub mod Narrowing
+pub mod RowSearch
+pub mod FirstRow
