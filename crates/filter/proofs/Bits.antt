@@ -139,6 +139,16 @@ bit-ext (suc d) a b l m h =
     bit-ext d (a / 2) (b / 2) (half-lt d a l) (half-lt d b m) (λ k n. sym (bit-next a k) ∙ h (suc k) (suc-le-suc n) ∙ bit-next b k) in
     omega arith
 
+below-pow : (n : ℕ) → n < 2 ^ n
+below-pow zero = lit< tt
+below-pow (suc n) = omega (arith, pow-suc 2 n, below-pow n)
+
+-- numbers with the same bits are equal
+pub same-bits : (a b : ℕ) → ((k : ℕ) → bit a k ≡ bit b k) → a ≡ b
+same-bits a b h =
+    bit-ext (a + b) a b (le-trans (below-pow a) (pow-mono (let l : a ≤ a + b = omega arith in l)))
+    (le-trans (below-pow b) (pow-mono (let l : b ≤ a + b = omega arith in l))) (λ k l. h k)
+
 -- ---- a word without some of its bits
 
 -- each bit of u is set in w

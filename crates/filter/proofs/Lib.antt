@@ -7,3 +7,9 @@ pub mod Stores
 pub mod Starts
 pub mod StartFields
 pub mod CaseWords
+pub mod Surveys
+pub mod Firsts
+pub mod Shapes
+pub mod Narrowing
+pub mod RowSearch
+pub mod FirstRow

@@ -3,3 +3,4 @@ pub mod Cases
 pub mod Support
 pub mod Revise
 pub mod Start
+pub mod Queue
