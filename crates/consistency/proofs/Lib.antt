@@ -7,3 +7,6 @@ pub mod Loops
 pub mod Members
 pub mod Sums
 pub mod CodeCounts
+pub mod Lines
+pub mod Masks
+pub mod SameLargest
