@@ -13,3 +13,4 @@ pub mod Shapes
 pub mod Narrowing
 pub mod RowSearch
 pub mod FirstRow
+pub mod StartDomains

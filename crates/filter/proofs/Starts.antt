@@ -47,8 +47,8 @@ module _ (x c all own : ℕ) where
       choose true = p
       choose false = q
 
-  pub start-within : Within own all → Within (startWord x c all own) all
-  start-within h = start-either (λ w. Within w all) (λ k t. t) h
+  pub word-within : Within own all → Within (startWord x c all own) all
+  word-within h = start-either (λ w. Within w all) (λ k t. t) h
 
 -- the marks of a word that stand and those that are counted are all cases
 pub start-count : (all w : ℕ) → all < 2 ^ 64 → w < 2 ^ 64 → Within w all → ones (bitXor all w) + howMany 64 (bit w) ≡ ones all
@@ -79,7 +79,7 @@ module _ (M N : List ℕ) (f k x all own s t c : ℕ) (q : StartsField M f k all
     few-struck = ones-le 64 (bitXor all w) (xor-lt 64 all w al w-small)
 
     w-count : ones (bitXor all w) + howMany 64 (bit w) ≡ ones all
-    w-count = start-count all w al w-small (subst (λ (z : ℕ). Within z all) (sym e) (start-within x c all own (q .within)))
+    w-count = start-count all w al w-small (subst (λ (z : ℕ). Within z all) (sym e) (word-within x c all own (q .within)))
 
     here : wordAt (set N (f * codeLimit + c) w) f c ≡ w
     here = stored-here N f c w (omega (arith, y .same-length, q .size, start-in))
