@@ -14,3 +14,4 @@ pub mod Narrowing
 pub mod RowSearch
 pub mod FirstRow
 pub mod StartDomains
+pub mod Ends

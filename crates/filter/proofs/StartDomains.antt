@@ -2,7 +2,7 @@
 use mathlib.Core.Path.{_≡_, refl, sym, ap, _∙_, subst}
 use mathlib.Core.Bool.{Bool, true, false, _&&_, _||_}
 use mathlib.Core.List.{List, []}
-use Prim.Native.Nat.{ℕ, _+_, _*_, _^_, _≤_, _<_}
+use Prim.Native.Nat.{ℕ, _≤_, _<_}
 use native.Mathlib.Nat.{le-trans}
 use native.Mathlib.Decide.{decLt}
 use native.Mathlib.Omega.{arith}
@@ -15,7 +15,7 @@ use Rattle.format.specs.Promise.{Promise}
 use Rattle.format.proofs.Views.{counts-count}
 use Rattle.consistency.specs.Consistency.{places, codes, answer, OfBook, WithinAnswers, HoldsAll}
 use Rattle.consistency.specs.Largest.{has, start, allowed}
-use Rattle.consistency.proofs.Booleans.{T-false, false-T}
+use Rattle.consistency.proofs.Booleans.{false-T}
 use Rattle.consistency.proofs.Rounds.{start-at, start-within, start-holds-all}
 use Rattle.consistency.proofs.CodeCounts.{field-in}
 use Rattle.filter.specs.Words.{bit, wordAt, domainOf}
