@@ -9,3 +9,4 @@ pub mod Shapes
 pub mod Narrowing
 pub mod RowSearch
 pub mod FirstRow
+pub mod Propagation
