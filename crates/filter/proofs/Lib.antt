@@ -10,3 +10,4 @@ pub mod Narrowing
 pub mod RowSearch
 pub mod FirstRow
 pub mod Propagation
+pub mod Totals
