@@ -1,9 +1,9 @@
 -- The queue: a table that is not in it supports every mark that stands. A turn of the loop, its measure, and its end. Assumes nothing.
-use mathlib.Core.Path.{_≡_, refl, sym, ap, _∙_, subst}
+use mathlib.Core.Path.{_≡_, sym, ap, _∙_, subst}
 use mathlib.Core.Logic.{_≢_}
-use mathlib.Core.Bool.{Bool, true, false, not, _&&_}
+use mathlib.Core.Bool.{Bool, false, not, _&&_}
 use mathlib.Core.List.{List, []}
-use Prim.Native.Nat.{ℕ, suc, _+_, _*_, _/_, _%_, _^_, _≤_, _<_}
+use Prim.Native.Nat.{ℕ, _+_, _*_, _/_, _%_, _^_, _≤_, _<_}
 use native.Mathlib.Decide.{ℕ-discrete}
 use native.Mathlib.Omega.{arith}
 use borrow.Author.Tests.{ne-eqb}
@@ -13,7 +13,7 @@ use lib.Count.{trailingZeros}
 use lib.Pow.{pow-lt, pow-pos}
 use lib.Dec.{T, eqb, ltb, eqb→eq}
 use Rattle.format.specs.Format.{Table, Book, codeLimit, tableCount, arityAt, tableAt, bookOf}
-use Rattle.format.specs.Promise.{Promise, place, fieldAt}
+use Rattle.format.specs.Promise.{Promise, place}
 use Rattle.format.proofs.Views.{tables-count, table-view, table-field, table-arity}
 use Rattle.consistency.specs.Counting.{howMany}
 use Rattle.consistency.specs.Consistency.{places, fieldOf, codeOf, nth, Support, ArcConsistent, OfBook}
