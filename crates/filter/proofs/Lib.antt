@@ -15,3 +15,5 @@ pub mod RowSearch
 pub mod FirstRow
 pub mod StartDomains
 pub mod Ends
+pub mod Propagation
+pub mod Totals

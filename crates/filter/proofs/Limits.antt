@@ -1,5 +1,5 @@
 -- An accepted book has at most as many fields as a sheet has places, and at most as many codes of each as a field can have. Assumes nothing.
-use mathlib.Core.Path.{_≡_, refl}
+use mathlib.Core.Path.{_≡_}
 use mathlib.Core.Bool.{Bool, true, false}
 use mathlib.Core.List.{List}
 use Prim.Native.Nat.{ℕ, _≤_, _<_}
@@ -8,7 +8,7 @@ use native.Mathlib.Omega.{arith}
 use lib.ListN.{length, List·getD-eq-default}
 use lib.Dec.{eqb}
 use Rattle.format.specs.Basics.{pick}
-use Rattle.format.specs.Format.{fieldLimit, codeLimit, fieldCount, versionOf, bookOf}
+use Rattle.format.specs.Format.{codeLimit, fieldCount, versionOf, bookOf}
 use Rattle.format.specs.Promise.{Promise}
 use Rattle.format.proofs.Views.{counts-count, counts-view}
 use Rattle.consistency.specs.Consistency.{places, codes}

@@ -3,7 +3,7 @@ use mathlib.Core.Path.{_≡_, refl, sym, ap, ap₂, _∙_, subst}
 use mathlib.Core.Logic.{_⊎_, inl, inr, ⊎-elim}
 use mathlib.Core.Bool.{Bool, _||_}
 use mathlib.Core.List.{List}
-use Prim.Native.Nat.{ℕ, zero, suc, _+_, _-_, _*_, _/_, _%_, _^_, _≤_, _<_}
+use Prim.Native.Nat.{ℕ, _+_, _-_, _*_, _/_, _%_, _^_, _≤_, _<_}
 use native.Mathlib.Nat.{le-trans, not-suc-le-zero}
 use native.Mathlib.Numerals.{add-one}
 use native.Mathlib.Decide.{ℕ-discrete}
@@ -14,8 +14,8 @@ use lib.Seq.{getD-set-same, getD-set-other}
 use lib.Bits.{bitOr}
 use lib.Pow.{ones-split, high, ones-lt}
 use lib.Dec.{T, eqb, eqb→eq, eqb-refl}
-use Rattle.format.specs.Format.{tableLimit, byte, listPlace, fieldCount, tableCount, arityAt, rowsOf, firstRow, tableEnd}
-use Rattle.format.specs.Promise.{Promise, place, fieldAt}
+use Rattle.format.specs.Format.{tableLimit, byte, listPlace, tableCount, arityAt, rowsOf, tableEnd}
+use Rattle.format.specs.Promise.{place, fieldAt}
 use Rattle.consistency.specs.Consistency.{places}
 use Rattle.consistency.proofs.Booleans.{or-left, or-right, or-out, false-T}
 use Rattle.filter.specs.Words.{bit}

@@ -1,6 +1,9 @@
 // The tables' places, the tables of each field, and the queue of tables to look at until every mark that stands is supported.
 ghost use mathlib.Core.Path.{_≡_};
-ghost use Prim.Native.Nat.{_-_, _^_, _≤_};
+ghost use mathlib.Core.Logic.{_≢_};
+ghost use Prim.Native.Nat.{_-_, _^_, _≤_, _<_};
+ghost use lib.Dec.{T};
+ghost use Rattle.filter.specs.Words.{bit};
 ghost use Rattle.filter.specs.Queue.{WatchGiven, Watched, SurveyGiven, Surveyed};
 use super::support::wide;
 
@@ -41,4 +44,22 @@ pub fn first_tables(n: usize) -> u64
         return 0;
     }
     18446744073709551615 >> (64 - n)
+}
+
+fn wide32(x: u32) -> usize
+    ensures { λ r. ⌜ r ≡ x ⌝ }
+{
+    x as usize
+}
+
+// A table of the queue, round robin: the first at or behind `from`, else the first of all.
+fn next_table(queue: u64, from: usize) -> usize
+    requires { ⌜ (queue ≢ 0) × (from < 64) ⌝ }
+    ensures { λ r. ⌜ T (bit queue r) ⌝ }
+{
+    let later = queue >> from;
+    if later == 0 {
+        return wide32(u64::trailing_zeros(queue));
+    }
+    from + wide32(u64::trailing_zeros(later))
 }
