@@ -1,32 +1,35 @@
 -- The end of a pass: the words are those of each case's largest subdomain, and the count is that of the codes outside them.
 -- Assumes nothing.
-use mathlib.Core.Path.{_≡_, refl, sym, ap, ap₂, _∙_, subst}
-use mathlib.Core.Bool.{Bool, true, false, _&&_}
+use mathlib.Core.Path.{_≡_, refl, sym, ap, _∙_, subst}
+use mathlib.Core.Bool.{false, _&&_}
 use mathlib.Core.List.{List, [], _∷_, map}
 use Prim.Native.Nat.{ℕ, zero, suc, _+_, _*_, _/_, _%_, _^_, _≤_, _<_}
-use native.Mathlib.Nat.{zero-add, pow-suc, mod-lt, zero-lt-suc, div-add-mod'}
+use native.Mathlib.Nat.{zero-add, add-comm, pow-suc, mod-lt, zero-lt-suc, div-add-mod'}
 use native.Mathlib.Decide.{decLt}
 use native.Mathlib.Omega.{arith}
 use borrow.Author.Tests.{lt-ltb, le-ltb}
 use lib.ListN.{length, getD}
 use lib.Seq.{ext-getD}
+use lib.Count.{ones, ones-ones}
 use lib.Pow.{pow-mono}
-use lib.Dec.{T, ltb}
+use lib.Dec.{ltb}
 use Rattle.format.specs.Format.{Book, codeLimit, bookOf}
 use Rattle.format.specs.Promise.{Promise}
-use Rattle.consistency.specs.Counting.{sumBelow, sumOver, tabulate}
+use Rattle.consistency.specs.Counting.{sumOver}
 use Rattle.consistency.specs.Consistency.{places, relax}
 use Rattle.consistency.specs.Largest.{largest}
-use Rattle.consistency.specs.Counts.{outside, relaxable, mask, struck}
+use Rattle.consistency.specs.Counts.{outside, relaxable, struck}
 use Rattle.consistency.proofs.Booleans.{T-false}
 use Rattle.consistency.proofs.Sums.{length-tabulate, tabulate-at}
 use Rattle.consistency.proofs.Masks.{mask-bit}
-use Rattle.filter.specs.Words.{bit, wordAt, domainOf}
+use Rattle.filter.specs.Words.{bit, wordAt, domainOf, standing}
 use Rattle.filter.specs.Cases.{casesOf, caseWord, marksOf, outsideOver}
 use Rattle.filter.specs.Start.{CasesAre, Started}
 use Rattle.filter.specs.Queue.{Propagated}
 use Rattle.filter.proofs.Bits.{bit-ext}
 use Rattle.filter.proofs.Words.{domain-bit}
+use Rattle.filter.proofs.Limits.{codes-few}
+use Rattle.filter.proofs.Totals.{allCodes, count-outside, outside-cases}
 use Rattle.filter.proofs.StartDomains.{started-cases, started-holds-all, started-within}
 
 -- ---- words by their bits
@@ -79,10 +82,33 @@ module _ (s a own : List ℕ) (all : ℕ) (M : List ℕ) (r : ℕ) (N : List ℕ
   marks-ended =
       ext-getD 0 N (marksOf (bookOf s) cs) (size ∙ sym (marks-length (bookOf s) cs))
       (λ i l.
-          ap (λ (j : ℕ). getD N j 0) (sym (div-add-mod' i codeLimit))
-          ∙ bits-same (wordAt N (i / codeLimit) (i % codeLimit)) (caseWord (bookOf s) cs (i / codeLimit) (i % codeLimit))
-          (λ k. word-bits (i / codeLimit) (i % codeLimit) k (mod-lt i (zero-lt-suc 31)))
-          ∙ sym (marks-word (bookOf s) cs i (subst (λ (n : ℕ). i < n) size l)))
+      ap (λ (j : ℕ). getD N j 0) (sym (div-add-mod' i codeLimit))
+      ∙ bits-same (wordAt N (i / codeLimit) (i % codeLimit)) (caseWord (bookOf s) cs (i / codeLimit) (i % codeLimit))
+      (λ k. word-bits (i / codeLimit) (i % codeLimit) k (mod-lt i (zero-lt-suc 31)))
+      ∙ sym (marks-word (bookOf s) cs i (subst (λ (n : ℕ). i < n) size l)))
     where
       size : length N ≡ places * codeLimit
       size = y .same-length ∙ x .size
+
+  -- what is counted and what stands are all marks of the cases
+  all-marks : standing (bookOf s) N + m ≡ length cs * allCodes (bookOf s)
+  all-marks =
+      y .counts ∙ add-comm (standing (bookOf s) M) r ∙ x .counts
+      ∙ ap (λ (n : ℕ). n * allCodes (bookOf s)) (ap ones (z .all-is) ∙ ones-ones (length cs))
+
+  pub count-ended : m ≡ outsideOver (bookOf s) cs
+  count-ended =
+      count-outside (bookOf s) N (codes-few s p) (length cs) (z .few)
+      (λ k f c t. started-cases s a own all M r p x cs z k f c (y .inside k f c t)) m all-marks
+      ∙ outside-cases (bookOf s) N cs ended-in
+
+-- ---- the cases of the one pass
+
+outside-relaxed : (b : Book) (a fs : List ℕ) → outsideOver b (map (relax a) fs) ≡ sumOver fs (λ f. outside b (largest b (relax a f)))
+outside-relaxed b a [] = refl
+outside-relaxed b a (f ∷ fs) = ap (outside b (largest b (relax a f)) +_) (outside-relaxed b a fs)
+
+-- the codes outside over "n+1 cases" are the number struck
+pub outside-struck : (b : Book) (a : List ℕ) → outsideOver b (casesOf b a) ≡ struck b a
+unfolding struck
+outside-struck b a = ap (outside b (largest b a) +_) (outside-relaxed b a (relaxable b a))
