@@ -17,3 +17,4 @@ pub mod StartDomains
 pub mod Ends
 pub mod Propagation
 pub mod Totals
+pub mod Gathers
