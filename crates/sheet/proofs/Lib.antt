@@ -1,3 +1,5 @@
 pub mod Upward
+pub mod Fields
+pub mod FieldTurns
 pub mod Openings
 pub mod Places

@@ -5,12 +5,12 @@ use mathlib.Core.List.{List, map}
 use mathlib.Core.Bool.{Bool}
 use lib.ListN.{length}
 use lib.Dec.{T}
-use Rattle.format.specs.Format.{codeLimit, fieldCount, listPlace, bookOf}
-use Rattle.format.specs.Promise.{Promise}
+use Rattle.format.specs.Format.{codeLimit, bookOf}
 use Rattle.consistency.specs.Counting.{howMany, those}
 use Rattle.consistency.specs.Consistency.{places, codes}
 use Rattle.consistency.specs.Counts.{bit, answered, listed, Line}
 use Rattle.filter.specs.Words.{wordAt}
+use Rattle.sheet.specs.Opened.{FieldsAt}
 
 -- code c of field f stands in case k
 abbrev pub stands : List ℕ → ℕ → ℕ → ℕ → Bool
@@ -37,8 +37,5 @@ pub record Room (o : List ℕ) (at many : ℕ) : Type 0 where
 
 -- M has the marks of a pass over the accepted book s: in each answered field's own case its alternatives stand
 pub record Passed (s a M : List ℕ) (list fields : ℕ) : Type 0 where
-  pub promise : Promise s
-  pub list-is : list ≡ listPlace s
-  pub fields-is : fields ≡ fieldCount s
-  pub size : length a ≡ places
+  pub at : FieldsAt s list fields
   pub own : (f c : ℕ) → f < fields → T (answered a f) → c < codes (bookOf s) f → stands M (ownCase a f) f c ≡ listed (bookOf s) a f c

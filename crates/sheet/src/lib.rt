@@ -5,6 +5,7 @@ ghost use Rattle.calls.specs.Calls.{freshSheet, cleared};
 ghost use Rattle.sheet.specs.Shown.{resultOf};
 use book::Refusal;
 
+mod lists;
 mod opened;
 
 // One byte for each place: the answered code, or 255 for no answer.

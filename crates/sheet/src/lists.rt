@@ -59,24 +59,26 @@ fn write_field(
 // The number of alternatives of the answered fields.
 pub(crate) fn count_lines(
     book: &[u8],
-    answers: &[u8; 32],
+    answers: [u8; 32],
     marks: &[u64; 1024],
     list: usize,
     fields: usize,
 ) -> usize
-    requires { ⌜ Passed (now book) (now answers) (now marks) list fields ⌝ }
-    ensures { λ r. ⌜ (r ≡ total (bookOf (now (book .entry))) (now (answers .entry))) × (r ≤ 1024) ⌝ }
+    requires { ⌜ Passed (now book) answers (now marks) list fields ⌝ }
+    ensures { λ r. ⌜ (r ≡ total (bookOf (now (book .entry))) answers) × (r ≤ 1024) ⌝ }
 {
     let mut sum = 0;
     let mut k: u64 = 1;
     let mut f = 0;
     while f < fields {
-        if answers[f] != 255 {
+        if answers[f] == 255 {
+            f += 1;
+        } else {
             let n = wide(book[list + f]);
             sum += count_codes(marks, k, f, n);
             k += 1;
+            f += 1;
         }
-        f += 1;
     }
     sum
 }
@@ -84,24 +86,26 @@ pub(crate) fn count_lines(
 // All lines, written from the first byte on.
 pub(crate) fn write_lines(
     book: &[u8],
-    answers: &[u8; 32],
+    answers: [u8; 32],
     marks: &[u64; 1024],
     list: usize,
     fields: usize,
     out: &mut [u8],
 )
-    requires { ⌜ Passed (now book) (now answers) (now marks) list fields × (2 * total (bookOf (now book)) (now answers) ≤ length (now out)) ⌝ }
-    ensures { λ r. ⌜ now (out .exit) ≡ lineBytes (lines (bookOf (now (book .entry))) (now (answers .entry))) ++ drop (2 * total (bookOf (now (book .entry))) (now (answers .entry))) (now (out .entry)) ⌝ }
+    requires { ⌜ Passed (now book) answers (now marks) list fields × (2 * total (bookOf (now book)) answers ≤ length (now out)) ⌝ }
+    ensures { λ r. ⌜ now (out .exit) ≡ lineBytes (lines (bookOf (now (book .entry))) answers) ++ drop (2 * total (bookOf (now (book .entry))) answers) (now (out .entry)) ⌝ }
 {
     let mut next = 0;
     let mut k: u64 = 1;
     let mut f = 0;
     while f < fields {
-        if answers[f] != 255 {
+        if answers[f] == 255 {
+            f += 1;
+        } else {
             let n = wide(book[list + f]);
             next = write_field(marks, k, f, n, out, next);
             k += 1;
+            f += 1;
         }
-        f += 1;
     }
 }
