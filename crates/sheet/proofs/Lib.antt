@@ -1,5 +1,6 @@
 pub mod Upward
 pub mod Fields
 pub mod FieldTurns
+pub mod OwnCases
 pub mod Openings
 pub mod Places
