@@ -3,3 +3,4 @@ pub mod Places
 pub mod CallCases
 pub mod LoadCases
 pub mod Copying
+pub mod Injective
