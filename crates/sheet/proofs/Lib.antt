@@ -5,3 +5,7 @@ pub mod OwnCases
 pub mod PlainMasks
 pub mod Openings
 pub mod Places
+pub mod CallCases
+pub mod LoadCases
+pub mod Copying
+pub mod Injective

@@ -1,5 +1,5 @@
 -- What is known where book and sheet pass 1 to 14, and what every call on a sheet answers by them. Assumes nothing.
-use mathlib.Core.Path.{_≡_, sym, ap, ap₂, _∙_}
+use mathlib.Core.Path.{_≡_, sym, ap, ap₂, subst, _∙_}
 use mathlib.Core.List.{List, [], _∷_}
 use Prim.Native.Nat.{ℕ, _+_, _≤_, _<_}
 use native.Mathlib.Omega.{arith}
@@ -16,7 +16,11 @@ use Rattle.format.proofs.Verdict.{verdict-promise}
 use Rattle.format.proofs.Views.{counts-count, counts-view}
 use Rattle.consistency.specs.Consistency.{places, codes}
 use Rattle.calls.specs.Calls.{Result, turned, faultOf, withBook, faultThen, onSheet}
-use Rattle.sheet.specs.Opened.{faultTest, opening, FieldsAt}
+use Rattle.sheet.specs.Shown.{numberOf}
+use Rattle.sheet.specs.Opened.{faultTest, opening, openingOf, FieldsAt, Finds, Opens}
+use Rattle.sheet.specs.declared.Reason.{Reason}
+use Rattle.sheet.specs.declared.opened.Opened.{Opened}
+use Rattle.sheet.specs.declared.opened.Opened.the-variants.{Ready, Turned}
 
 -- ---- what the reader's check answers
 
@@ -103,11 +107,25 @@ module _ (bytes s : List ℕ) (refuse : ℕ → ℕ → Result) (go : Book → R
 -- a call on sheet s that counts k things, with o lent
 module _ (k : ℕ) (bytes s o : List ℕ) (go : Book → Result) where
   -- where all pass it goes on with the book
-  pub on-ready : pass ≡ opening bytes s → go (bookOf bytes) ≡ onSheet k bytes s o go
+  pub on-ready : pass ≡ opening bytes s → (r : Result) → r ≡ go (bookOf bytes) → r ≡ onSheet k bytes s o go
   unfolding opening
-  on-ready e = go-on bytes s (turned k s o) go (verdict bytes) e
+  on-ready e r d = d ∙ go-on bytes s (turned k s o) go (verdict bytes) e
 
   -- where one fails it is refused
   pub on-turned : (number place : ℕ) → fail number place ≡ opening bytes s → turned k s o number place ≡ onSheet k bytes s o go
   unfolding opening
   on-turned number place e = stop-here bytes s (turned k s o) go (verdict bytes) number place e
+
+-- ---- what the code's answer says
+
+-- book and sheet pass, and the field list is here
+pub record IsOpen (bytes s : List ℕ) (list fields : ℕ) : Type 0 where
+  pub passes : pass ≡ opening bytes s
+  pub at : FieldsAt bytes list fields
+
+module _ (bytes s : List ℕ) (r : Opened) (o : Opens bytes s r) where
+  pub opens-ready : (list fields : ℕ) → r ≡ Ready list fields → IsOpen bytes s list fields
+  opens-ready list fields e = record { passes = sym (ap openingOf e) ∙ o .answers; at = subst (Finds bytes) e (o .finds) }
+
+  pub opens-turned : (reason : Reason) (place : ℕ) → r ≡ Turned reason place → fail (numberOf reason) place ≡ opening bytes s
+  opens-turned reason place e = sym (ap openingOf e) ∙ o .answers
