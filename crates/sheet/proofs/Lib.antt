@@ -3,6 +3,7 @@ pub mod Fields
 pub mod FieldTurns
 pub mod OwnCases
 pub mod PlainMasks
+pub mod ListCases
 pub mod Openings
 pub mod Places
 pub mod CallCases
