@@ -8,3 +8,12 @@ pub mod Members
 pub mod Sums
 pub mod CodeCounts
 pub mod Lines
+pub mod Masks
+pub mod SameLargest
+pub mod Positions
+pub mod Tables
+pub mod AlikeLaws
+pub mod AlikeExample
+pub mod Answers
+pub mod Chains
+pub mod ChainsExample

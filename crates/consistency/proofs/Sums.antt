@@ -5,11 +5,11 @@ use mathlib.Core.Logic.{_⊎_, inl, inr, _≢_}
 use mathlib.Core.Bool.{Bool, true, false, not}
 use mathlib.Core.List.{List, [], _∷_, _++_, List·Memᴰ·head, List·Memᴰ·tail}
 use Prim.Native.Nat.{ℕ, zero, suc, _+_, _<_}
-use native.Mathlib.Nat.{lt-suc-self, not-suc-le-zero}
+use native.Mathlib.Nat.{lt-suc-self, not-suc-le-zero, le-of-suc-le-suc, add-zero, add-suc, suc-add}
 use native.Mathlib.Omega.{arith}
-use lib.ListN.{length, length-append}
+use lib.ListN.{length, getD, length-append}
 use Rattle.format.specs.Basics.{pick}
-use Rattle.consistency.specs.Counting.{howMany, those, sumBelow, sumOver, joinOver}
+use Rattle.consistency.specs.Counting.{howMany, those, sumBelow, sumOver, joinOver, tabulate}
 use Rattle.consistency.specs.Order.{In}
 use Rattle.consistency.proofs.Booleans.{below-suc, below-less}
 
@@ -48,6 +48,19 @@ length-those (suc n) p =
 pub length-join : {A : Type 0} (xs : List ℕ) (g : ℕ → List A) → length (joinOver xs g) ≡ sumOver xs (λ x. length (g x))
 length-join [] g = refl
 length-join (x ∷ xs) g = length-append (g x) (joinOver xs g) ∙ ap (λ (n : ℕ). length (g x) + n) (length-join xs g)
+
+pub length-tabulate : {A : Type 0} (g : ℕ → A) (n i : ℕ) → length (tabulate g n i) ≡ n
+unfolding tabulate
+length-tabulate g zero i = refl
+length-tabulate g (suc n) i = ap suc (length-tabulate g n (suc i))
+
+-- ---- elements
+
+pub tabulate-at : {A : Type 0} (g : ℕ → A) (n i k : ℕ) (z : A) → k < n → getD (tabulate g n i) k z ≡ g (i + k)
+unfolding tabulate
+tabulate-at g zero i k z l = absurd (not-suc-le-zero l)
+tabulate-at g (suc n) i zero z l = ap g (sym (add-zero i))
+tabulate-at g (suc n) i (suc k) z l = tabulate-at g n (suc i) k z (le-of-suc-le-suc l) ∙ ap g (suc-add i k ∙ sym (add-suc i k))
 
 -- ---- a test and its negation
 
