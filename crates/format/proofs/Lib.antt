@@ -15,5 +15,6 @@ pub mod Drops
 pub mod Decode
 pub mod Encode
 pub mod Bytes
+pub mod Accepts
 pub mod Sizes
 pub mod Witness
