@@ -1,3 +1,4 @@
 pub mod Sheets
 pub mod Steps
 pub mod CallLists
+pub mod Cases
