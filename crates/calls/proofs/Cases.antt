@@ -8,6 +8,7 @@ use native.Mathlib.Omega.{arith}
 use borrow.Author.Tests.{le-ltb}
 use lib.ListN.{length, getD, drop, List·getD-append}
 use lib.Dec.{T, ltb}
+use Rattle.format.specs.Basics.{pick}
 use Rattle.format.specs.Format.{Book, bookOf}
 use Rattle.format.specs.Reading.{Accepted}
 use Rattle.consistency.specs.Counting.{sumOver, those}
@@ -21,7 +22,7 @@ use Rattle.consistency.proofs.CodeCounts.{codes-in-ext, outside-ext}
 use Rattle.consistency.proofs.Largest.{largest-is, largest-unique}
 use Rattle.consistency.proofs.Lines.{relaxable-are, lines-are, lines-in-order, length-lines}
 use Rattle.consistency.proofs.Masks.{length-masks, masks-bit}
-use Rattle.calls.specs.Calls.{Result, done, filtered, alternatives}
+use Rattle.calls.specs.Calls.{Result, turned, done, filtered, alternatives}
 use Rattle.calls.specs.Histories.{Answer, none, is, Answers, given, sheetOf}
 use Rattle.calls.specs.Conditions.{Shows, answeredFields, Cases, theSum, theStruck, Lists}
 use Rattle.calls.proofs.Sheets.{accepted-within, Sound, answered-given, Within}
@@ -87,6 +88,10 @@ module _ (b : Book) (w : Within b) (a : Answers) (s : Sound b a) where
 
 -- ---- the calls
 
+-- what listing answers on sheet s with o lent, by the total, the number struck and the lines
+abbrev pub listedWith : List ℕ → List ℕ → ℕ → ℕ → List Line → Result
+listedWith s o n k ls = pick (ltb (length o) (2 * n)) (turned 2 s o 18 0) (done (n ∷ k ∷ []) s (lineBytes ls ++ drop (2 * n) o))
+
 module _ (bytes : List ℕ) (ok : Accepted bytes) (a : Answers) (s : Sound (bookOf bytes) a) (o : List ℕ) where
   abbrev b : Book
   b = bookOf bytes
@@ -97,13 +102,18 @@ module _ (bytes : List ℕ) (ok : Accepted bytes) (a : Answers) (s : Sound (book
   unfolding filtered
   filtered-is h = on-sheet bytes ok a s 0 o _ ∙ rw (le-ltb (length o) (length (b .counts)) h)
 
-  -- listing, with bytes enough lent
-  pub alternatives-is : 2 * total b (sheetOf a) ≤ length o
+  -- listing
+  pub alternatives-on : alternatives bytes (sheetOf a) o
+      ≡ listedWith (sheetOf a) o (total b (sheetOf a)) (struck b (sheetOf a)) (lines b (sheetOf a))
+  unfolding alternatives
+  alternatives-on = on-sheet bytes ok a s 2 o _
+
+  -- with bytes enough lent
+  alternatives-is : 2 * total b (sheetOf a) ≤ length o
       → alternatives bytes (sheetOf a) o
       ≡ done (total b (sheetOf a) ∷ struck b (sheetOf a) ∷ []) (sheetOf a)
       (lineBytes (lines b (sheetOf a)) ++ drop (2 * total b (sheetOf a)) o)
-  unfolding alternatives
-  alternatives-is h = on-sheet bytes ok a s 2 o _ ∙ rw (le-ltb (length o) (2 * total b (sheetOf a)) h)
+  alternatives-is h = alternatives-on ∙ rw (le-ltb (length o) (2 * total b (sheetOf a)) h)
 
   -- so its answer is that of any largest subdomains
   pub alternatives-list : (S : Answer → Subdomain) → Cases b a S → 2 * theSum b a S ≤ length o → Lists b a S o (alternatives bytes (sheetOf a) o)

@@ -2,3 +2,4 @@ pub mod Sheets
 pub mod Steps
 pub mod CallLists
 pub mod Cases
+pub mod AlikeCalls
