@@ -97,10 +97,20 @@ module _ (bytes : List ℕ) (ok : Accepted bytes) (a : Answers) (s : Sound (book
   b = bookOf bytes
 
   -- filtering with nothing relaxed, with numbers enough lent
-  pub filtered-is : length (b .counts) ≤ length o
+  filtered-is : length (b .counts) ≤ length o
       → filtered bytes (sheetOf a) 255 o ≡ done [] (sheetOf a) (masks b (sheetOf a) ++ drop (length (b .counts)) o)
   unfolding filtered
   filtered-is h = on-sheet bytes ok a s 0 o _ ∙ rw (le-ltb (length o) (length (b .counts)) h)
+
+  -- so its bits are the codes of any largest subdomain
+  pub filtered-shows : length (b .counts) ≤ length o → (S : Subdomain) → IsLargest b (sheetOf a) S
+      → (f c : ℕ) → f < length (b .counts) → Shows (filtered bytes (sheetOf a) 255 o .buffer) f c ↔ T (S f c)
+  filtered-shows h S m f c l =
+      T-iff
+      (ap (λ (r : Result). bit (getD (r .buffer) f 0) c) (filtered-is h)
+      ∙ ap (λ (m : ℕ). bit m c) (List·getD-append (masks b (sheetOf a)) (drop (length (b .counts)) o) 0 f (omega (arith, length-masks b (sheetOf a))))
+      ∙ masks-bit b (sheetOf a) f c
+      ∙ largest-unique (largest-is b (sheetOf a)) m f c)
 
   -- listing
   pub alternatives-on : alternatives bytes (sheetOf a) o

@@ -4,3 +4,4 @@ pub mod CallLists
 pub mod Cases
 pub mod AlikeCalls
 pub mod Written
+pub mod Condition3
