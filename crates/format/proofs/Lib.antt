@@ -8,6 +8,7 @@ pub mod Places
 pub mod TableTests
 pub mod AllTables
 pub mod Verdict
+pub mod Numbers
 pub mod Accepted
 pub mod Conditions
 pub mod Tables
