@@ -1,1 +1,3 @@
 pub mod Condition1
+pub mod Accepting
+pub mod Condition2
