@@ -5,3 +5,6 @@ pub mod Cases
 pub mod AlikeCalls
 pub mod Written
 pub mod Condition3
+pub mod Condition1
+pub mod Accepting
+pub mod Condition2

@@ -6,10 +6,11 @@ use mathlib.Core.List.{List, [], _∷_, _++_}
 use mathlib.Core.Bool.{Bool, true, false, not}
 use lib.ListN.{length, getD, drop, replicate}
 use lib.Dec.{T, eqb}
+use Rattle.format.specs.Basics.{pick}
 use Rattle.format.specs.Format.{Book, bookOf}
 use Rattle.format.specs.Reading.{accepted, Accepted}
 use Rattle.consistency.specs.Counting.{sumOver, those}
-use Rattle.consistency.specs.Consistency.{Subdomain, relax, IsLargest}
+use Rattle.consistency.specs.Consistency.{Subdomain, codes, relax, IsLargest}
 use Rattle.consistency.specs.Counts.{codesIn, outside, answered, Line, lineBytes}
 use Rattle.consistency.specs.Order.{InOrder, In}
 use Rattle.consistency.specs.Alike.{Alike}
@@ -91,6 +92,25 @@ Condition2-open =
     → (S : Subdomain) → IsLargest (bookOf bytes) s S
     → (f c : ℕ) → f < length (bookOf bytes .counts) → T (not (answered s f))
     → Shows (filtered bytes s 255 o .buffer) f c ↔ T (S f c)
+
+-- the answers under which plain filtering filters: "The lifted field is a number, or 255 for none"
+abbrev pub filterAnswers : List ℕ → ℕ → List ℕ
+filterAnswers s g = pick (eqb g 255) s (relax s g)
+
+-- "Plain filtering writes one 32-bit number a field, bit c set exactly when code c is in the field's part of the largest subdomain of that
+-- case, all other bits 0"; "Numbers behind the last field keep their contents": o before, o′ after, under answers a
+pub record Filtered (b : Book) (a o o′ : List ℕ) : Type 0 where
+  pub bits : (S : Subdomain) → IsLargest b a S → (f c : ℕ) → f < length (b .counts) → Shows o′ f c ↔ T (S f c)
+  -- no bit is set at the field's number of codes or above
+  pub small : (f : ℕ) → f < length (b .counts) → getD o′ f 0 < 2 ^ codes b f
+  pub behind : drop (length (b .counts)) o′ ≡ drop (length (b .counts)) o
+  pub as-many : length o′ ≡ length o
+
+-- of every field, answered or not, whatever field is relaxed
+abbrev pub Condition2-filter : Type 0
+Condition2-filter =
+    (bytes s : List ℕ) (g : ℕ) (o : List ℕ) → filtered bytes s g o .outcome .number ≡ 0
+    → Filtered (bookOf bytes) (filterAnswers s g) o (filtered bytes s g o .buffer)
 
 -- ---- Condition 3: "One claim about every list of enter, withdraw and clear calls from a fresh sheet"
 
