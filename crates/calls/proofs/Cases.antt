@@ -27,6 +27,7 @@ use Rattle.calls.specs.Histories.{Answer, none, is, Answers, given, shee
 use Rattle.calls.specs.Conditions.{Shows, answeredFields, Cases, theSum, theStruck, Lists}
 use Rattle.calls.proofs.Sheets.{accepted-within, Sound, answered-given, Within}
 use Rattle.calls.proofs.Steps.{on-sheet}
+use Rattle.calls.proofs.Condition2.{condition2-open}
 
 -- equal tests
 T-iff : {x y : Bool} → x ≡ y → T x ↔ T y
@@ -96,21 +97,18 @@ module _ (bytes : List ℕ) (ok : Accepted bytes) (a : Answers) (s : Sound (book
   abbrev b : Book
   b = bookOf bytes
 
-  -- filtering with nothing relaxed, with numbers enough lent
-  filtered-is : length (b .counts) ≤ length o
-      → filtered bytes (sheetOf a) 255 o ≡ done [] (sheetOf a) (masks b (sheetOf a) ++ drop (length (b .counts)) o)
+  -- filtering with nothing relaxed is accepted where numbers enough are lent
+  filtered-accepts : length (b .counts) ≤ length o → filtered bytes (sheetOf a) 255 o .outcome .number ≡ 0
   unfolding filtered
-  filtered-is h = on-sheet bytes ok a s 0 o _ ∙ rw (le-ltb (length o) (length (b .counts)) h)
+  filtered-accepts h =
+      ap (λ (r : Result). r .outcome .number) (on-sheet bytes ok a s 0 o _) ∙ rw (le-ltb (length o) (length (b .counts)) h)
 
   -- so its bits are the codes of any largest subdomain
   pub filtered-shows : length (b .counts) ≤ length o → (S : Subdomain) → IsLargest b (sheetOf a) S
-      → (f c : ℕ) → f < length (b .counts) → Shows (filtered bytes (sheetOf a) 255 o .buffer) f c ↔ T (S f c)
-  filtered-shows h S m f c l =
-      T-iff
-      (ap (λ (r : Result). bit (getD (r .buffer) f 0) c) (filtered-is h)
-      ∙ ap (λ (m : ℕ). bit m c) (List·getD-append (masks b (sheetOf a)) (drop (length (b .counts)) o) 0 f (omega (arith, length-masks b (sheetOf a))))
-      ∙ masks-bit b (sheetOf a) f c
-      ∙ largest-unique (largest-is b (sheetOf a)) m f c)
+      → (f c : ℕ) → f < length (b .counts) → T (not (given (a f))) → Shows (filtered bytes (sheetOf a) 255 o .buffer) f c ↔ T (S f c)
+  filtered-shows h S m f c l t =
+      condition2-open bytes (sheetOf a) o (filtered-accepts h) S m f c l
+      (T-iff (ap not (answered-given b (accepted-within bytes ok) a s f)) .1 t)
 
   -- listing
   pub alternatives-on : alternatives bytes (sheetOf a) o

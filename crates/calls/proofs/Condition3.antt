@@ -25,7 +25,7 @@ after-calls bytes ok calls o =
     record {
       verdicts = numbers-are bytes ok calls;
       sheet = reached;
-      open-are = λ S m f c l t. rw reached (filtered-shows bytes ok a sound numbers (omega arith) S m f c l);
+      open-are = λ S m f c l t. rw reached (filtered-shows bytes ok a sound numbers (omega arith) S m f c l t);
       alternatives-are = λ S cases h. rw reached (alternatives-list bytes ok a sound o S cases h);
     }
 
