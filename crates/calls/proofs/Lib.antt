@@ -8,3 +8,4 @@ pub mod Condition3
 pub mod Condition1
 pub mod Accepting
 pub mod Condition2
+pub mod Instances
