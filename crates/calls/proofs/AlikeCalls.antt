@@ -2,20 +2,18 @@
 use Prim.Native.Nat.{ℕ}
 use mathlib.Core.Path.{_≡_, refl, sym, ap, _∙_, subst}
 use mathlib.Core.List.{List, [], _∷_}
-use lib.ListN.{length, getD}
-use lib.Dec.{ltb, eqb}
+use lib.Dec.{eqb}
 use Rattle.format.specs.Basics.{pick}
 use Rattle.format.specs.Format.{Book, bookOf}
 use Rattle.format.specs.Reading.{Accepted}
-use Rattle.consistency.specs.Counts.{Line, total, struck, lines}
 use Rattle.consistency.specs.Alike.{Alike}
 use Rattle.consistency.proofs.SameLargest.{same-total, same-struck, same-lines}
 use Rattle.consistency.proofs.AlikeLaws.{alike-largest}
-use Rattle.calls.specs.Calls.{Result, freshSheet, alternatives}
-use Rattle.calls.specs.Histories.{Call, enter, withdraw, clear, Answers, given, change, refusalOf, after, answersFrom, answersAfter, noAnswers, sheetOf, results, sheetAfter}
+use Rattle.calls.specs.Calls.{alternatives}
+use Rattle.calls.specs.Histories.{Call, enter, withdraw, clear, Answers, change, refusalOf, after, answersFrom, answersAfter, noAnswers, sheetOf}
 use Rattle.calls.specs.Conditions.{SameResults}
 use Rattle.calls.proofs.Sheets.{Sound}
-use Rattle.calls.proofs.Steps.{stepOf, on-sheet}
+use Rattle.calls.proofs.Steps.{on-sheet}
 use Rattle.calls.proofs.CallLists.{stepsFrom, results-are, sheet-after, sound-after}
 
 -- ---- refusals and answers turn on the field list alone

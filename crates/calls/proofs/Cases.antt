@@ -1,28 +1,26 @@
 -- What filtering and listing answer on the sheet that holds answers, by any largest subdomains of the cases. Assumes nothing.
 use Prim.Native.Nat.{ℕ, _+_, _*_, _≤_, _<_}
-use mathlib.Core.Path.{_≡_, refl, sym, ap, ap₂, _∙_, subst}
+use mathlib.Core.Path.{_≡_, sym, ap, ap₂, _∙_, subst}
 use mathlib.Core.Logic.{_↔_}
 use mathlib.Core.Bool.{Bool, not}
 use mathlib.Core.List.{List, [], _∷_, _++_}
 use native.Mathlib.Omega.{arith}
 use borrow.Author.Tests.{le-ltb}
-use lib.ListN.{length, getD, drop, List·getD-append}
-use lib.Dec.{T, ltb}
-use Rattle.format.specs.Basics.{pick}
+use lib.ListN.{length, drop}
+use lib.Dec.{T}
 use Rattle.format.specs.Format.{Book, bookOf}
 use Rattle.format.specs.Reading.{Accepted}
-use Rattle.consistency.specs.Counting.{sumOver, those}
-use Rattle.consistency.specs.Consistency.{Subdomain, codes, relax, IsLargest}
+use Rattle.consistency.specs.Counting.{sumOver}
+use Rattle.consistency.specs.Consistency.{Subdomain, relax, IsLargest}
 use Rattle.consistency.specs.Largest.{largest}
-use Rattle.consistency.specs.Counts.{codesIn, outside, answered, relaxable, listed, total, struck, Line, lines, lineBytes, bit, masks}
+use Rattle.consistency.specs.Counts.{codesIn, outside, answered, relaxable, total, struck, Line, lines, lineBytes}
 use Rattle.consistency.specs.Order.{In}
 use Rattle.consistency.proofs.Sums.{those-ext, sum-over-ext}
 use Rattle.consistency.proofs.Members.{in-those}
 use Rattle.consistency.proofs.CodeCounts.{codes-in-ext, outside-ext}
 use Rattle.consistency.proofs.Largest.{largest-is, largest-unique}
 use Rattle.consistency.proofs.Lines.{relaxable-are, lines-are, lines-in-order, length-lines}
-use Rattle.consistency.proofs.Masks.{length-masks, masks-bit}
-use Rattle.calls.specs.Calls.{Result, turned, done, filtered, alternatives}
+use Rattle.calls.specs.Calls.{Result, done, filtered, alternatives}
 use Rattle.calls.specs.Histories.{Answer, none, is, Answers, given, sheetOf}
 use Rattle.calls.specs.Conditions.{Shows, answeredFields, Cases, theSum, theStruck, Lists}
 use Rattle.calls.proofs.Sheets.{accepted-within, Sound, answered-given, Within}

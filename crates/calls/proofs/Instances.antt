@@ -5,7 +5,7 @@ use mathlib.Core.Path.{_≡_, refl, sym, ap, subst₂}
 use mathlib.Core.List.{List, [], _∷_}
 use lib.ListN.{replicate}
 use Rattle.format.specs.Basics.{scan, firstBad}
-use Rattle.format.specs.Format.{Book, rowsAt, tableAt, tablesAt, bookOf}
+use Rattle.format.specs.Format.{rowsAt, tableAt, tablesAt, bookOf}
 use Rattle.format.specs.Reading.{Outcome, trailerTest, listTest, rowsStep, tableStep, tablesStep, verdict, reading, Accepted}
 use Rattle.format.specs.Examples.{e1, e1′}
 use Rattle.format.proofs.Witness.{e1-reading}

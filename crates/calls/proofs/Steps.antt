@@ -1,21 +1,21 @@
 -- One call with accepted bytes on the sheet that holds answers: its refusal is the one that the answers give, and its sheet holds the answers
 -- after it. Assumes nothing.
 use Prim.Native.Nat.{ℕ, _<_}
-use mathlib.Core.Path.{_≡_, refl, sym, ap, _∙_}
-use mathlib.Core.Bool.{Bool, true, false, not}
+use mathlib.Core.Path.{_≡_, refl, ap, _∙_}
+use mathlib.Core.Bool.{Bool, true, false}
 use mathlib.Core.List.{List, []}
 use native.Mathlib.Omega.{arith}
-use borrow.Author.Tests.{ltb-true, eqb-true, not-true, not-false}
-use lib.ListN.{length, set}
+use borrow.Author.Tests.{ltb-true, eqb-true}
+use lib.ListN.{length}
 use lib.Dec.{ltb, eqb}
 use Rattle.format.specs.Basics.{pick}
 use Rattle.format.specs.Format.{Book, bookOf}
 use Rattle.format.specs.Reading.{Accepted}
 use Rattle.format.proofs.Picks.{pick-first}
 use Rattle.format.proofs.Accepted.{accepted-verdict}
-use Rattle.consistency.specs.Consistency.{places, codes, answer, relax}
-use Rattle.calls.specs.Calls.{Result, freshSheet, turned, done, onSheet, entered, withdrawn, cleared}
-use Rattle.calls.specs.Histories.{Call, enter, withdraw, clear, Answer, none, is, Answers, given, put, refusalOf, change, after, sheetOf, called}
+use Rattle.consistency.specs.Consistency.{places, codes, answer}
+use Rattle.calls.specs.Calls.{Result, done, onSheet, entered, withdrawn}
+use Rattle.calls.specs.Histories.{Call, enter, withdraw, clear, Answer, none, is, Answers, put, refusalOf, after, sheetOf, called}
 use Rattle.calls.proofs.Sheets.{sheet-fresh, sheet-store, Within, accepted-within, Sound, sound-none, answered-given, no-fault}
 
 -- what the book and the answers before a call give for it: the number of its refusal, and the sheet that holds the answers after it
