@@ -1,3 +1,3 @@
+pub mod CallLaws
 pub mod Condition1
-pub mod Accepting
 pub mod Condition2
