@@ -8,18 +8,19 @@ use native.Mathlib.Omega.{arith}
 use lib.ListN.{length, getD, drop, length-append, length-drop, List·getD-append}
 use lib.Seq.{drop-at}
 use lib.Dec.{T, ltb, eqb}
-use borrow.Author.Tests.{ltb-false, ltb-true, eqb-true}
+use borrow.Author.Tests.{ltb-false, ltb-true, eqb-true, lt-ltb, le-ltb, ne-eqb, not-true}
 use Rattle.format.specs.Basics.{pick}
 use Rattle.format.specs.Format.{Book, bookOf}
-use Rattle.consistency.specs.Consistency.{codes, answer, relax}
+use Rattle.format.specs.Reading.{pass, verdict}
+use Rattle.consistency.specs.Consistency.{places, codes, answer, relax}
 use Rattle.consistency.specs.Largest.{largest}
 use Rattle.consistency.specs.Counts.{bit, masks, answered}
-use Rattle.consistency.proofs.Booleans.{true-T}
+use Rattle.consistency.proofs.Booleans.{true-T, T-true}
 use Rattle.consistency.proofs.Largest.{largest-is, largest-unique}
 use Rattle.consistency.proofs.Masks.{mask-lt, masks-at, masks-bit, length-masks}
-use Rattle.calls.specs.Calls.{Result, done, masksInto, filtered}
+use Rattle.calls.specs.Calls.{Result, done, faultOf, masksInto, filtered}
 use Rattle.calls.specs.Conditions.{Condition2-open, filterAnswers, Filtered, Condition2-filter}
-use Rattle.calls.proofs.CallLaws.{Where, pick-cases, pass-where, fail-where, sheet-where}
+use Rattle.calls.proofs.CallLaws.{Where, pick-cases, pass-where, fail-where, sheet-where, sheet-go}
 
 -- ---- the numbers written
 
@@ -88,6 +89,17 @@ filter-accepted bytes s g o =
     pick-cases (Where F) (eqb g 255) (none-where b s g o) (λ t.
     fail-where F 0 s o (ltb g (length (b .counts))) 15 (omega arith) (λ l.
     pass-where F 0 s o (eqb (answer s g) 255) 17 (omega arith) (one-where b s g o t l))))
+
+-- the other way: where the book passes, no place is at fault, field g has an answer and numbers enough are lent
+pub filter-accepts : (bytes s : List ℕ) (g : ℕ) (o : List ℕ) → verdict bytes ≡ pass → places ≤ faultOf (bookOf bytes) s → g ≢ 255
+    → g < length (bookOf bytes .counts) → T (answered s g) → length (bookOf bytes .counts) ≤ length o
+    → filtered bytes s g o .outcome .number ≡ 0
+unfolding filtered
+filter-accepts bytes s g o p w n l t enough =
+    let b : Book = bookOf bytes in
+    let u : eqb (answer s g) 255 ≡ false = not-true (eqb (answer s g) 255) (T-true t) in
+    ap (λ (r : Result). r .outcome .number) (sheet-go 0 bytes s o _ p w)
+    ∙ simp (ne-eqb g 255 n, lt-ltb g (length (b .counts)) l, u, le-ltb (length o) (length (b .counts)) enough)
 
 -- ---- the condition
 

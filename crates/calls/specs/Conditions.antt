@@ -112,6 +112,23 @@ Condition2-filter =
     (bytes s : List ℕ) (g : ℕ) (o : List ℕ) → filtered bytes s g o .outcome .number ≡ 0
     → Filtered (bookOf bytes) (filterAnswers s g) o (filtered bytes s g o .buffer)
 
+-- "A plain filtering with one chosen field lifted is offered beside it and must agree with it": what plain filtering with f relaxed answers,
+-- plain, and what alternatives answers with o lent, whole
+pub record Agrees (f : ℕ) (o : List ℕ) (plain whole : Result) : Type 0 where
+  pub accepts : plain .outcome .number ≡ 0
+  pub list : List Line
+  pub total : getD (whole .outcome .counts) 0 0 ≡ length list
+  pub written : whole .buffer ≡ lineBytes list ++ drop (2 * length list) o
+  -- the lines of f are the codes that its number shows
+  pub same : (c : ℕ) → In (record { field = f; code = c }) list ↔ Shows (plain .buffer) f c
+
+-- for each answered field, wherever alternatives accepts and numbers enough are lent
+abbrev pub Agreement : Type 0
+Agreement =
+    (bytes s o o′ : List ℕ) → alternatives bytes s o .outcome .number ≡ 0 → length (bookOf bytes .counts) ≤ length o′
+    → (f : ℕ) → f < length (bookOf bytes .counts) → T (answered s f)
+    → Agrees f o (filtered bytes s f o′) (alternatives bytes s o)
+
 -- ---- Condition 3: "One claim about every list of enter, withdraw and clear calls from a fresh sheet"
 
 abbrev pub numbers : List Result → List ℕ
