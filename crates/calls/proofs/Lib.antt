@@ -1,3 +1,11 @@
 pub mod CallLaws
+pub mod Sheets
+pub mod Steps
+pub mod CallLists
+pub mod Cases
+pub mod AlikeCalls
+pub mod Written
+pub mod Condition3
 pub mod Condition1
 pub mod Condition2
+pub mod Instances

@@ -20,12 +20,14 @@ once = record { fields = 0 ∷ 2 ∷ []; rows = (0 ∷ 0 ∷ []) ∷ (0 ∷ 1 �
 abbrev pub second : Table
 second = record { fields = 1 ∷ 2 ∷ []; rows = (0 ∷ 0 ∷ []) ∷ (1 ∷ 1 ∷ []) ∷ (1 ∷ 2 ∷ []) ∷ (2 ∷ 2 ∷ []) ∷ [] }
 
+-- E1, and the other book
 abbrev pub example : Book
 example = record { version = 1; counts = 2 ∷ 3 ∷ 3 ∷ []; tables = repeating ∷ second ∷ [] }
 
 abbrev pub turned : Book
 turned = record { version = 1; counts = 2 ∷ 3 ∷ 3 ∷ []; tables = second ∷ once ∷ [] }
 
+-- each row of either first table stands in the other
 there : RowsIn repeating once
 there zero l = (0, omega arith, refl)
 there (suc zero) l = (1, omega arith, refl)

@@ -1,6 +1,6 @@
 -- Answers as tables of one row, as in source 004, say what answers as bounds of the subdomain say; to relax a field is to leave its table
 -- out. Assumes nothing.
-use Prim.Native.Nat.{ℕ, zero, suc, _+_, _-_, _<_}
+use Prim.Native.Nat.{ℕ, zero, suc, _+_, _-_, _≤_, _<_}
 use mathlib.Core.Path.{_≡_, refl, sym, ap, _∙_, subst}
 use mathlib.Core.Logic.{_≢_, _↔_, ∥∥₁-elim}
 use mathlib.Core.Bool.{Bool, not, _&&_}
@@ -16,14 +16,16 @@ use Rattle.consistency.specs.Counting.{those}
 use Rattle.consistency.specs.Counts.{answered, relaxable}
 use Rattle.consistency.specs.Unary.{answerTable, answerTables, withAnswers}
 use Rattle.consistency.proofs.Booleans.{T-ext, and-in, and-left, and-right, eq→eqb}
-use Rattle.consistency.proofs.Members.{in-those, those-in}
+use Rattle.consistency.proofs.Members.{in-those}
 use Rattle.consistency.proofs.Positions.{at-in, in-at}
 use Rattle.consistency.proofs.Sums.{those-ext}
 use Rattle.consistency.proofs.CodeCounts.{field-in}
+use Rattle.consistency.proofs.Lines.{relaxable-are}
 use Rattle.consistency.proofs.Tables.{Supported}
 
 -- ---- a field with an answer
 
+-- the test says that the answer is not 255
 answered-in : (a : List ℕ) (f : ℕ) → answer a f ≢ 255 → T (answered a f)
 answered-in a f n = not-T (eqb (answer a f) 255) (λ t. n (eqb→eq (answer a f) 255 t))
 
@@ -32,10 +34,12 @@ answered-out a f t e = T-not (eqb (answer a f) 255) t (eq→eqb e)
 
 -- a field with a table of its own is answered
 relaxable-answered : (b : Book) (a : List ℕ) (n : ℕ) → n < length (relaxable b a) → answer a (getD (relaxable b a) n 0) ≢ 255
-relaxable-answered b a n l = answered-out a (getD (relaxable b a) n 0) (in-those (length (b .counts)) (answered a) (at-in 0 (relaxable b a) n l) .1)
+relaxable-answered b a n l =
+    answered-out a (getD (relaxable b a) n 0) (relaxable-are b a (getD (relaxable b a) n 0) .0 (at-in 0 (relaxable b a) n l) .1)
 
 -- ---- the tables of the book with its answers
 
+-- the n-th of the answers' tables
 table-at : (a fs : List ℕ) (d : Table) (n : ℕ) → n < length fs → getD (answerTables a fs) n d ≡ answerTable a (getD fs n 0)
 table-at a [] d n l = absurd (omega arith)
 table-at a (f ∷ fs) d zero l = refl
@@ -58,6 +62,11 @@ module _ (b : Book) (a : List ℕ) where
   added-in : (n : ℕ) → n < length (relaxable b a) → length (b .tables) + n < length (withAnswers b a .tables)
   added-in n l = simp (length-append, length-map) (omega arith)
 
+  -- and no others
+  added-all : (i : ℕ) → length (b .tables) ≤ i → i < length (withAnswers b a .tables)
+      → (n : ℕ) × (n < length (relaxable b a)) × (length (b .tables) + n ≡ i)
+  added-all i h l = (i - length (b .tables), omega (arith, simp (length-append, length-map) at l), omega arith)
+
 -- the one row of an answer's table supports the answer, and nothing else
 answer-supports : {S : Subdomain} (a : List ℕ) (f g c : ℕ) → (g ≡ f → answer a g ≡ c) → Supported S f c (answerTable a g)
 answer-supports a f g c h zero l e = record { row = 0; row-in = omega arith; there = h e; others = λ k m n. absurd (n (omega arith)) }
@@ -72,6 +81,7 @@ supports-answer a f g c e h =
 -- ---- the two forms
 
 module _ (b : Book) (a : List ℕ) (S : Subdomain) where
+  -- each added table has the one code that the answer leaves
   fits-tables : Fits b a S → Fits (withAnswers b a) [] S
   fits-tables h =
       record {
@@ -80,29 +90,29 @@ module _ (b : Book) (a : List ℕ) (S : Subdomain) where
         within = λ f c n t. absurd (n refl);
       }
     where
-      -- the answer of the field of the n-th table added is c, where that field is f
-      held : (f c : ℕ) → T (S f c) → (n : ℕ) → n < length (relaxable b a)
-          → getD (relaxable b a) n 0 ≡ f → answer a (getD (relaxable b a) n 0) ≡ c
-      held f c t n l e = ap (answer a) e ∙ sym (h .within f c (λ o. relaxable-answered b a n l (ap (answer a) e ∙ o)) t)
+      -- the n-th table added: where its field is f, its answer is c
+      added-supported : (f c : ℕ) → T (S f c) → (n : ℕ) → n < length (relaxable b a) → Supported S f c (answerTable a (getD (relaxable b a) n 0))
+      added-supported f c t n l =
+          answer-supports a f (getD (relaxable b a) n 0) c
+          (λ e. ap (answer a) e ∙ sym (h .within f c (λ o. relaxable-answered b a n l (ap (answer a) e ∙ o)) t))
 
+      -- a table of the book, or one added
       turn : (f c : ℕ) → T (S f c) → (i : ℕ) → i < length (withAnswers b a .tables)
           → Dec (i < length (b .tables)) → Supported S f c (nth (withAnswers b a) i)
       turn f c t i l (yes m) = subst (Supported S f c) (sym (own b a i m)) (h .consistent f c t i m)
       turn f c t i l (no m) =
-          let n : ℕ = i - length (b .tables) in
-          let at : length (b .tables) + n ≡ i = omega arith in
-          let n-in : n < length (relaxable b a) = omega (arith, simp (length-append, length-map) at l) in
-          let table : answerTable a (getD (relaxable b a) n 0) ≡ nth (withAnswers b a) i =
-          sym (added b a n n-in) ∙ ap (nth (withAnswers b a)) at in
-          subst (Supported S f c) table (answer-supports a f (getD (relaxable b a) n 0) c (held f c t n n-in))
+          let w = added-all b a i (omega arith) l in
+          subst (λ (k : ℕ). Supported S f c (nth (withAnswers b a) k)) (w .2)
+          (subst (Supported S f c) (sym (added b a (w .0) (w .1))) (added-supported f c t (w .0) (w .1)))
 
+  -- a field with a code is in the field list, so that its answer has a table
   fits-answers : Fits (withAnswers b a) [] S → Fits b a S
   fits-answers h =
       record {
         of-book = h .of-book;
         consistent = λ f c t i l. subst (Supported S f c) (own b a i l) (h .consistent f c t i (own-in b a i l));
         within = λ f c n t.
-            let w = in-at 0 (those-in (length (b .counts)) (answered a) (field-in b f c (h .of-book f c t)) (answered-in a f n)) in
+            let w = in-at 0 (relaxable-are b a f .1 (field-in b f c (h .of-book f c t), answered-in a f n)) in
             let s = h .consistent f c t (length (b .tables) + w .0) (added-in b a (w .0) (w .1)) in
             let g : ℕ = getD (relaxable b a) (w .0) 0 in
             sym (supports-answer a f g c (w .2) (subst (Supported S f c) (added b a (w .0) (w .1)) s)) ∙ ap (answer a) (w .2);

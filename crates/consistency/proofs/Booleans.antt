@@ -1,5 +1,5 @@
 -- What computed tests say: `&&`, `||`, `not`, equality of numbers, and a test at each number below n, or at some. Assumes nothing.
-use mathlib.Core.Path.{_≡_, refl, sym, ap, ap₂, subst}
+use mathlib.Core.Path.{_≡_, refl, sym, subst}
 use mathlib.Core.Logic.{_⊎_, inl, inr, ⊎-elim}
 use mathlib.Core.Bool.{Bool, true, false, not, _&&_, _||_}
 use Prim.Native.Nat.{ℕ, zero, suc, _<_}
@@ -100,8 +100,8 @@ any-out (suc n) p t =
 -- tests that are equal at each number below n
 pub all-ext : (n : ℕ) (p q : ℕ → Bool) → ((k : ℕ) → k < n → p k ≡ q k) → allBelow n p ≡ allBelow n q
 all-ext zero p q h = refl
-all-ext (suc n) p q h = ap₂ _&&_ (all-ext n p q (below-less (λ k. p k ≡ q k) h)) (h n (lt-suc-self n))
+all-ext (suc n) p q h = rw (all-ext n p q (below-less (λ k. p k ≡ q k) h), h n (lt-suc-self n))
 
 pub any-ext : (n : ℕ) (p q : ℕ → Bool) → ((k : ℕ) → k < n → p k ≡ q k) → anyBelow n p ≡ anyBelow n q
 any-ext zero p q h = refl
-any-ext (suc n) p q h = ap₂ _||_ (any-ext n p q (below-less (λ k. p k ≡ q k) h)) (h n (lt-suc-self n))
+any-ext (suc n) p q h = rw (any-ext n p q (below-less (λ k. p k ≡ q k) h), h n (lt-suc-self n))

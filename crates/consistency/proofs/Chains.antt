@@ -8,14 +8,16 @@ use lib.ListN.{length, set}
 use lib.Seq.{getD-set-other}
 use lib.Dec.{T, eqb, ltb}
 use Rattle.format.specs.Format.{Table, Book}
-use Rattle.consistency.specs.Consistency.{codes, nth, fieldOf, answer}
-use Rattle.consistency.specs.Largest.{Domains, has, remove, count, bookSupports, allowed, start, rounds, largest}
+use Rattle.consistency.specs.Consistency.{nth, fieldOf}
+use Rattle.consistency.specs.Largest.{Domains, has, remove, count, bookSupports, start, rounds, largest}
 use Rattle.consistency.specs.Ties.{FieldIn, Tied, TablesAround, SameAround}
 use Rattle.consistency.proofs.Booleans.{T-ext}
 use Rattle.consistency.proofs.Supports.{SupportedIn, book-in, book-out}
 use Rattle.consistency.proofs.Removals.{remove-at}
 use Rattle.consistency.proofs.Rounds.{start-at, enough-rounds}
 use Rattle.consistency.proofs.Tables.{same-alike, supported-moves}
+
+-- ---- chains
 
 -- every field of the table is tied to f
 abbrev AllTied : Book → ℕ → Table → Type 0
@@ -25,11 +27,23 @@ AllTied b f t = (k : ℕ) → k < length (t .fields) → Tied b f (fieldOf t k)
 all-tied : {b : Book} {f g : ℕ} → Tied b f g → (i : ℕ) → i < length (b .tables) → FieldIn g (nth b i) → AllTied b f (nth b i)
 all-tied {b} t i l w k h = Tied.step t i l w (fieldOf (nth b i) k) (k, h, refl)
 
+-- one chain behind another, and a chain backwards
+pub tied-trans : {b : Book} {f g h : ℕ} → Tied b f g → Tied b g h → Tied b f h
+tied-trans t Tied.here = t
+tied-trans t (Tied.step u i l w h v) = Tied.step (tied-trans t u) i l w h v
+
+pub tied-sym : {b : Book} {f g : ℕ} → Tied b f g → Tied b g f
+tied-sym Tied.here = Tied.here
+tied-sym (Tied.step {g = g} t i l w h v) = tied-trans (Tied.step Tied.here i l v g w) (tied-sym t)
+
+-- ---- what is the same around f
+
 module _ {b d : Book} {a e : List ℕ} {f : ℕ} (same : SameAround b d a e f) where
   -- the two have the same codes at each field tied to f
   abbrev Agree : Domains → Domains → Type 0
   Agree m n = (g : ℕ) → Tied b f g → (c : ℕ) → has m g c ≡ has n g c
 
+  -- what the answers allow is the same there
   start-agrees : Agree (start b a) (start d e)
   start-agrees g t c =
       start-at b a g c
@@ -59,6 +73,7 @@ module _ {b d : Book} {a e : List ℕ} {f : ℕ} (same : SameAround b d a e f) w
         (λ s. book-in b (has m) g c (supported-back g t c (book-out d (has n) g c s))))
         ∙ sym (remove-at (bookSupports d (has n)) n g c)
 
+  -- and so do as many rounds in the one as in the other
   rounds-agree : (k : ℕ) (m n : Domains) → Agree m n → Agree (rounds b k m) (rounds d k n)
   unfolding rounds
   rounds-agree zero m n h = h
@@ -73,7 +88,9 @@ module _ {b d : Book} {a e : List ℕ} {f : ℕ} (same : SameAround b d a e f) w
       ∙ rounds-agree k (start b a) (start d e) start-agrees g t c
       ∙ ap (λ (m : Domains). has m g c) (enough-rounds d e k (omega arith))
 
--- "A field that becomes empty has no effect on fields that no chain of tables ties to it": another answer at field h has none ..
+-- ---- what no chain ties to f
+
+-- an answer at a field that is not tied to f has no effect on the fields that are
 pub untied-answer : (b : Book) (a : List ℕ) (f h : ℕ) → (Tied b f h → ⊥) → (x g : ℕ) → Tied b f g → (c : ℕ)
     → largest b (set a h x) g c ≡ largest b a g c
 untied-answer b a f h untied x =
@@ -85,11 +102,16 @@ untied-answer b a f h untied x =
       back = λ g t i l w. (i, l, refl);
     })
 
+-- "A field that becomes empty has no effect on fields that no chain of tables ties to it": whatever the answer at h, and so what is left
+-- of h's codes, each field g that no chain ties to h keeps its codes
+pub no-chain : (b : Book) (a : List ℕ) (h g : ℕ) → (Tied b h g → ⊥) → (x c : ℕ) → largest b (set a h x) g c ≡ largest b a g c
+no-chain b a h g untied x c = untied-answer b a g h (λ t. untied (tied-sym t)) x g Tied.here c
+
 -- the book with a table more
 abbrev pub withTable : Table → Book → Book
 withTable u b = record { version = b .version; counts = b .counts; tables = u ∷ b .tables }
 
--- .. nor a further table, none of whose fields is tied to f, though it may have no rows and empty its fields
+-- the same of a further table, which may have no rows and so empty its fields
 pub untied-table : (b : Book) (a : List ℕ) (f : ℕ) (u : Table) → ((h : ℕ) → FieldIn h u → Tied b f h → ⊥)
     → (g : ℕ) → Tied b f g → (c : ℕ) → largest (withTable u b) a g c ≡ largest b a g c
 untied-table b a f u untied g t c =

@@ -28,6 +28,7 @@ alone : {g : ℕ} → Tied free 0 g → g ≡ 0
 alone Tied.here = refl
 alone (Tied.step t i l w h v) = absurd (omega arith)
 
+-- the table has field 1 alone
 only-field : {h : ℕ} → FieldIn h emptying → h ≡ 1
 only-field (zero, l, e) = sym e
 only-field (suc j, l, e) = absurd (omega arith)

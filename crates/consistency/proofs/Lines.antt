@@ -2,7 +2,7 @@
 use mathlib.Core.Path.{_≡_, refl, sym, ap, _∙_, subst, subst₂}
 use mathlib.Core.Logic.{_↔_}
 use mathlib.Core.List.{List, [], _∷_, Memᴰ·map}
-use Prim.Native.Nat.{ℕ, _+_, _*_, _<_}
+use Prim.Native.Nat.{ℕ, _*_, _<_}
 use native.Mathlib.Omega.{arith}
 use lib.ListN.{length, length-map}
 use lib.Dec.{T}
@@ -19,6 +19,7 @@ use Rattle.consistency.proofs.Largest.{largest-is}
 pub relaxable-are : (b : Book) (a : List ℕ) (f : ℕ) → In f (relaxable b a) ↔ ((f < length (b .counts)) × T (answered a f))
 relaxable-are b a f = (in-those (length (b .counts)) (answered a), λ h. those-in (length (b .counts)) (answered a) (h .0) (h .1))
 
+-- field f, code c
 abbrev line : ℕ → ℕ → Line
 line f c = record { field = f; code = c }
 
@@ -27,35 +28,13 @@ module _ (b : Book) (a : List ℕ) where
   abbrev alternatives : ℕ → List ℕ
   alternatives f = those (codes b f) (listed b a f)
 
+  -- the lines of field f
   abbrev fieldLines : ℕ → List Line
   fieldLines f = linesOf b (listed b a f) f
 
-  -- a line of field f has that field, and a code that is listed
+  -- a line of field f has that field
   line-field : (f : ℕ) {l : Line} → In l (fieldLines f) → l .field ≡ f
   line-field f m = ap (λ (x : Line). x .field) (in-map (line f) (alternatives f) m .2)
-
-  line-listed : (f : ℕ) {l : Line} → In l (fieldLines f) → T (listed b a f (l .code))
-  line-listed f {l} m =
-      let r = in-map (line f) (alternatives f) m in
-      subst (λ (c : ℕ). T (listed b a f c)) (sym (ap (λ (x : Line). x .code) (r .2))) (in-those (codes b f) (listed b a f) (r .1) .1)
-
-  -- a listed code is a code of the book
-  listed-in : (f c : ℕ) → T (listed b a f c) → In c (alternatives f)
-  listed-in f c t = those-in (codes b f) (listed b a f) (largest-is b (relax a f) .fits .of-book f c t) t
-
-  -- a line is there exactly when its field is answered and its code is one of the field's alternatives
-  pub lines-are : (l : Line) → In l (lines b a) ↔ (In (l .field) (relaxable b a) × T (listed b a (l .field) (l .code)))
-  unfolding lines
-  lines-are l = (
-    λ m.
-        let r = in-join fieldLines (relaxable b a) m in
-        let e : l .field ≡ r .0 = line-field (r .0) (r .2) in
-        (
-          subst (λ (f : ℕ). In f (relaxable b a)) (sym e) (r .1),
-          subst (λ (f : ℕ). T (listed b a f (l .code))) (sym e) (line-listed (r .0) (r .2)),
-        ),
-    λ h. join-in fieldLines (relaxable b a) (h .0) (Memᴰ·map (line (l .field)) (listed-in (l .field) (l .code) (h .1))),
-  )
 
   -- by field, then code
   pub lines-in-order : InOrder (lines b a)
@@ -73,6 +52,29 @@ module _ (b : Book) (a : List ℕ) where
       length-join (relaxable b a) fieldLines
       ∙ sum-over-ext (relaxable b a) (λ f. length (fieldLines f)) (λ f. howMany (codes b f) (listed b a f))
       (λ f m. length-map (alternatives f) (line f) ∙ length-those (codes b f) (listed b a f))
+
+  -- a line of field f has a code that is listed
+  line-listed : (f : ℕ) {l : Line} → In l (fieldLines f) → T (listed b a f (l .code))
+  line-listed f {l} m =
+      let r = in-map (line f) (alternatives f) m in
+      subst (λ (c : ℕ). T (listed b a f c)) (sym (ap (λ (x : Line). x .code) (r .2))) (in-those (codes b f) (listed b a f) (r .1) .1)
+
+  -- a listed code is a code of the book
+  listed-in : (f c : ℕ) → T (listed b a f c) → In c (alternatives f)
+  listed-in f c t = those-in (codes b f) (listed b a f) (largest-is b (relax a f) .fits .of-book f c t) t
+
+  -- a line is there exactly when its field is answered and its code is one of the field's alternatives
+  pub lines-are : (l : Line) → In l (lines b a) ↔ (In (l .field) (relaxable b a) × T (listed b a (l .field) (l .code)))
+  unfolding lines
+  lines-are l = (
+    λ m.
+        let r = in-join fieldLines (relaxable b a) m in
+        let e : l .field ≡ r .0 = line-field (r .0) (r .2) in (
+          subst (λ (f : ℕ). In f (relaxable b a)) (sym e) (r .1),
+          subst (λ (f : ℕ). T (listed b a f (l .code))) (sym e) (line-listed (r .0) (r .2)),
+        ),
+    λ h. join-in fieldLines (relaxable b a) (h .0) (Memᴰ·map (line (l .field)) (listed-in (l .field) (l .code) (h .1))),
+  )
 
 -- two bytes a line
 pub length-line-bytes : (ls : List Line) → length (lineBytes ls) ≡ 2 * length ls

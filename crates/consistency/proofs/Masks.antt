@@ -1,5 +1,5 @@
 -- The masks: bit c of a field's number is set exactly when code c is in its part of the largest subdomain. Assumes nothing.
-use mathlib.Core.Path.{_≡_, refl, sym, ap, ap₂, _∙_, subst}
+use mathlib.Core.Path.{_≡_, refl, sym, ap, _∙_, subst}
 use mathlib.Core.Logic.{⊎-elim}
 use mathlib.Core.Bool.{Bool, true, false, _&&_}
 use mathlib.Core.List.{List}
@@ -9,7 +9,7 @@ use native.Mathlib.Decide.{decLt}
 use native.Mathlib.Omega.{arith}
 use lib.ListN.{length, getD, List·getD-eq-default}
 use lib.Pow.{pow-pos, pow-mono, pow-add, high}
-use lib.Dec.{T, eqb, ltb, lt→ltb}
+use lib.Dec.{eqb, ltb, lt→ltb}
 use borrow.Author.Tests.{lt-ltb, le-ltb}
 use Rattle.format.specs.Basics.{pick}
 use Rattle.format.specs.Format.{Book}
@@ -26,8 +26,9 @@ use Rattle.consistency.proofs.Largest.{largest-is}
 pub mask-ext : (n : ℕ) (p q : ℕ → Bool) → ((k : ℕ) → k < n → p k ≡ q k) → mask n p ≡ mask n q
 mask-ext zero p q h = refl
 mask-ext (suc n) p q h =
-    ap₂ (λ (x : ℕ) (y : Bool). x + pick y (2 ^ n) 0) (mask-ext n p q (below-less (λ k. p k ≡ q k) h)) (h n (lt-suc-self n))
+    rw (mask-ext n p q (below-less (λ k. p k ≡ q k) h), h n (lt-suc-self n))
 
+-- adding 2 ^ n or nothing to n bits gives n + 1 bits
 one-more-lt : (n m : ℕ) (x : Bool) → m < 2 ^ n → m + pick x (2 ^ n) 0 < 2 ^ suc n
 one-more-lt n m true l = omega (arith, pow-suc 2 n)
 one-more-lt n m false l = omega (arith, pow-suc 2 n)
@@ -55,6 +56,7 @@ bit-at m n true l =
     ap (λ (k : ℕ). bit k n) (add-comm m (2 ^ n) ∙ ap (_+ m) (sym (one-mul (2 ^ n)))) ∙ ap (λ (k : ℕ). eqb (k % 2) 1) (high 1 n l)
 bit-at m n false l = ap (λ (k : ℕ). bit k n) (add-zero m) ∙ ap (λ (k : ℕ). eqb (k % 2) 1) (div-eq-of-lt l)
 
+-- bit c is p c, for c below n
 mask-bit-in : (n : ℕ) (p : ℕ → Bool) (c : ℕ) → c < n → bit (mask n p) c ≡ p c
 mask-bit-in zero p c l = absurd (not-suc-le-zero l)
 mask-bit-in (suc n) p c l =
@@ -75,6 +77,7 @@ mask-bit n p c = at (decLt c n)
 -- ---- the masks of a book
 
 module _ (b : Book) (a : List ℕ) where
+  -- one number a field
   pub length-masks : length (masks b a) ≡ length (b .counts)
   unfolding masks
   length-masks = length-tabulate (λ f. mask (codes b f) (largest b a f)) (length (b .counts)) 0

@@ -35,6 +35,7 @@ module _ {t u : Table} (a : AlikeTables t u) {R S : Subdomain} (i : InsideAt t R
             rw (a .same-fields, q .2) (i k l′ (codeOf t (s .row) k) (s .others k l′ n));
       }
 
+  -- so a code that has its supports in the one has them in the other
   pub supported-moves : (f c : ℕ) → Supported R f c t → Supported S f c u
   supported-moves f c h j l e =
       support-moves j c

@@ -1,0 +1,141 @@
+-- What filtering and listing answer on the sheet that holds answers, by any largest subdomains of the cases. Assumes nothing.
+use Prim.Native.Nat.{ℕ, _+_, _*_, _≤_, _<_}
+use mathlib.Core.Path.{_≡_, refl, sym, ap, ap₂, _∙_, subst}
+use mathlib.Core.Logic.{_↔_}
+use mathlib.Core.Bool.{Bool, not}
+use mathlib.Core.List.{List, [], _∷_, _++_}
+use native.Mathlib.Omega.{arith}
+use borrow.Author.Tests.{le-ltb}
+use lib.ListN.{length, getD, drop, List·getD-append}
+use lib.Dec.{T, ltb}
+use Rattle.format.specs.Basics.{pick}
+use Rattle.format.specs.Format.{Book, bookOf}
+use Rattle.format.specs.Reading.{Accepted}
+use Rattle.consistency.specs.Counting.{sumOver, those}
+use Rattle.consistency.specs.Consistency.{Subdomain, codes, relax, IsLargest}
+use Rattle.consistency.specs.Largest.{largest}
+use Rattle.consistency.specs.Counts.{codesIn, outside, answered, relaxable, listed, total, struck, Line, lines, lineBytes, bit, masks}
+use Rattle.consistency.specs.Order.{In}
+use Rattle.consistency.proofs.Sums.{those-ext, sum-over-ext}
+use Rattle.consistency.proofs.Members.{in-those}
+use Rattle.consistency.proofs.CodeCounts.{codes-in-ext, outside-ext}
+use Rattle.consistency.proofs.Largest.{largest-is, largest-unique}
+use Rattle.consistency.proofs.Lines.{relaxable-are, lines-are, lines-in-order, length-lines}
+use Rattle.consistency.proofs.Masks.{length-masks, masks-bit}
+use Rattle.calls.specs.Calls.{Result, turned, done, filtered, alternatives}
+use Rattle.calls.specs.Histories.{Answer, none, is, Answers, given, sheetOf}
+use Rattle.calls.specs.Conditions.{Shows, answeredFields, Cases, theSum, theStruck, Lists}
+use Rattle.calls.proofs.Sheets.{accepted-within, Sound, answered-given, Within}
+use Rattle.calls.proofs.Steps.{on-sheet}
+use Rattle.calls.proofs.Condition2.{condition2-open}
+
+-- equal tests
+T-iff : {x y : Bool} → x ≡ y → T x ↔ T y
+T-iff e = (subst T e, subst T (sym e))
+
+-- ---- the cases
+
+-- there are largest subdomains for them
+pub cases-are : (b : Book) (a : Answers) → (S : Answer → Subdomain) × Cases b a S
+cases-are b a = (largestOf, record { nothing = largest-is b (sheetOf a); alone = λ f t. largest-is b (relax (sheetOf a) f) })
+  where
+    largestOf : Answer → Subdomain
+    largestOf none = largest b (sheetOf a)
+    largestOf (is f) = largest b (relax (sheetOf a) f)
+
+module _ (b : Book) (w : Within b) (a : Answers) (s : Sound b a) where
+  -- the fields that get a case of their own
+  pub fields-are : relaxable b (sheetOf a) ≡ answeredFields b a
+  fields-are = those-ext (length (b .counts)) (answered (sheetOf a)) (λ f. given (a f)) (λ f l. answered-given b w a s f)
+
+  -- the sums over them, by what is the same in each case
+  over-fields : (g h : ℕ → ℕ) → ((f : ℕ) → T (given (a f)) → g f ≡ h f) → sumOver (relaxable b (sheetOf a)) g ≡ sumOver (answeredFields b a) h
+  over-fields g h same =
+      ap (λ (fs : List ℕ). sumOver fs g) fields-are
+      ∙ sum-over-ext (answeredFields b a) g h (λ f m. same f (in-those (length (b .counts)) (λ f. given (a f)) m .1))
+
+  module _ (S : Answer → Subdomain) (cases : Cases b a S) where
+    alone-same : (f : ℕ) → T (given (a f)) → (g c : ℕ) → largest b (relax (sheetOf a) f) g c ≡ S (is f) g c
+    alone-same f t = largest-unique (largest-is b (relax (sheetOf a) f)) (cases .alone f t)
+
+    pub total-sum : total b (sheetOf a) ≡ theSum b a S
+    unfolding total codesIn
+    total-sum =
+        over-fields (λ f. codesIn b (largest b (relax (sheetOf a) f)) f) (λ f. codesIn b (S (is f)) f)
+        (λ f t. codes-in-ext b (largest b (relax (sheetOf a) f)) (S (is f)) (λ g c l. alone-same f t g c) f)
+
+    pub struck-sum : struck b (sheetOf a) ≡ theStruck b a S
+    unfolding struck
+    struck-sum =
+        ap₂ _+_ (outside-ext b (largest b (sheetOf a)) (S none) (λ g c l. largest-unique (largest-is b (sheetOf a)) (cases .nothing) g c))
+        (over-fields (λ f. outside b (largest b (relax (sheetOf a) f))) (λ f. outside b (S (is f)))
+        (λ f t. outside-ext b (largest b (relax (sheetOf a) f)) (S (is f)) (λ g c l. alone-same f t g c)))
+
+    -- the lines are the alternatives of the answered fields, and no other
+    pub lines-exactly : (l : Line) → In l (lines b (sheetOf a))
+        ↔ ((l .field < length (b .counts)) × (T (given (a (l .field))) × T (S (is (l .field)) (l .field) (l .code))))
+    lines-exactly l = (
+      λ m.
+          let h = lines-are b (sheetOf a) l .0 m in
+          let k = relaxable-are b (sheetOf a) (l .field) .0 (h .0) in
+          let t = T-iff (answered-given b w a s (l .field)) .0 (k .1) in
+          (k .0, (t, T-iff (alone-same (l .field) t (l .field) (l .code)) .0 (h .1))),
+      λ h.
+          lines-are b (sheetOf a) l .1 (
+            relaxable-are b (sheetOf a) (l .field) .1 (h .0, T-iff (answered-given b w a s (l .field)) .1 (h .1 .0)),
+            T-iff (alone-same (l .field) (h .1 .0) (l .field) (l .code)) .1 (h .1 .1),
+          ),
+    )
+
+-- ---- the calls
+
+-- what listing answers on sheet s with o lent, by the total, the number struck and the lines
+abbrev pub listedWith : List ℕ → List ℕ → ℕ → ℕ → List Line → Result
+listedWith s o n k ls = pick (ltb (length o) (2 * n)) (turned 2 s o 18 0) (done (n ∷ k ∷ []) s (lineBytes ls ++ drop (2 * n) o))
+
+module _ (bytes : List ℕ) (ok : Accepted bytes) (a : Answers) (s : Sound (bookOf bytes) a) (o : List ℕ) where
+  abbrev b : Book
+  b = bookOf bytes
+
+  -- filtering with nothing relaxed is accepted where numbers enough are lent
+  filtered-accepts : length (b .counts) ≤ length o → filtered bytes (sheetOf a) 255 o .outcome .number ≡ 0
+  unfolding filtered
+  filtered-accepts h =
+      ap (λ (r : Result). r .outcome .number) (on-sheet bytes ok a s 0 o _) ∙ rw (le-ltb (length o) (length (b .counts)) h)
+
+  -- so its bits are the codes of any largest subdomain
+  pub filtered-shows : length (b .counts) ≤ length o → (S : Subdomain) → IsLargest b (sheetOf a) S
+      → (f c : ℕ) → f < length (b .counts) → T (not (given (a f))) → Shows (filtered bytes (sheetOf a) 255 o .buffer) f c ↔ T (S f c)
+  filtered-shows h S m f c l t =
+      condition2-open bytes (sheetOf a) o (filtered-accepts h) S m f c l
+      (T-iff (ap not (answered-given b (accepted-within bytes ok) a s f)) .1 t)
+
+  -- listing
+  pub alternatives-on : alternatives bytes (sheetOf a) o
+      ≡ listedWith (sheetOf a) o (total b (sheetOf a)) (struck b (sheetOf a)) (lines b (sheetOf a))
+  unfolding alternatives
+  alternatives-on = on-sheet bytes ok a s 2 o _
+
+  -- with bytes enough lent
+  alternatives-is : 2 * total b (sheetOf a) ≤ length o
+      → alternatives bytes (sheetOf a) o
+      ≡ done (total b (sheetOf a) ∷ struck b (sheetOf a) ∷ []) (sheetOf a)
+      (lineBytes (lines b (sheetOf a)) ++ drop (2 * total b (sheetOf a)) o)
+  alternatives-is h = alternatives-on ∙ rw (le-ltb (length o) (2 * total b (sheetOf a)) h)
+
+  -- so its answer is that of any largest subdomains
+  pub alternatives-list : (S : Answer → Subdomain) → Cases b a S → 2 * theSum b a S ≤ length o → Lists b a S o (alternatives bytes (sheetOf a) o)
+  alternatives-list S cases h =
+      let w = accepted-within bytes ok in
+      let sum = total-sum b w a s S cases in
+      let long : length (lines b (sheetOf a)) ≡ total b (sheetOf a) = length-lines b (sheetOf a) in
+      let e = alternatives-is (omega arith) in
+      record {
+        list = lines b (sheetOf a);
+        in-order = lines-in-order b (sheetOf a);
+        exactly = lines-exactly b w a s S cases;
+        header = rw (e, long, struck-sum b w a s S cases);
+        sum = long ∙ sum;
+        written = rw (e, long);
+        sheet = rw e;
+      }
