@@ -9,3 +9,4 @@ pub mod Condition3
 pub mod Condition1
 pub mod Condition2
 pub mod Instances
+pub mod Agreement
