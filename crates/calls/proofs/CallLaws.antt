@@ -81,7 +81,7 @@ pub book-go : (bytes : List ℕ) (refuse : ℕ → ℕ → Result) (go : Book �
 book-go bytes refuse go e = ap (λ (v : Verdict). withBook bytes refuse v go) e
 
 -- no place is at fault
-pub fault-go : (refuse : ℕ → ℕ → Result) (fault : ℕ) (r : Result) → places ≤ fault → faultThen refuse fault r ≡ r
+fault-go : (refuse : ℕ → ℕ → Result) (fault : ℕ) (r : Result) → places ≤ fault → faultThen refuse fault r ≡ r
 fault-go refuse fault r l = ap (λ (t : Bool). pick t (refuse 14 fault) r) (le-ltb fault places l)
 
 -- both

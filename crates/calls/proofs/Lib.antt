@@ -10,3 +10,4 @@ pub mod Condition1
 pub mod Condition2
 pub mod Instances
 pub mod Agreement
+pub mod Stored
