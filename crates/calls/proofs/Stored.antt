@@ -62,13 +62,15 @@ load-accepts bytes form p e w =
     book-go bytes (turned 0 freshSheet []) _ p
     ∙ simp (eq-eqb (length form) (length (bookOf bytes .counts)) e, le-ltb (faultOf (bookOf bytes) (sheetFrom form)) places w)
 
-store-accepts : (bytes s o : List ℕ) → verdict bytes ≡ pass → places ≤ faultOf (bookOf bytes) s → length (bookOf bytes .counts) ≤ length o
+store-accepts : (bytes s o : List ℕ) → verdict bytes ≡ pass → places ≤ faultOf (bookOf bytes) s
+    → length (bookOf bytes .counts) ≤ length o
     → stored bytes s o ≡ done [] s (take (length (bookOf bytes .counts)) s ++ drop (length (bookOf bytes .counts)) o)
 unfolding stored
 store-accepts bytes s o p w l = sheet-go 0 bytes s o _ p w ∙ simp (le-ltb (length o) (length (bookOf bytes .counts)) l)
 
 -- ---- both ways
 
+-- an accepted load, stored
 load-store : (bytes form o : List ℕ) → loaded bytes form .outcome .number ≡ 0 → length form ≤ length o
     → stored bytes (loaded bytes form .sheet) o ≡ done [] (loaded bytes form .sheet) (form ++ drop (length form) o)
 load-store bytes form o e l =
@@ -79,7 +81,8 @@ load-store bytes form o e l =
     let same : stored bytes s o ≡ done [] s (form ++ drop (length form) o) =
     store-accepts bytes s o (h .passes) (h .no-fault) (omega (arith, h .whole))
     ∙ ap₂ (λ (x : List ℕ) (k : ℕ). done [] s (x ++ drop k o)) front (sym (h .whole)) in
-    subst (λ (x : List ℕ). stored bytes x o ≡ done [] x (form ++ drop (length form) o)) (sym (ap (λ (r : Result). r .sheet) (h .result))) same
+    subst (λ (x : List ℕ). stored bytes x o ≡ done [] x (form ++ drop (length form) o)) (sym (ap (λ (r : Result). r .sheet) (h .result)))
+    same
 
 module _ (b : Book) (s : List ℕ) (w : places ≤ faultOf b s) where
   -- where no place is at fault, a place behind the book's fields holds 255
@@ -90,19 +93,27 @@ module _ (b : Book) (s : List ℕ) (w : places ≤ faultOf b s) where
       ⊎-elim (eqb→eq (getD s i 255) 255) (λ t. absurd (omega (arith, ltb→lt (getD s i 255) (codes b i) t)))
       (or-out (eqb (getD s i 255) 255) (ltb (getD s i 255) (codes b i)) (true-T ok))
 
-  -- so the bytes of its fields give the sheet
-  sheet-whole : length s ≡ places → length (b .counts) ≤ places → sheetFrom (take (length (b .counts)) s) ≡ s
-  sheet-whole long few =
-      let n : ℕ = length (b .counts) in
-      let front : length (take n s) ≡ n = length-take-le n s (omega arith) in
-      let later : replicate (places - length (take n s)) 255 ≡ drop n s =
-      ext-getD 255 (replicate (places - length (take n s)) 255) (drop n s)
-      (simp (length-replicate, length-drop) (omega arith))
-      (λ i l.
-      let m : i < places - length (take n s) = simp length-replicate at l in
-      getD-replicate (places - length (take n s)) i 255 255 m ∙ sym (getD-drop n s i 255 ∙ later-place (n + i) (omega arith) (omega arith))) in
-      ap (λ (r : List ℕ). take n s ++ r) later ∙ take-append-drop n s
+  module _ (long : length s ≡ places) (few : length (b .counts) ≤ places) where
+    later-places : replicate (places - length (b .counts)) 255 ≡ drop (length (b .counts)) s
+    later-places =
+        ext-getD 255 (replicate (places - n) 255) (drop n s) (simp (length-replicate, length-drop) (omega arith))
+        (λ i l. same i (simp length-replicate at l))
+      where
+        n : ℕ
+        n = length (b .counts)
 
+        same : (i : ℕ) → i < places - n → getD (replicate (places - n) 255) i 255 ≡ getD (drop n s) i 255
+        same i l =
+            getD-replicate (places - n) i 255 255 l ∙ sym (later-place (n + i) (omega arith) (omega arith)) ∙ sym (getD-drop n s i 255)
+
+    -- so the bytes of the book's fields give the sheet
+    sheet-whole : sheetFrom (take (length (b .counts)) s) ≡ s
+    sheet-whole =
+        let n : ℕ = length (b .counts) in
+        ap (λ (k : ℕ). take n s ++ replicate (places - k) 255) (length-take-le n s (omega arith))
+        ∙ ap (λ (r : List ℕ). take n s ++ r) later-places ∙ take-append-drop n s
+
+-- an accepted store, loaded
 store-load : (bytes s o : List ℕ) → length s ≡ places → stored bytes s o .outcome .number ≡ 0
     → loaded bytes (take (length (bookOf bytes .counts)) (stored bytes s o .buffer)) ≡ done [] s []
 store-load bytes s o long e =
