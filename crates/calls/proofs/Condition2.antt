@@ -1,25 +1,26 @@
 -- Condition 2: the numbers that plain filtering writes show the largest arc-consistent subdomain, hence the open codes. Assumes nothing.
-use mathlib.Core.Path.{_≡_, refl, sym, ap, _∙_, subst}
-use mathlib.Core.Logic.{_≢_, _↔_}
+use mathlib.Core.Path.{_≡_, sym, ap, _∙_, subst}
+use mathlib.Core.Logic.{_≢_}
 use mathlib.Core.List.{List, [], _++_}
 use mathlib.Core.Bool.{Bool, true, false, not}
-use Prim.Native.Nat.{ℕ, _+_, _^_, _≤_, _<_}
+use Prim.Native.Nat.{ℕ, _^_, _≤_, _<_}
 use native.Mathlib.Omega.{arith}
 use lib.ListN.{length, getD, drop, length-append, length-drop, List·getD-append}
 use lib.Seq.{drop-at}
 use lib.Dec.{T, ltb, eqb}
-use borrow.Author.Tests.{ltb-false, ltb-true, eqb-true, eqb-false}
+use borrow.Author.Tests.{ltb-false, ltb-true, eqb-true, lt-ltb, le-ltb, ne-eqb, not-true}
 use Rattle.format.specs.Basics.{pick}
 use Rattle.format.specs.Format.{Book, bookOf}
-use Rattle.consistency.specs.Consistency.{Subdomain, codes, answer, relax, IsLargest}
+use Rattle.format.specs.Reading.{pass, verdict}
+use Rattle.consistency.specs.Consistency.{places, codes, answer, relax}
 use Rattle.consistency.specs.Largest.{largest}
-use Rattle.consistency.specs.Counts.{bit, mask, masks, answered}
-use Rattle.consistency.proofs.Booleans.{true-T}
+use Rattle.consistency.specs.Counts.{bit, masks, answered}
+use Rattle.consistency.proofs.Booleans.{true-T, T-true}
 use Rattle.consistency.proofs.Largest.{largest-is, largest-unique}
 use Rattle.consistency.proofs.Masks.{mask-lt, masks-at, masks-bit, length-masks}
 use Rattle.calls.specs.Calls.{Result, done, faultOf, masksInto, filtered}
-use Rattle.calls.specs.Conditions.{Shows, Condition2-open, filterAnswers, Filtered, Condition2-filter}
-use Rattle.calls.proofs.Accepting.{Where, refusal-where, pick-where, book-where, fault-where}
+use Rattle.calls.specs.Conditions.{Condition2-open, filterAnswers, Filtered, Condition2-filter}
+use Rattle.calls.proofs.CallLaws.{Where, pick-cases, pass-where, fail-where, sheet-where, sheet-go}
 
 -- ---- the numbers written
 
@@ -55,16 +56,28 @@ pub record Filters (b : Book) (s : List ℕ) (g : ℕ) (o : List ℕ) (r : Resul
   pub relaxed : g ≢ 255 → (g < length (b .counts)) × T (answered s g)
   pub result : r ≡ done [] s (numbers b (filterAnswers s g) o)
 
-masks-filter : (b : Book) (s : List ℕ) (g : ℕ) (o a : List ℕ) → filterAnswers s g ≡ a
-    → (g ≢ 255 → (g < length (b .counts)) × T (answered s g)) → Where (Filters b s g o) (masksInto b s a o)
-masks-filter b s g o a e h =
-    pick-where (Filters b s g o) (ltb (length o) (length (b .counts))) (λ t. refusal-where (Filters b s g o) 0 s o 18 0 (omega arith))
-    (λ t n.
-        record {
-          enough = ltb-false (length o) (length (b .counts)) t;
-          relaxed = h;
-          result = ap (λ (x : List ℕ). done [] s (numbers b x o)) (sym e);
-        })
+module _ (b : Book) (s : List ℕ) (g : ℕ) (o : List ℕ) where
+  masks-where : (a : List ℕ) → filterAnswers s g ≡ a → (g ≢ 255 → (g < length (b .counts)) × T (answered s g))
+      → Where (Filters b s g o) (masksInto b s a o)
+  masks-where a e h =
+      pass-where (Filters b s g o) 0 s o (ltb (length o) (length (b .counts))) 18 (omega arith)
+      (λ t n.
+      record {
+        enough = ltb-false (length o) (length (b .counts)) t;
+        relaxed = h;
+        result = ap (λ (x : List ℕ). done [] s (numbers b x o)) (sym e);
+      })
+
+  -- nothing relaxed
+  none-where : eqb g 255 ≡ true → Where (Filters b s g o) (masksInto b s s o)
+  none-where t = masks-where s (ap (λ (x : Bool). pick x s (relax s g)) t) (λ n. absurd (n (eqb-true g 255 t)))
+
+  -- field g relaxed
+  one-where : eqb g 255 ≡ false → ltb g (length (b .counts)) ≡ true → eqb (answer s g) 255 ≡ false
+      → Where (Filters b s g o) (masksInto b s (relax s g) o)
+  one-where t l u =
+      masks-where (relax s g) (ap (λ (x : Bool). pick x s (relax s g)) t)
+      (λ n. (ltb-true g (length (b .counts)) l, true-T (ap not u)))
 
 pub filter-accepted : (bytes s : List ℕ) (g : ℕ) (o : List ℕ) → filtered bytes s g o .outcome .number ≡ 0
     → Filters (bookOf bytes) s g o (filtered bytes s g o)
@@ -72,12 +85,21 @@ unfolding filtered
 filter-accepted bytes s g o =
     let b : Book = bookOf bytes in
     let F : Result → Type 0 = Filters b s g o in
-    book-where F 0 bytes s o _ (λ p. fault-where F 0 s o (faultOf b s) (λ w.
-    pick-where F (eqb g 255) (λ t. masks-filter b s g o s (ap (λ (x : Bool). pick x s (relax s g)) t) (λ n. absurd (n (eqb-true g 255 t))))
-    (λ t. pick-where F (ltb g (length (b .counts)))
-    (λ l. pick-where F (eqb (answer s g) 255) (λ u. refusal-where F 0 s o 17 0 (omega arith))
-    (λ u. masks-filter b s g o (relax s g) (ap (λ (x : Bool). pick x s (relax s g)) t) (λ n. (ltb-true g (length (b .counts)) l, true-T (ap not u)))))
-    (λ l. refusal-where F 0 s o 15 0 (omega arith)))))
+    sheet-where F 0 s o bytes _ (λ p w.
+    pick-cases (Where F) (eqb g 255) (none-where b s g o) (λ t.
+    fail-where F 0 s o (ltb g (length (b .counts))) 15 (omega arith) (λ l.
+    pass-where F 0 s o (eqb (answer s g) 255) 17 (omega arith) (one-where b s g o t l))))
+
+-- the other way: where the book passes, no place is at fault, field g has an answer and numbers enough are lent
+pub filter-accepts : (bytes s : List ℕ) (g : ℕ) (o : List ℕ) → verdict bytes ≡ pass → places ≤ faultOf (bookOf bytes) s → g ≢ 255
+    → g < length (bookOf bytes .counts) → T (answered s g) → length (bookOf bytes .counts) ≤ length o
+    → filtered bytes s g o .outcome .number ≡ 0
+unfolding filtered
+filter-accepts bytes s g o p w n l t enough =
+    let b : Book = bookOf bytes in
+    let u : eqb (answer s g) 255 ≡ false = not-true (eqb (answer s g) 255) (T-true t) in
+    ap (λ (r : Result). r .outcome .number) (sheet-go 0 bytes s o _ p w)
+    ∙ simp (ne-eqb g 255 n, lt-ltb g (length (b .counts)) l, u, le-ltb (length o) (length (b .counts)) enough)
 
 -- ---- the condition
 

@@ -1,3 +1,4 @@
+pub mod CallLaws
 pub mod Sheets
 pub mod Steps
 pub mod CallLists
@@ -6,7 +7,8 @@ pub mod AlikeCalls
 pub mod Written
 pub mod Condition3
 pub mod Condition1
-pub mod Accepting
 pub mod Condition2
 pub mod Instances
 pub mod Held
+pub mod Agreement
+pub mod Stored

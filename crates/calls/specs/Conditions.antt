@@ -4,17 +4,17 @@ use mathlib.Core.Path.{_≡_}
 use mathlib.Core.Logic.{_≢_, _↔_}
 use mathlib.Core.List.{List, [], _∷_, _++_}
 use mathlib.Core.Bool.{Bool, true, false, not}
-use lib.ListN.{length, getD, drop, replicate}
+use lib.ListN.{length, getD, take, drop, replicate}
 use lib.Dec.{T, eqb}
 use Rattle.format.specs.Basics.{pick}
 use Rattle.format.specs.Format.{Book, bookOf}
 use Rattle.format.specs.Reading.{accepted, Accepted}
 use Rattle.consistency.specs.Counting.{sumOver, those}
-use Rattle.consistency.specs.Consistency.{Subdomain, codes, relax, IsLargest}
+use Rattle.consistency.specs.Consistency.{places, Subdomain, codes, relax, IsLargest}
 use Rattle.consistency.specs.Counts.{codesIn, outside, answered, Line, lineBytes}
 use Rattle.consistency.specs.Order.{InOrder, In}
 use Rattle.consistency.specs.Alike.{Alike}
-use Rattle.calls.specs.Calls.{Result, freshSheet, entered, withdrawn, cleared, filtered, alternatives, loaded, stored}
+use Rattle.calls.specs.Calls.{Result, freshSheet, done, entered, withdrawn, cleared, filtered, alternatives, loaded, stored}
 use Rattle.calls.specs.Histories.{Call, Answer, none, is, Answers, given, noAnswers, answersAfter, refusalsFrom, sheetOf, results, sheetAfter}
 
 -- ---- Condition 1: "The answer to any bytes, sheet and call is the one that document 01 defines" is the contracts of the calls;
@@ -111,6 +111,31 @@ abbrev pub Condition2-filter : Type 0
 Condition2-filter =
     (bytes s : List ℕ) (g : ℕ) (o : List ℕ) → filtered bytes s g o .outcome .number ≡ 0
     → Filtered (bookOf bytes) (filterAnswers s g) o (filtered bytes s g o .buffer)
+
+-- "A plain filtering with one chosen field lifted is offered beside it and must agree with it": what plain filtering with f relaxed answers,
+-- plain, and what alternatives answers with o lent, whole
+pub record Agrees (f : ℕ) (o : List ℕ) (plain whole : Result) : Type 0 where
+  pub accepts : plain .outcome .number ≡ 0
+  pub list : List Line
+  pub total : getD (whole .outcome .counts) 0 0 ≡ length list
+  pub written : whole .buffer ≡ lineBytes list ++ drop (2 * length list) o
+  -- the lines of f are the codes that its number shows
+  pub same : (c : ℕ) → In (record { field = f; code = c }) list ↔ Shows (plain .buffer) f c
+
+-- for each answered field, wherever alternatives accepts and numbers enough are lent
+abbrev pub Agreement : Type 0
+Agreement =
+    (bytes s o o′ : List ℕ) → alternatives bytes s o .outcome .number ≡ 0 → length (bookOf bytes .counts) ≤ length o′
+    → (f : ℕ) → f < length (bookOf bytes .counts) → T (answered s f)
+    → Agrees f o (filtered bytes s f o′) (alternatives bytes s o)
+
+-- "Loading a stored sheet": an accepted load, stored where bytes enough are lent, gives the bytes loaded; an accepted store, loaded, gives the
+-- sheet stored
+pub record StoreAndLoad : Type 0 where
+  pub load-then-store : (bytes form o : List ℕ) → loaded bytes form .outcome .number ≡ 0 → length form ≤ length o
+      → stored bytes (loaded bytes form .sheet) o ≡ done [] (loaded bytes form .sheet) (form ++ drop (length form) o)
+  pub store-then-load : (bytes s o : List ℕ) → length s ≡ places → stored bytes s o .outcome .number ≡ 0
+      → loaded bytes (take (length (bookOf bytes .counts)) (stored bytes s o .buffer)) ≡ done [] s []
 
 -- ---- Condition 3: "One claim about every list of enter, withdraw and clear calls from a fresh sheet"
 
