@@ -1,15 +1,14 @@
 -- Condition 3: the sheet behind every list of enter, withdraw and clear calls, the codes that filtering and listing show on it, and that
 -- alike books give the same. Assumes nothing.
-use Prim.Native.Nat.{ℕ, _≤_}
-use mathlib.Core.Path.{_≡_, refl, sym, subst}
+use Prim.Native.Nat.{ℕ}
+use mathlib.Core.Path.{_≡_}
 use mathlib.Core.List.{List}
 use native.Mathlib.Omega.{arith}
 use lib.ListN.{length, replicate, length-replicate}
-use Rattle.format.specs.Format.{Book, bookOf}
+use Rattle.format.specs.Format.{bookOf}
 use Rattle.format.specs.Reading.{Accepted}
-use Rattle.calls.specs.Calls.{filtered, alternatives}
-use Rattle.calls.specs.Histories.{Call, answersAfter, sheetOf, sheetAfter}
-use Rattle.calls.specs.Conditions.{Shows, Lists, AfterCalls, Condition3}
+use Rattle.calls.specs.Histories.{Call, answersAfter}
+use Rattle.calls.specs.Conditions.{AfterCalls, Condition3}
 use Rattle.calls.proofs.CallLists.{numbers-are, sheet-after, sound-after}
 use Rattle.calls.proofs.Cases.{cases-are, filtered-shows, alternatives-list}
 use Rattle.calls.proofs.AlikeCalls.{same-results}

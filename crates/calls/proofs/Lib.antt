@@ -9,5 +9,6 @@ pub mod Condition3
 pub mod Condition1
 pub mod Condition2
 pub mod Instances
+pub mod Held
 pub mod Agreement
 pub mod Stored

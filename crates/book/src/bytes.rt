@@ -1,0 +1,23 @@
+// Numbers in a book's bytes.
+ghost use mathlib.Core.Path.{_≡_};
+ghost use Prim.Native.Nat.{_+_, _<_};
+ghost use lib.ListN.{length};
+ghost use Rattle.format.specs.Format as format;
+
+// The byte at i.
+pub fn byte(s: &[u8], i: usize) -> usize
+    requires { ⌜ i < length (now s) ⌝ }
+    ensures { λ r. ⌜ (r ≡ format.byte (now (s .entry)) i) × (r < 256) ⌝ }
+{
+    s[i] as usize
+}
+
+// The two-byte number at i, low byte first.
+pub fn pair(s: &[u8], i: usize) -> usize
+    requires { ⌜ i + 1 < length (now s) ⌝ }
+    ensures { λ r. ⌜ (r ≡ format.le16 (now (s .entry)) i) × (r < 65536) ⌝ }
+{
+    let low = byte(s, i);
+    let high = byte(s, i + 1);
+    low + 256 * high
+}
