@@ -19,7 +19,7 @@ use Rattle.consistency.proofs.Largest.{largest-is}
 use Rattle.consistency.proofs.Lines.{relaxable-are, lines-are, length-lines}
 use Rattle.calls.specs.Calls.{Result, done, faultOf, filtered, alternatives}
 use Rattle.calls.specs.Conditions.{Shows, filterAnswers, Agreement}
-use Rattle.calls.proofs.CallLaws.{pass-where, sheet-where}
+use Rattle.calls.proofs.CallLaws.{Where, pick-cases, sheet-where}
 use Rattle.calls.proofs.Condition2.{filter-accepts, condition2-filter}
 use Rattle.calls.proofs.Sheets.{accepted-within}
 
@@ -34,8 +34,8 @@ record AcceptedList (bytes s o : List ℕ) (r : Result) : Type 0 where
 list-accepted : (bytes s o : List ℕ) → alternatives bytes s o .outcome .number ≡ 0 → AcceptedList bytes s o (alternatives bytes s o)
 unfolding alternatives
 list-accepted bytes s o =
-    sheet-where (AcceptedList bytes s o) 2 s o bytes _ (λ p w.
-    pass-where (AcceptedList bytes s o) 2 s o (ltb (length o) (2 * total (bookOf bytes) s)) 18 (omega arith)
+    sheet-where (AcceptedList bytes s o) 2 bytes s o _ (λ p w.
+    pick-cases (Where (AcceptedList bytes s o)) (ltb (length o) (2 * total (bookOf bytes) s)) (λ t n. absurd (omega arith))
     (λ t n. record { passes = p; no-fault = w; result = refl }))
 
 -- the number that filtering with f relaxed writes for f shows the codes that are listed for f

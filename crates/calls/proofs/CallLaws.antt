@@ -50,28 +50,17 @@ sheet-holds P k bytes s o go n h =
 abbrev pub Where : (Result → Type 0) → Result → Type 0
 Where P r = r .outcome .number ≡ 0 → P r
 
-module _ (P : Result → Type 0) (k : ℕ) (s o : List ℕ) where
+module _ (P : Result → Type 0) (k : ℕ) (bytes s o : List ℕ) (go : Book → Result) where
   -- a refusal does not accept
   refusal-where : (number place : ℕ) → 1 ≤ number → Where P (turned k s o number place)
-  refusal-where number place h e = absurd (omega arith)
+  refusal-where number place l e = absurd (omega arith)
 
-  -- a test that turns the call down, place 0, where it passes; and one where it fails
-  pub pass-where : (t : Bool) (number : ℕ) {r : Result} → 1 ≤ number → (t ≡ false → Where P r) → Where P (pick t (turned k s o number 0) r)
-  pass-where t number l h = pick-cases (Where P) t (λ e. refusal-where number 0 l) h
+  pub book-where : (verdict bytes ≡ pass → Where P (go (bookOf bytes))) → Where P (withBook bytes (turned k s o) (verdict bytes) go)
+  book-where h = book-holds (Where P) (turned k s o) bytes go (λ number place l u. refusal-where number place l) h
 
-  pub fail-where : (t : Bool) (number : ℕ) {r : Result} → 1 ≤ number → (t ≡ true → Where P r) → Where P (pick t r (turned k s o number 0))
-  fail-where t number l h = pick-cases (Where P) t h (λ e. refusal-where number 0 l)
-
-  pub fault-where : (fault : ℕ) {r : Result} → (places ≤ fault → Where P r) → Where P (faultThen (turned k s o) fault r)
-  fault-where fault h = fault-holds (Where P) (turned k s o) fault (refusal-where 14 fault (omega arith)) h
-
-  pub book-where : (bytes : List ℕ) (go : Book → Result) → (verdict bytes ≡ pass → Where P (go (bookOf bytes)))
-      → Where P (withBook bytes (turned k s o) (verdict bytes) go)
-  book-where bytes go h = book-holds (Where P) (turned k s o) bytes go (λ number place l u. refusal-where number place l) h
-
-  pub sheet-where : (bytes : List ℕ) (go : Book → Result)
-      → (verdict bytes ≡ pass → places ≤ faultOf (bookOf bytes) s → Where P (go (bookOf bytes))) → Where P (onSheet k bytes s o go)
-  sheet-where bytes go h = sheet-holds (Where P) k bytes s o go (λ number place l u. refusal-where number place l) h
+  pub sheet-where : (verdict bytes ≡ pass → places ≤ faultOf (bookOf bytes) s → Where P (go (bookOf bytes)))
+      → Where P (onSheet k bytes s o go)
+  sheet-where h = sheet-holds (Where P) k bytes s o go (λ number place l u. refusal-where number place l) h
 
 -- ---- where no test turns it down
 

@@ -20,7 +20,7 @@ use Rattle.consistency.proofs.Largest.{largest-is, largest-unique}
 use Rattle.consistency.proofs.Masks.{mask-lt, masks-at, masks-bit, length-masks}
 use Rattle.calls.specs.Calls.{Result, done, faultOf, masksInto, filtered}
 use Rattle.calls.specs.Conditions.{Condition2-open, filterAnswers, Filtered, Condition2-filter}
-use Rattle.calls.proofs.CallLaws.{Where, pick-cases, pass-where, fail-where, sheet-where, sheet-go}
+use Rattle.calls.proofs.CallLaws.{Where, pick-cases, sheet-where, sheet-go}
 
 -- ---- the numbers written
 
@@ -60,7 +60,7 @@ module _ (b : Book) (s : List ℕ) (g : ℕ) (o : List ℕ) where
   masks-where : (a : List ℕ) → filterAnswers s g ≡ a → (g ≢ 255 → (g < length (b .counts)) × T (answered s g))
       → Where (Filters b s g o) (masksInto b s a o)
   masks-where a e h =
-      pass-where (Filters b s g o) 0 s o (ltb (length o) (length (b .counts))) 18 (omega arith)
+      pick-cases (Where (Filters b s g o)) (ltb (length o) (length (b .counts))) (λ t n. absurd (omega arith))
       (λ t n.
       record {
         enough = ltb-false (length o) (length (b .counts)) t;
@@ -85,10 +85,11 @@ unfolding filtered
 filter-accepted bytes s g o =
     let b : Book = bookOf bytes in
     let F : Result → Type 0 = Filters b s g o in
-    sheet-where F 0 s o bytes _ (λ p w.
+    sheet-where F 0 bytes s o _ (λ p w.
     pick-cases (Where F) (eqb g 255) (none-where b s g o) (λ t.
-    fail-where F 0 s o (ltb g (length (b .counts))) 15 (omega arith) (λ l.
-    pass-where F 0 s o (eqb (answer s g) 255) 17 (omega arith) (one-where b s g o t l))))
+    pick-cases (Where F) (ltb g (length (b .counts)))
+    (λ l. pick-cases (Where F) (eqb (answer s g) 255) (λ u n. absurd (omega arith)) (one-where b s g o t l))
+    (λ l n. absurd (omega arith))))
 
 -- the other way: where the book passes, no place is at fault, field g has an answer and numbers enough are lent
 pub filter-accepts : (bytes s : List ℕ) (g : ℕ) (o : List ℕ) → verdict bytes ≡ pass → places ≤ faultOf (bookOf bytes) s → g ≢ 255

@@ -17,7 +17,7 @@ use Rattle.consistency.specs.Consistency.{places, codes}
 use Rattle.consistency.proofs.Booleans.{true-T, or-out}
 use Rattle.calls.specs.Calls.{Result, freshSheet, turned, done, placeOk, faultOf, sheetFrom, loaded, stored}
 use Rattle.calls.specs.Conditions.{StoreAndLoad}
-use Rattle.calls.proofs.CallLaws.{pass-where, fail-where, fault-where, book-where, sheet-where, book-go, sheet-go}
+use Rattle.calls.proofs.CallLaws.{Where, pick-cases, book-where, sheet-where, book-go, sheet-go}
 use Rattle.calls.proofs.Sheets.{accepted-within}
 
 -- ---- what an accepted call says
@@ -33,10 +33,12 @@ load-accepted : (bytes form : List ℕ) → loaded bytes form .outcome .number �
 unfolding loaded
 load-accepted bytes form =
     let n : ℕ = length (bookOf bytes .counts) in
-    book-where (Loads bytes form) 0 freshSheet [] bytes _ (λ p.
-    fail-where (Loads bytes form) 0 freshSheet [] (eqb (length form) n) 19 (omega arith) (λ t.
-    fault-where (Loads bytes form) 0 freshSheet [] (faultOf (bookOf bytes) (sheetFrom form)) (λ w e.
-    record { passes = p; whole = eqb-true (length form) n t; no-fault = w; result = refl })))
+    let fault : ℕ = faultOf (bookOf bytes) (sheetFrom form) in
+    book-where (Loads bytes form) 0 bytes freshSheet [] _ (λ p.
+    pick-cases (Where (Loads bytes form)) (eqb (length form) n)
+    (λ t. pick-cases (Where (Loads bytes form)) (ltb fault places) (λ u e. absurd (omega arith))
+    (λ u e. record { passes = p; whole = eqb-true (length form) n t; no-fault = ltb-false fault places u; result = refl }))
+    (λ t e. absurd (omega arith)))
 
 -- of a store: the book passes, no place is at fault, and bytes enough are lent
 record Stores (bytes s o : List ℕ) (r : Result) : Type 0 where
@@ -49,8 +51,8 @@ store-accepted : (bytes s o : List ℕ) → stored bytes s o .outcome .number �
 unfolding stored
 store-accepted bytes s o =
     let n : ℕ = length (bookOf bytes .counts) in
-    sheet-where (Stores bytes s o) 0 s o bytes _ (λ p w.
-    pass-where (Stores bytes s o) 0 s o (ltb (length o) n) 18 (omega arith) (λ t e.
+    sheet-where (Stores bytes s o) 0 bytes s o _ (λ p w.
+    pick-cases (Where (Stores bytes s o)) (ltb (length o) n) (λ t e. absurd (omega arith)) (λ t e.
     record { passes = p; no-fault = w; enough = ltb-false (length o) n t; result = refl }))
 
 -- ---- the other way
@@ -77,7 +79,7 @@ load-store bytes form o e l =
     let h = load-accepted bytes form e in
     let s : List ℕ = sheetFrom form in
     let n : ℕ = length (bookOf bytes .counts) in
-    let front : take n s ≡ form = take-at form (replicate (places - length form) 255) n (h .whole) in
+    let front : take n s ≡ form = take-at form _ n (h .whole) in
     let same : stored bytes s o ≡ done [] s (form ++ drop (length form) o) =
     store-accepts bytes s o (h .passes) (h .no-fault) (omega (arith, h .whole))
     ∙ ap₂ (λ (x : List ℕ) (k : ℕ). done [] s (x ++ drop k o)) front (sym (h .whole)) in
