@@ -3,28 +3,30 @@ use Prim.Native.Nat.{ℕ, _+_, _*_, _≤_, _<_}
 use mathlib.Core.Path.{_≡_, sym, ap, ap₂, _∙_, subst}
 use mathlib.Core.Logic.{_↔_}
 use mathlib.Core.Bool.{Bool, not}
-use mathlib.Core.List.{List, [], _∷_, _++_}
+use mathlib.Core.List.{List}
 use native.Mathlib.Omega.{arith}
 use borrow.Author.Tests.{le-ltb}
-use lib.ListN.{length, drop}
+use lib.ListN.{length}
 use lib.Dec.{T}
 use Rattle.format.specs.Format.{Book, bookOf}
 use Rattle.format.specs.Reading.{Accepted}
+use Rattle.format.proofs.Accepted.{accepted-verdict}
 use Rattle.consistency.specs.Counting.{sumOver}
 use Rattle.consistency.specs.Consistency.{Subdomain, relax, IsLargest}
 use Rattle.consistency.specs.Largest.{largest}
-use Rattle.consistency.specs.Counts.{codesIn, outside, answered, relaxable, total, struck, Line, lines, lineBytes}
+use Rattle.consistency.specs.Counts.{codesIn, outside, answered, relaxable, total, struck, Line, lines}
 use Rattle.consistency.specs.Order.{In}
 use Rattle.consistency.proofs.Sums.{those-ext, sum-over-ext}
 use Rattle.consistency.proofs.Members.{in-those}
 use Rattle.consistency.proofs.CodeCounts.{codes-in-ext, outside-ext}
 use Rattle.consistency.proofs.Largest.{largest-is, largest-unique}
 use Rattle.consistency.proofs.Lines.{relaxable-are, lines-are, lines-in-order, length-lines}
-use Rattle.calls.specs.Calls.{Result, done, filtered, alternatives}
+use Rattle.calls.specs.Calls.{Result, filtered, alternatives}
 use Rattle.calls.specs.Histories.{Answer, none, is, Answers, given, sheetOf}
 use Rattle.calls.specs.Conditions.{Shows, answeredFields, Cases, theSum, theStruck, Lists}
-use Rattle.calls.proofs.Sheets.{accepted-within, Sound, answered-given, Within}
+use Rattle.calls.proofs.Sheets.{Within, accepted-within, Sound, answered-given, no-fault}
 use Rattle.calls.proofs.Steps.{on-sheet}
+use Rattle.calls.proofs.Listing.{listing, list-accepts}
 use Rattle.calls.proofs.Condition2.{condition2-open}
 
 -- equal tests
@@ -105,12 +107,9 @@ module _ (bytes : List ℕ) (ok : Accepted bytes) (a : Answers) (s : Sound (book
       (T-iff (ap not (answered-given b (accepted-within bytes ok) a s f)) .1 t)
 
   -- listing, with bytes enough lent
-  alternatives-is : 2 * total b (sheetOf a) ≤ length o
-      → alternatives bytes (sheetOf a) o
-      ≡ done (total b (sheetOf a) ∷ struck b (sheetOf a) ∷ []) (sheetOf a)
-      (lineBytes (lines b (sheetOf a)) ++ drop (2 * total b (sheetOf a)) o)
-  unfolding alternatives
-  alternatives-is h = on-sheet bytes ok a s 2 o _ ∙ rw le-ltb
+  alternatives-is : 2 * total b (sheetOf a) ≤ length o → alternatives bytes (sheetOf a) o ≡ listing b (sheetOf a) o
+  alternatives-is h =
+      list-accepts bytes (sheetOf a) o (accepted-verdict bytes ok) (omega (arith, no-fault b (accepted-within bytes ok) a s)) h
 
   -- so its answer is that of any largest subdomains
   pub alternatives-list : (S : Answer → Subdomain) → Cases b a S → 2 * theSum b a S ≤ length o → Lists b a S o (alternatives bytes (sheetOf a) o)

@@ -2,6 +2,7 @@ pub mod CallLaws
 pub mod Sheets
 pub mod Steps
 pub mod CallLists
+pub mod Listing
 pub mod Cases
 pub mod AlikeCalls
 pub mod Written

@@ -16,6 +16,7 @@ use Rattle.format.proofs.Accepted.{accepted-verdict}
 use Rattle.consistency.specs.Consistency.{places, codes, answer}
 use Rattle.calls.specs.Calls.{Result, done, onSheet, entered, withdrawn}
 use Rattle.calls.specs.Histories.{Call, enter, withdraw, clear, Answer, none, is, Answers, put, refusalOf, after, sheetOf, called}
+use Rattle.calls.proofs.CallLaws.{sheet-go}
 use Rattle.calls.proofs.Sheets.{sheet-fresh, sheet-store, Within, accepted-within, Sound, sound-none, answered-given, no-fault}
 
 -- what the book and the answers before a call give for it: the number of its refusal, and the sheet that holds the answers after it
@@ -32,7 +33,7 @@ module _ (bytes : List ℕ) (ok : Accepted bytes) (a : Answers) (s : Sound (book
 
   -- neither 1 to 13 nor 14
   pub on-sheet : (k : ℕ) (o : List ℕ) (go : Book → Result) → onSheet k bytes (sheetOf a) o go ≡ go b
-  on-sheet k o go = rw (accepted-verdict bytes ok, no-fault b within a s)
+  on-sheet k o go = sheet-go k bytes (sheetOf a) o go (accepted-verdict bytes ok) (omega (arith, no-fault b within a s))
 
   -- a field of the book has a place
   field-place : (f : ℕ) → ltb f (length (b .counts)) ≡ true → f < places
