@@ -33,7 +33,7 @@ module _ (b : Book) (a o : List ℕ) where
   number-at f l = List·getD-append (masks b a) (drop (length (b .counts)) o) 0 f (omega (arith, length-masks b a))
 
   -- its bit c says whether the largest subdomain has code c
-  pub number-bit : (f c : ℕ) → f < length (b .counts) → bit (getD numbers f 0) c ≡ largest b a f c
+  number-bit : (f c : ℕ) → f < length (b .counts) → bit (getD numbers f 0) c ≡ largest b a f c
   number-bit f c l = ap (λ (m : ℕ). bit m c) (number-at f l) ∙ masks-bit b a f c
 
   numbers-filtered : length (b .counts) ≤ length o → Filtered b a o numbers
@@ -51,10 +51,10 @@ module _ (b : Book) (a o : List ℕ) where
 -- ---- an accepted filtering
 
 -- what it says: numbers enough, a field to relax that the book has and that is answered, and the numbers written
-pub record Filters (b : Book) (s : List ℕ) (g : ℕ) (o : List ℕ) (r : Result) : Type 0 where
-  pub enough : length (b .counts) ≤ length o
-  pub relaxed : g ≢ 255 → (g < length (b .counts)) × T (answered s g)
-  pub result : r ≡ done [] s (numbers b (filterAnswers s g) o)
+record Filters (b : Book) (s : List ℕ) (g : ℕ) (o : List ℕ) (r : Result) : Type 0 where
+  enough : length (b .counts) ≤ length o
+  relaxed : g ≢ 255 → (g < length (b .counts)) × T (answered s g)
+  result : r ≡ done [] s (numbers b (filterAnswers s g) o)
 
 module _ (b : Book) (s : List ℕ) (g : ℕ) (o : List ℕ) where
   masks-where : (a : List ℕ) → filterAnswers s g ≡ a → (g ≢ 255 → (g < length (b .counts)) × T (answered s g))
@@ -79,7 +79,7 @@ module _ (b : Book) (s : List ℕ) (g : ℕ) (o : List ℕ) where
       masks-where (relax s g) (ap (λ (x : Bool). pick x s (relax s g)) t)
       (λ n. (ltb-true g (length (b .counts)) l, true-T (ap not u)))
 
-pub filter-accepted : (bytes s : List ℕ) (g : ℕ) (o : List ℕ) → filtered bytes s g o .outcome .number ≡ 0
+filter-accepted : (bytes s : List ℕ) (g : ℕ) (o : List ℕ) → filtered bytes s g o .outcome .number ≡ 0
     → Filters (bookOf bytes) s g o (filtered bytes s g o)
 unfolding filtered
 filter-accepted bytes s g o =
