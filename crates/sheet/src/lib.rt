@@ -9,6 +9,7 @@ use book::Refusal;
 use opened::Opened;
 
 mod copies;
+mod history;
 mod lists;
 mod opened;
 

@@ -9,7 +9,7 @@ ghost use Rattle.consistency.specs.Counting.{howMany};
 ghost use Rattle.consistency.specs.Counts.{total, lines, lineBytes};
 ghost use Rattle.sheet.specs.Lists.{stands, linesBelow, InMarks, Room, Passed};
 
-pub(crate) fn wide(x: u8) -> usize
+fn wide(x: u8) -> usize
     ensures { λ r. ⌜ r ≡ x ⌝ }
 {
     x as usize
