@@ -36,8 +36,8 @@ refuse-requires-3 c κs = search needs
 returns-2 : tie.Need-returns-2
 returns-2 c = let n : length (c .before .before .before .before .before .before .before .before .before .args .self .places) ≡ 32 = search needs in c .refuse3 .ensures [] ∙ withdrawn-17 (c .before .before .before .before .before .before .before .before .before .args .book .now) (c .before .before .before .before .before .before .before .before .before .args .self .places) (c .before .before .before .before .before .before .before .before .before .args .field) _ _ (opens-ready _ _ _ (c .before .before .before .before .before .before .«open» .ensures) _ _ (c .before .before .before .before .opened2 .given .1)) n (c .before .before .if1 .left) (c .before .if2 .taken)
 
-array-write-next : tie.Need-array-write-next
-array-write-next c = omega (arith, fields-few _ _ _ (opens-ready _ _ _ (c .before .before .before .before .before .«open» .ensures) _ _ (c .before .before .before .opened2 .given .1) .at))
+array-write-rest : tie.Need-array-write-rest
+array-write-rest c = omega (arith, fields-few _ _ _ (opens-ready _ _ _ (c .before .before .before .before .before .«open» .ensures) _ _ (c .before .before .before .opened2 .given .1) .at))
 
 returns-3 : tie.Need-returns-3
 returns-3 c = c .refuse .ensures [] ∙ withdrawn-turned (c .before .before .before .before .before .before .before .args .book .now) (c .before .before .before .before .before .before .before .args .self .places) (c .before .before .before .before .before .before .before .args .field) _ _ (opens-turned _ _ _ (c .before .before .before .before .«open» .ensures) _ _ (c .before .before .opened .given .1))
@@ -58,6 +58,6 @@ withdraw-spec =
     array-read-if2
     refuse-requires-3
     returns-2
-    array-write-next
+    array-write-rest
     returns-3
     returns-4)
