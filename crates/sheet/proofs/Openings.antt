@@ -1,19 +1,25 @@
 -- What is known where book and sheet pass 1 to 14, and what every call on a sheet answers by them. Assumes nothing.
 use mathlib.Core.Path.{_≡_, sym, ap, ap₂, subst, _∙_}
-use mathlib.Core.List.{List, [], _∷_}
+use mathlib.Core.List.{List}
 use Prim.Native.Nat.{ℕ, _+_, _≤_, _<_}
 use native.Mathlib.Omega.{arith}
 use lib.Dec.{ltb, eqb}
 use lib.ListN.{length, List·getD-eq-default}
 use borrow.Author.Tests.{lt-ltb, le-ltb}
 use Rattle.format.specs.Format.{Book, byte, versionOf, bookOf}
-use Rattle.format.specs.Reading.{Outcome, accepted, refused, Verdict, pass, fail, andThen, verdict, outcome, checking}
+use Rattle.format.specs.Reading.{Outcome, refused, Verdict, pass, fail, andThen, verdict, outcome, checking}
 use Rattle.format.proofs.Accepted.{checked-verdict}
 use Rattle.format.proofs.Picks.{pick-holds, pick-first, pick-second}
 use Rattle.format.proofs.Refusals.{checking-pass}
 use Rattle.format.proofs.Trailer.{fail≢pass}
 use Rattle.format.proofs.Verdict.{verdict-promise}
 use Rattle.format.proofs.Views.{counts-count, counts-view}
+use Rattle.book.specs.Shown as book
+use Rattle.book.specs.Shown.{shownCheck}
+use Rattle.book.specs.declared.Refusal.{Refusal}
+use Rattle.book.specs.declared.Checked.{Checked}
+use Rattle.book.specs.declared.Checked.the-variants.{Good, Bad}
+use Rattle.book.proofs.Injective.{number-some}
 use Rattle.consistency.specs.Consistency.{places, codes}
 use Rattle.calls.specs.Calls.{Result, turned, faultOf, withBook, faultThen, onSheet}
 use Rattle.sheet.specs.Shown.{numberOf}
@@ -31,18 +37,18 @@ outcome-fail pass counts k number place h e = absurd (omega (arith, ap (λ (o : 
 outcome-fail (fail number′ place′) counts k number place h e =
     ap₂ fail (ap (λ (o : Outcome). o .number) e) (ap (λ (o : Outcome). o .place) e)
 
-module _ (bytes : List ℕ) where
-  -- a book that it refuses
-  pub checked-bad : (number place : ℕ) → 1 ≤ number → refused 4 number place ≡ checking bytes → fail number place ≡ verdict bytes
+module _ (bytes : List ℕ) (r : Checked) (is : shownCheck r ≡ checking bytes) where
+  -- it refuses the book
+  pub checks-bad : (kind : Refusal) (place : ℕ) → r ≡ Bad kind place → fail (book.numberOf kind) place ≡ verdict bytes
   unfolding checking
-  checked-bad number place h e = outcome-fail (verdict bytes) _ 4 number place h e
+  checks-bad kind place e = outcome-fail (verdict bytes) _ 4 _ place (number-some kind) (sym (ap shownCheck e) ∙ is)
 
-  -- a book that it accepts
-  pub checked-good : (list fields tables rows : ℕ) → accepted (list ∷ fields ∷ tables ∷ rows ∷ []) ≡ checking bytes
-      → FieldsAt bytes list fields
-  checked-good list fields tables rows e =
-      let p : verdict bytes ≡ pass = checked-verdict bytes (sym (ap (λ (o : Outcome). o .number) e)) in
-      let counts = ap (λ (o : Outcome). o .counts) (e ∙ sym (checking-pass bytes (sym p))) in
+  -- it accepts the book
+  pub checks-good : (list fields tables rows : ℕ) → r ≡ Good list fields tables rows → FieldsAt bytes list fields
+  checks-good list fields tables rows e =
+      let shown = sym (ap shownCheck e) ∙ is in
+      let p : verdict bytes ≡ pass = checked-verdict bytes (sym (ap (λ (o : Outcome). o .number) shown)) in
+      let counts = ap (λ (o : Outcome). o .counts) (shown ∙ sym (checking-pass bytes (sym p))) in
       record { passes = p; list-is = cc counts; fields-is = cc counts }
 
 -- ---- the fields of a book that passes, by places in its bytes
@@ -58,6 +64,7 @@ module _ (bytes : List ℕ) (list fields : ℕ) (at : FieldsAt bytes list fields
       let limit = pick-holds (λ (n : ℕ). n ≤ places) (eqb (versionOf bytes) 1) {a = 32} {b = 0} (omega arith) (omega arith) in
       omega (arith, limit, at .fields-is, verdict-promise bytes (at .passes) .few)
 
+  -- the book has as many fields as its trailer says
   pub fields-count : length (bookOf bytes .counts) ≡ fields
   fields-count = counts-count bytes (verdict-promise bytes (at .passes) .whole) ∙ sym (at .fields-is)
 
@@ -92,11 +99,13 @@ module _ (bytes s : List ℕ) where
 
 -- by the book's verdict and the first place at fault
 module _ (bytes s : List ℕ) (refuse : ℕ → ℕ → Result) (go : Book → Result) where
+  -- all pass
   go-on : (v : Verdict) → pass ≡ andThen v (faultTest (faultOf (bookOf bytes) s))
       → go (bookOf bytes) ≡ withBook bytes refuse v (λ b. faultThen refuse (faultOf b s) (go b))
   go-on pass e = rw (pick-second (ltb (faultOf (bookOf bytes) s) places) fail≢pass (sym e) .0)
   go-on (fail number place) e = absurd (fail≢pass (sym e))
 
+  -- one fails
   stop-here : (v : Verdict) (number place : ℕ) → fail number place ≡ andThen v (faultTest (faultOf (bookOf bytes) s))
       → refuse number place ≡ withBook bytes refuse v (λ b. faultThen refuse (faultOf b s) (go b))
   stop-here pass number place e =
@@ -124,8 +133,10 @@ pub record IsOpen (bytes s : List ℕ) (list fields : ℕ) : Type 0 where
   pub at : FieldsAt bytes list fields
 
 module _ (bytes s : List ℕ) (r : Opened) (o : Opens bytes s r) where
+  -- it is ready: both pass
   pub opens-ready : (list fields : ℕ) → r ≡ Ready list fields → IsOpen bytes s list fields
   opens-ready list fields e = record { passes = sym (ap openingOf e) ∙ o .answers; at = subst (Finds bytes) e (o .finds) }
 
+  -- it is turned down: its reason is the first refusal
   pub opens-turned : (reason : Reason) (place : ℕ) → r ≡ Turned reason place → fail (numberOf reason) place ≡ opening bytes s
   opens-turned reason place e = sym (ap openingOf e) ∙ o .answers

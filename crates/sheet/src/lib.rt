@@ -123,11 +123,11 @@ impl Sheet {
                 if places[f] == 255 {
                     return refuse(self, Reason::NoAnswer, 0);
                 }
-                let mut next = places;
-                next[f] = 255;
+                let mut rest = places;
+                rest[f] = 255;
                 Handed {
                     answer: Answer::Done,
-                    sheet: Sheet { places: next },
+                    sheet: Sheet { places: rest },
                 }
             }
         }

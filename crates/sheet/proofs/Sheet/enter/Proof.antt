@@ -24,28 +24,40 @@ refuse-requires-2 : tie.Need-refuse-requires-2
 refuse-requires-2 c κs = search needs
 
 returns : tie.Need-returns
-returns c = c .refuse2 .ensures [] ∙ entered-15 (c .before .before .before .before .before .before .before .before .args .book .now) (c .before .before .before .before .before .before .before .before .args .self .places) (c .before .before .before .before .before .before .before .before .args .field) (c .before .before .before .before .before .before .before .before .args .code) _ _ (opens-ready _ _ _ (c .before .before .before .before .before .«open» .ensures) _ _ (c .before .before .before .opened2 .given .1)) (c .before .if1 .taken)
+returns c =
+    let o = opens-ready _ _ _ (c .before .before .before .before .before .«open» .ensures) _ _ (c .before .before .before .opened2 .given .1) in
+    c .refuse2 .ensures [] ∙ entered-15 _ _ _ _ _ _ o (c .before .if1 .taken)
 
 add-if2 : tie.Need-add-if2
-add-if2 c = omega (arith, fields-end _ _ _ (opens-ready _ _ _ (c .before .before .before .before .«open» .ensures) _ _ (c .before .before .opened2 .given .1) .at))
+add-if2 c =
+    let o = opens-ready _ _ _ (c .before .before .before .before .«open» .ensures) _ _ (c .before .before .opened2 .given .1) in
+    omega (arith, fields-end _ _ _ (o .at))
 
 shared-slice-read-if2 : tie.Need-shared-slice-read-if2
-shared-slice-read-if2 c = omega (arith, fields-end _ _ _ (opens-ready _ _ _ (c .before .before .before .before .before .«open» .ensures) _ _ (c .before .before .before .opened2 .given .1) .at))
+shared-slice-read-if2 c =
+    let o = opens-ready _ _ _ (c .before .before .before .before .before .«open» .ensures) _ _ (c .before .before .before .opened2 .given .1) in
+    omega (arith, fields-end _ _ _ (o .at))
 
 refuse-requires-3 : tie.Need-refuse-requires-3
 refuse-requires-3 c κs = search needs
 
 returns-2 : tie.Need-returns-2
-returns-2 c = c .refuse3 .ensures [] ∙ entered-16 (c .before .before .before .before .before .before .before .before .before .before .args .book .now) (c .before .before .before .before .before .before .before .before .before .before .args .self .places) (c .before .before .before .before .before .before .before .before .before .before .args .field) (c .before .before .before .before .before .before .before .before .before .before .args .code) _ _ (opens-ready _ _ _ (c .before .before .before .before .before .before .before .«open» .ensures) _ _ (c .before .before .before .before .before .opened2 .given .1)) (c .before .before .before .if1 .left) (c .before .if2 .taken)
+returns-2 c =
+    let o = opens-ready _ _ _ (c .before .before .before .before .before .before .before .«open» .ensures) _ _ (c .before .before .before .before .before .opened2 .given .1) in
+    c .refuse3 .ensures [] ∙ entered-16 _ _ _ _ _ _ o (c .before .before .before .if1 .left) (c .before .if2 .taken)
 
 array-write-next : tie.Need-array-write-next
-array-write-next c = omega (arith, fields-few _ _ _ (opens-ready _ _ _ (c .before .before .before .before .before .before .«open» .ensures) _ _ (c .before .before .before .before .opened2 .given .1) .at))
+array-write-next c =
+    let o = opens-ready _ _ _ (c .before .before .before .before .before .before .«open» .ensures) _ _ (c .before .before .before .before .opened2 .given .1) in
+    omega (arith, fields-few _ _ _ (o .at))
 
 returns-3 : tie.Need-returns-3
-returns-3 c = c .refuse .ensures [] ∙ entered-turned (c .before .before .before .before .before .before .before .args .book .now) (c .before .before .before .before .before .before .before .args .self .places) (c .before .before .before .before .before .before .before .args .field) (c .before .before .before .before .before .before .before .args .code) _ _ (opens-turned _ _ _ (c .before .before .before .before .«open» .ensures) _ _ (c .before .before .opened .given .1))
+returns-3 c = c .refuse .ensures [] ∙ entered-turned _ _ _ _ _ _ (opens-turned _ _ _ (c .before .before .before .before .«open» .ensures) _ _ (c .before .before .opened .given .1))
 
 returns-4 : tie.Need-returns-4
-returns-4 c = entered-done (c .before .before .before .before .before .before .before .before .before .args .book .now) (c .before .before .before .before .before .before .before .before .before .args .self .places) (c .before .before .before .before .before .before .before .before .before .args .field) (c .before .before .before .before .before .before .before .before .before .args .code) _ _ (opens-ready _ _ _ (c .before .before .before .before .before .before .«open» .ensures) _ _ (c .before .before .before .before .opened2 .given .1)) (c .before .before .if1 .left) (c .if2 .left)
+returns-4 c =
+    let o = opens-ready _ _ _ (c .before .before .before .before .before .before .«open» .ensures) _ _ (c .before .before .before .before .opened2 .given .1) in
+    entered-done _ _ _ _ _ _ o (c .before .before .if1 .left) (c .if2 .left)
 
 pub enter-spec : {M : Type 1} → statement M
 enter-spec =

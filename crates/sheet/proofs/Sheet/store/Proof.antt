@@ -27,22 +27,30 @@ refuse-requires-2 : tie.Need-refuse-requires-2
 refuse-requires-2 c κs = search needs
 
 returns : tie.Need-returns
-returns c = c .refuse2 .ensures _ ∙ stored-18 (c .before .before .before .before .before .before .before .before .before .args .book .now) (c .before .before .before .before .before .before .before .before .before .args .self .places) (c .before .before .before .before .before .before .before .before .before .args .out .now) _ _ (opens-ready _ _ _ (c .before .before .before .before .before .«open» .ensures) _ _ (c .before .before .before .opened2 .given .1)) (c .before .if1 .taken)
+returns c =
+    let o = opens-ready _ _ _ (c .before .before .before .before .before .«open» .ensures) _ _ (c .before .before .before .opened2 .given .1) in
+    c .refuse2 .ensures _ ∙ stored-18 _ _ _ _ _ o (c .before .if1 .taken)
 
 slice-aggregate-copy : tie.Need-slice-aggregate-copy
 slice-aggregate-copy c = search needs
 
 copy-requires : tie.Need-copy-requires
-copy-requires c κs = let n : length (c .before .before .before .before .before .before .before .before .before .before .args .self .places) ≡ 32 = search needs in let few = fields-few _ _ _ (opens-ready _ _ _ (c .before .before .before .before .before .before .«open» .ensures) _ _ (c .before .before .before .before .opened2 .given .1) .at) in (omega arith, omega arith)
+copy-requires c κs =
+    let o = opens-ready _ _ _ (c .before .before .before .before .before .before .«open» .ensures) _ _ (c .before .before .before .before .opened2 .given .1) in
+    let few = fields-few _ _ _ (o .at) in
+    let long : length (c .before .before .before .before .before .before .before .before .before .before .args .self .places) ≡ 32 = search needs in
+    (omega arith, omega arith)
 
 returns-2 : tie.Need-returns-2
-returns-2 c = c .refuse .ensures _ ∙ stored-turned (c .before .before .before .before .before .before .before .before .args .book .now) (c .before .before .before .before .before .before .before .before .args .self .places) (c .before .before .before .before .before .before .before .before .args .out .now) _ _ (opens-turned _ _ _ (c .before .before .before .before .«open» .ensures) _ _ (c .before .before .opened .given .1))
+returns-2 c = c .refuse .ensures _ ∙ stored-turned _ _ _ _ _ (opens-turned _ _ _ (c .before .before .before .before .«open» .ensures) _ _ (c .before .before .opened .given .1))
 
 same-length : tie.Need-same-length
 same-length c = search needs
 
 returns-3 : tie.Need-returns-3
-returns-3 c = ap (λ (l : List ℕ). done [] (c .before .before .before .before .before .before .before .before .before .before .before .before .before .args .self .places) l) (c .before .before .copy .ensures) ∙ stored-done (c .before .before .before .before .before .before .before .before .before .before .before .before .before .args .book .now) (c .before .before .before .before .before .before .before .before .before .before .before .before .before .args .self .places) (c .before .before .before .before .before .before .before .before .before .before .before .before .before .args .out .now) _ _ (opens-ready _ _ _ (c .before .before .before .before .before .before .before .before .before .«open» .ensures) _ _ (c .before .before .before .before .before .before .before .opened2 .given .1)) (c .before .before .before .before .before .if1 .left)
+returns-3 c =
+    let o = opens-ready _ _ _ (c .before .before .before .before .before .before .before .before .before .«open» .ensures) _ _ (c .before .before .before .before .before .before .before .opened2 .given .1) in
+    ap (λ (l : List ℕ). done [] (c .before .before .before .before .before .before .before .before .before .before .before .before .before .args .self .places) l) (c .before .before .copy .ensures) ∙ stored-done _ _ _ _ _ o (c .before .before .before .before .before .if1 .left)
 
 pub store-spec : {M : Type 1} → statement M
 store-spec =

@@ -22,7 +22,9 @@ shared-slice-read-out : tie.Need-shared-slice-read-out Inv-loop μ-loop
 shared-slice-read-out c = search needs
 
 slice-write-out : tie.Need-slice-write-out Inv-loop μ-loop
-slice-write-out c = omega (arith, ap length (c .before .before .loop .inv .1), copied-length (c .before .before .before .args .from .now) (c .before .before .before .args .out .now) (c .before .before .loop .i) (omega arith) (omega arith))
+slice-write-out c =
+    let a = (c .before .before .before .args) in
+    omega (arith, ap length (c .before .before .loop .inv .1), copied-length (a .from .now) (a .out .now) (c .before .before .loop .i) (omega arith) (omega arith))
 
 add-i : tie.Need-add-i Inv-loop μ-loop
 add-i c = search needs
@@ -31,13 +33,22 @@ loop-less : tie.Need-loop-less Inv-loop μ-loop
 loop-less c = search needs
 
 loop-again : tie.Need-loop-again Inv-loop μ-loop
-loop-again c = (search needs, ap (λ (l : List ℕ). set l (c .before .before .loop .i) (getD (c .before .before .before .args .from .now) (c .before .before .loop .i) 0)) (c .before .before .loop .inv .1) ∙ copied-on (c .before .before .before .args .from .now) (c .before .before .before .args .out .now) (c .before .before .loop .i) (omega arith) (omega arith))
+loop-again c =
+    let a = (c .before .before .before .args) in
+    let i = c .before .before .loop .i in
+    let stored = ap (λ (l : List ℕ). set l i (getD (a .from .now) i 0)) (c .before .before .loop .inv .1) in
+    (search needs, stored ∙ copied-on (a .from .now) (a .out .now) i (omega arith) (omega arith))
 
 same-length : tie.Need-same-length Inv-loop μ-loop
-same-length c = ap length (c .before .loop .inv .1) ∙ copied-length (c .before .before .args .from .now) (c .before .before .args .out .now) (c .before .loop .i) (omega arith) (omega arith)
+same-length c =
+    let a = (c .before .before .args) in
+    ap length (c .before .loop .inv .1) ∙ copied-length (a .from .now) (a .out .now) (c .before .loop .i) (omega arith) (omega arith)
 
 returns : tie.Need-returns Inv-loop μ-loop
-returns c = let e : (c .before .loop .i) ≡ c .before .before .args .n = omega arith in c .before .loop .inv .1 ∙ ap (λ (k : ℕ). take k (c .before .before .args .from .now) ++ drop k (c .before .before .args .out .now)) e
+returns c =
+    let a = (c .before .before .args) in
+    let all : (c .before .loop .i) ≡ a .n = omega arith in
+    c .before .loop .inv .1 ∙ ap (λ (k : ℕ). take k (a .from .now) ++ drop k (a .out .now)) all
 
 pub copy-spec : {M : Type 1} → statement M
 copy-spec =
