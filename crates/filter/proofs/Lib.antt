@@ -14,7 +14,9 @@ pub mod Narrowing
 pub mod RowSearch
 pub mod FirstRow
 pub mod StartDomains
+pub mod CaseMarks
 pub mod Ends
 pub mod Propagation
 pub mod Totals
 pub mod Gathers
+pub mod Passes
