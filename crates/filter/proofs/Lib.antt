@@ -20,3 +20,4 @@ pub mod Propagation
 pub mod Totals
 pub mod Gathers
 pub mod Passes
+pub mod Agreement

@@ -23,11 +23,15 @@ use Rattle.filter.specs.Start.{startWord, StartsField, FieldStarted, Sta
 use Rattle.filter.proofs.Tallies.{sum-ext}
 use Rattle.filter.proofs.Limits.{fields-few, codes-few}
 
+-- an element of a list does not turn on the value that stands for none
+pub any-default : {A : Type 0} (l : List A) (i : ℕ) (d e : A) → i < length l → getD l i d ≡ getD l i e
+any-default [] i d e h = absurd (omega arith)
+any-default (x ∷ l) zero d e h = refl
+any-default (x ∷ l) (suc i) d e h = any-default l i d e (omega arith)
+
 -- an answer within the sheet
 pub answer-at : (a : List ℕ) (f : ℕ) → f < length a → getD a f 0 ≡ answer a f
-answer-at [] f l = absurd (omega arith)
-answer-at (x ∷ a) zero l = refl
-answer-at (x ∷ a) (suc f) l = answer-at a f (omega arith)
+answer-at a f l = any-default a f 0 255 l
 
 -- words that are all 0
 pub zeros : (n i : ℕ) → _≡_ {A = ℕ} (getD (replicate n 0) i 0) 0
