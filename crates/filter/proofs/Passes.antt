@@ -49,7 +49,7 @@ tabulate-ext g h n e =
     at : (f : ℕ → ℕ) {k : ℕ} → k < n → getD (tabulate f n 0) k 0 ≡ f k
     at f {k} m = tabulate-at f n 0 k 0 m ∙ ap f (zero-add k)
 
--- ---- what the parts ask
+-- ---- what the parts of a pass ask, and what they leave
 
 module _ (s a own : List ℕ) (all : ℕ) (g : RunGiven s a own all) (list fields tables : ℕ)
     (h : HeaderIs s list fields tables) where
@@ -63,14 +63,20 @@ module _ (s a own : List ℕ) (all : ℕ) (g : RunGiven s a own all) (list field
     queue-bit : (i : ℕ) → bit d i ≡ ltb i (tableCount s)
     queue-bit i = ap (λ (z : ℕ). bit z i) de ∙ low-bits tables i ∙ ap (ltb i) (h .tables-is)
 
+    cases-few : ones all ≤ 64
+    cases-few = subst (λ (z : ℕ). z ≤ 64) (sym (ap ones (g .are .all-is) ∙ ones-ones (length (g .cases)))) (g .are .few)
+
+    fields-in : length (bookOf s .counts) ≤ places
+    fields-in = omega (arith, counts-count s (g .promise .whole), fields-few s (g .promise))
+
+    all-codes-few : allCodes (bookOf s) ≤ places * codeLimit
+    all-codes-few =
+        le-trans (sum-le (length (bookOf s .counts)) codeLimit (codes (bookOf s)) (codes-few s (g .promise)))
+        (mul-le-mul fields-in (le-refl codeLimit))
+
     -- the count has room for all marks
     room : Room (bookOf s) M r
-    room =
-        let n : ones all ≤ 64 = subst (λ (z : ℕ). z ≤ 64) (sym (ap ones (g .are .all-is) ∙ ones-ones (length (g .cases)))) (g .are .few) in
-        let k : allCodes (bookOf s) ≤ places * codeLimit =
-        le-trans (sum-le (length (bookOf s .counts)) codeLimit (codes (bookOf s)) (codes-few s (g .promise)))
-        (mul-le-mul (let l : length (bookOf s .counts) ≤ places = omega (arith, counts-count s (g .promise .whole), fields-few s (g .promise)) in l) (le-refl codeLimit)) in
-        omega (arith, x .counts, mul-le-mul n k)
+    room = omega (arith, x .counts, mul-le-mul cases-few all-codes-few)
 
     pub propagate-given : PropagateGiven s M W P list r d
     propagate-given =
