@@ -3,6 +3,7 @@ pub mod Bits
 pub mod Words
 pub mod Removals
 pub mod Limits
+pub mod Lists
 pub mod Stores
 pub mod Starts
 pub mod StartFields

@@ -2,10 +2,9 @@
 use mathlib.Core.Path.{_≡_, refl, sym, ap, _∙_, subst}
 use mathlib.Core.List.{List, [], _∷_}
 use Prim.Native.Nat.{ℕ, zero, suc, _-_, _*_, _^_, _≤_, _<_}
-use native.Mathlib.Nat.{le-refl, le-trans, zero-add, suc-mul, mul-le-mul}
+use native.Mathlib.Nat.{le-refl, le-trans, suc-mul, mul-le-mul}
 use native.Mathlib.Omega.{arith}
 use lib.ListN.{length, getD, replicate}
-use lib.Seq.{ext-getD}
 use lib.Count.{ones, ones-ones}
 use lib.Dec.{T, ltb, ltb→lt, lt→ltb}
 use Rattle.format.specs.Format.{codeLimit, tableLimit, fieldCount, tableCount, bookOf}
@@ -15,7 +14,6 @@ use Rattle.consistency.specs.Counting.{sumBelow, tabulate}
 use Rattle.consistency.specs.Consistency.{places, codes}
 use Rattle.consistency.specs.Largest.{largest}
 use Rattle.consistency.specs.Counts.{mask, struck}
-use Rattle.consistency.proofs.Sums.{length-tabulate, tabulate-at}
 use Rattle.consistency.proofs.Masks.{mask-ext}
 use Rattle.filter.specs.Words.{bit, wordAt, domainOf}
 use Rattle.filter.specs.Cases.{casesOf, marksOf, plainOf}
@@ -26,7 +24,7 @@ use Rattle.filter.proofs.Bits.{low-bits}
 use Rattle.filter.proofs.Limits.{fields-few, codes-few}
 use Rattle.filter.proofs.Totals.{allCodes}
 use Rattle.filter.proofs.CaseWords.{own-within, one-case}
-use Rattle.filter.proofs.StartFields.{zeros}
+use Rattle.filter.proofs.Lists.{zeros, tabulate-ext}
 use Rattle.filter.proofs.StartDomains.{started-of-book}
 use Rattle.filter.proofs.Words.{domain-bit}
 use Rattle.filter.proofs.CaseMarks.{marks-bit}
@@ -37,17 +35,6 @@ use Rattle.filter.proofs.Ends.{marks-ended, count-ended, outside-struck
 sum-le : (n m : ℕ) (g : ℕ → ℕ) → ((k : ℕ) → g k ≤ m) → sumBelow n g ≤ n * m
 sum-le zero m g h = omega arith
 sum-le (suc n) m g h = omega (arith, sum-le n m g h, h n, suc-mul n m)
-
--- a list of values turns on the values below its length
-tabulate-ext : (g h : ℕ → ℕ) (n : ℕ) → ((k : ℕ) → k < n → g k ≡ h k) → tabulate g n 0 ≡ tabulate h n 0
-tabulate-ext g h n e =
-    ext-getD 0 (tabulate g n 0) (tabulate h n 0) (length-tabulate g n 0 ∙ sym (length-tabulate h n 0))
-    (λ k l.
-    let m : k < n = subst (λ (z : ℕ). k < z) (length-tabulate g n 0) l in
-    at g m ∙ e k m ∙ sym (at h m))
-  where
-    at : (f : ℕ → ℕ) {k : ℕ} → k < n → getD (tabulate f n 0) k 0 ≡ f k
-    at f {k} m = tabulate-at f n 0 k 0 m ∙ ap f (zero-add k)
 
 -- ---- what the parts of a pass ask, and what they leave
 

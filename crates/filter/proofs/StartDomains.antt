@@ -23,7 +23,7 @@ use Rattle.filter.specs.Start.{CasesAre, startWord, Started}
 use Rattle.filter.proofs.Bits.{zero-bit}
 use Rattle.filter.proofs.Words.{domain-bit}
 use Rattle.filter.proofs.Limits.{fields-few, codes-few}
-use Rattle.filter.proofs.Starts.{word-within}
+use Rattle.filter.proofs.Starts.{or-true, word-within}
 use Rattle.filter.proofs.CaseWords.{all-bit, own-within}
 
 module _ (s a own : List ℕ) (all : ℕ) (M : List ℕ) (r : ℕ) (p : Promise s) (x : Started (bookOf s) a own all M r) where
@@ -82,11 +82,7 @@ module _ (s a own : List ℕ) (all : ℕ) (M : List ℕ) (r : ℕ) (p : Promise 
         or-false true = refl
         or-false false = refl
 
-        or-true : (t : Bool) → (t || true) ≡ true
-        or-true true = refl
-        or-true false = refl
-
-        relaxed : (o : Bool) → (((eqb (answer a f) 255 || eqb c (answer a f))) || o) ≡ (eqb (pick o 255 (answer a f)) 255 || eqb c (pick o 255 (answer a f)))
+        relaxed : (o : Bool) → ((eqb (answer a f) 255 || eqb c (answer a f)) || o) ≡ (eqb (pick o 255 (answer a f)) 255 || eqb c (pick o 255 (answer a f)))
         relaxed true = or-true (eqb (answer a f) 255 || eqb c (answer a f))
         relaxed false = or-false (eqb (answer a f) 255 || eqb c (answer a f))
 

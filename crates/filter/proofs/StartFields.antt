@@ -1,8 +1,8 @@
 -- The start of the marks, field by field, and the whole of it. Assumes nothing.
-use mathlib.Core.Path.{_≡_, refl, sym, ap, _∙_, subst}
+use mathlib.Core.Path.{_≡_, sym, ap, _∙_, subst}
 use mathlib.Core.Bool.{Bool}
-use mathlib.Core.List.{List, [], _∷_}
-use Prim.Native.Nat.{ℕ, zero, suc, _+_, _*_, _≤_, _<_}
+use mathlib.Core.List.{List}
+use Prim.Native.Nat.{ℕ, _+_, _*_, _≤_, _<_}
 use native.Mathlib.Nat.{le-trans, mul-add, mul-zero}
 use native.Mathlib.Numerals.{add-one}
 use native.Mathlib.Decide.{decLt}
@@ -21,27 +21,13 @@ use Rattle.consistency.proofs.CodeCounts.{field-in}
 use Rattle.filter.specs.Words.{bit, wordAt, standing}
 use Rattle.filter.specs.Start.{startWord, StartsField, FieldStarted, Starts, Started}
 use Rattle.filter.proofs.Tallies.{sum-ext}
+use Rattle.filter.proofs.Lists.{answer-at, zeros}
 use Rattle.filter.proofs.Limits.{fields-few, codes-few}
-
--- an element of a list does not turn on the value that stands for none
-pub any-default : {A : Type 0} (l : List A) (i : ℕ) (d e : A) → i < length l → getD l i d ≡ getD l i e
-any-default [] i d e h = absurd (omega arith)
-any-default (x ∷ l) zero d e h = refl
-any-default (x ∷ l) (suc i) d e h = any-default l i d e (omega arith)
-
--- an answer within the sheet
-pub answer-at : (a : List ℕ) (f : ℕ) → f < length a → getD a f 0 ≡ answer a f
-answer-at a f l = any-default a f 0 255 l
-
--- words that are all 0
-pub zeros : (n i : ℕ) → _≡_ {A = ℕ} (getD (replicate n 0) i 0) 0
-zeros zero i = refl
-zeros (suc n) zero = refl
-zeros (suc n) (suc i) = zeros n i
+use Rattle.filter.proofs.Starts.{casesAt}
 
 -- the number of marks of field f that stand, over the cases
 abbrev standingOf : Book → List ℕ → ℕ → ℕ
-standingOf b N f = sumBelow (codes b f) (λ c. howMany 64 (bit (wordAt N f c)))
+standingOf b N f = sumBelow (codes b f) (casesAt N f)
 
 -- the fields below m are started, the others' words are 0
 pub record StartedBelow (b : Book) (a own : List ℕ) (all : ℕ) (N : List ℕ) (m r : ℕ) : Type 0 where
@@ -52,6 +38,7 @@ pub record StartedBelow (b : Book) (a own : List ℕ) (all : ℕ) (N : List ℕ)
   pub counts : r + sumBelow m (standingOf b N) ≡ ones all * sumBelow m (codes b)
   pub few : r ≤ 2048 * m
 
+-- no field yet
 pub started-none : (b : Book) (a own : List ℕ) (all : ℕ) (N : List ℕ) → length a ≡ places → N ≡ replicate (places * codeLimit) 0
     → StartedBelow b a own all N 0 0
 started-none b a own all N l e =
@@ -65,7 +52,9 @@ started-none b a own all N l e =
     }
 
 module _ (s a own : List ℕ) (all list fields : ℕ) (q : Starts s own all list fields) where
+  -- one field more
   module _ (N : List ℕ) (f t : ℕ) (y : StartedBelow (bookOf s) a own all N f t) (l : f < fields) where
+    -- f is a field of the book
     fl : f < fieldCount s
     fl = omega (arith, q .fields-is)
 
@@ -104,13 +93,13 @@ module _ (s a own : List ℕ) (all list fields : ℕ) (q : Starts s own all list
 
         -- the marks of f that stand are as many as its cases and codes, but those counted now
         field-counts : u + standingOf (bookOf s) P f ≡ t + ones all * codes (bookOf s) f
-        field-counts = subst (λ (z : ℕ). u + sumBelow z (λ c. howMany 64 (bit (wordAt P f c))) ≡ t + ones all * z) k-codes (x .counts)
+        field-counts = subst (λ (z : ℕ). u + sumBelow z (casesAt P f) ≡ t + ones all * z) k-codes (x .counts)
 
         below-counts : sumBelow f (standingOf (bookOf s) P) ≡ sumBelow f (standingOf (bookOf s) N)
         below-counts =
             sum-ext f (standingOf (bookOf s) P) (standingOf (bookOf s) N)
             (λ g gl.
-            sum-ext (codes (bookOf s) g) (λ c. howMany 64 (bit (wordAt P g c))) (λ c. howMany 64 (bit (wordAt N g c)))
+            sum-ext (codes (bookOf s) g) (casesAt P g) (casesAt N g)
             (λ c cl. ap (λ (z : ℕ). howMany 64 (bit z)) (same g c gl cl)))
 
         sums : (S S′ F n K k : ℕ) → t + S ≡ n * K → S′ ≡ S → u + F ≡ t + n * k → u + (S′ + F) ≡ n * (K + k)
