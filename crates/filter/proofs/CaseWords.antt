@@ -8,20 +8,20 @@ use native.Mathlib.Nat.{pow-suc}
 use native.Mathlib.Numerals.{add-one}
 use native.Mathlib.Decide.{ℕ-discrete}
 use native.Mathlib.Omega.{arith}
-use borrow.Author.Tests.{eq-eqb, ne-eqb}
+use borrow.Author.Tests.{eq-eqb, ne-eqb, lt-ltb}
 use lib.ListN.{length, getD, set, length-set, length-append, List·getD-append}
 use lib.Seq.{getD-set-same, getD-set-other, getD-append-seam}
 use lib.Pow.{pow-pos, pow-mono}
-use lib.Dec.{T, eqb, eqb→eq}
+use lib.Dec.{T, eqb, ltb, eqb→eq}
 use Rattle.format.specs.Basics.{pick}
 use Rattle.consistency.specs.Counting.{those}
 use Rattle.consistency.specs.Consistency.{places, answer, relax}
 use Rattle.consistency.specs.Counts.{answered}
-use Rattle.consistency.proofs.Booleans.{T-false, below-suc}
+use Rattle.consistency.proofs.Booleans.{true-T, T-false, below-suc}
 use Rattle.filter.specs.Words.{bit}
 use Rattle.filter.specs.Start.{CasesAre, casesBelow}
-use Rattle.filter.proofs.Bits.{zero-bit, one-bit}
-use Rattle.filter.proofs.StartFields.{answer-at}
+use Rattle.filter.proofs.Bits.{zero-bit, one-bit, low-bits}
+use Rattle.filter.proofs.Lists.{answer-at}
 
 -- a word that is 0 has no case
 no-case : (w k : ℕ) → w ≡ 0 → bit w k ≡ false
@@ -29,6 +29,14 @@ no-case w k e = ap (λ (z : ℕ). bit z k) e ∙ zero-bit k
 
 false-not : (x : Bool) → x ≡ false → T x → ⊥
 false-not x e t = subst T e t
+
+-- the bits of `all` are the cases, and a field is relaxed in cases only
+pub all-bit : {a own : List ℕ} {all : ℕ} {cs : List (List ℕ)} → CasesAre a own all cs → (k : ℕ) → bit all k ≡ ltb k (length cs)
+all-bit {cs = cs} x k = ap (λ (w : ℕ). bit w k) (x .all-is) ∙ low-bits (length cs) k
+
+pub own-within : {a own : List ℕ} {all : ℕ} {cs : List (List ℕ)} → CasesAre a own all cs
+    → (f k : ℕ) → T (bit (getD own f 0) k) → T (bit all k)
+own-within {cs = cs} x f k t = true-T (all-bit x k ∙ lt-ltb k (length cs) (x .within f k t))
 
 -- nothing is relaxed: one case, with the answers themselves
 pub one-case : (a own : List ℕ) → ((f : ℕ) → getD own f 0 ≡ 0) → CasesAre a own 1 (a ∷ [])

@@ -4,7 +4,7 @@ use mathlib.Core.Path.{_≡_, refl, sym, ap, _∙_, subst}
 use mathlib.Core.Bool.{false, _&&_}
 use mathlib.Core.List.{List, [], _∷_, map}
 use Prim.Native.Nat.{ℕ, zero, suc, _+_, _*_, _/_, _%_, _^_, _≤_, _<_}
-use native.Mathlib.Nat.{zero-add, add-comm, pow-suc, mod-lt, zero-lt-suc, div-add-mod'}
+use native.Mathlib.Nat.{add-comm, pow-suc, mod-lt, zero-lt-suc, div-add-mod'}
 use native.Mathlib.Decide.{decLt}
 use native.Mathlib.Omega.{arith}
 use borrow.Author.Tests.{lt-ltb, le-ltb}
@@ -20,7 +20,6 @@ use Rattle.consistency.specs.Consistency.{places, relax}
 use Rattle.consistency.specs.Largest.{largest}
 use Rattle.consistency.specs.Counts.{outside, relaxable, struck}
 use Rattle.consistency.proofs.Booleans.{T-false}
-use Rattle.consistency.proofs.Sums.{length-tabulate, tabulate-at}
 use Rattle.consistency.proofs.Masks.{mask-bit}
 use Rattle.filter.specs.Words.{bit, wordAt, domainOf, standing}
 use Rattle.filter.specs.Cases.{casesOf, caseWord, marksOf, outsideOver}
@@ -28,6 +27,7 @@ use Rattle.filter.specs.Start.{CasesAre, Started}
 use Rattle.filter.specs.Queue.{Propagated}
 use Rattle.filter.proofs.Bits.{bit-ext}
 use Rattle.filter.proofs.Words.{domain-bit}
+use Rattle.filter.proofs.CaseMarks.{marks-at, marks-length}
 use Rattle.filter.proofs.Limits.{codes-few}
 use Rattle.filter.proofs.Totals.{allCodes, count-outside, outside-cases}
 use Rattle.filter.proofs.StartDomains.{started-cases, started-holds-all, started-within}
@@ -44,18 +44,6 @@ bits-same v w h = bit-ext (v + w) v w (below v (omega arith)) (below w (omega ar
   where
     below : (u : ℕ) → u ≤ v + w → u < 2 ^ (v + w)
     below u l = let q : 2 ^ u ≤ 2 ^ (v + w) = pow-mono l in omega (arith, below-power u)
-
--- the word of field f and code c among the words of the cases
-pub marks-word : (b : Book) (cs : List (List ℕ)) (i : ℕ) → i < places * codeLimit
-    → getD (marksOf b cs) i 0 ≡ caseWord b cs (i / codeLimit) (i % codeLimit)
-unfolding marksOf
-marks-word b cs i l =
-    tabulate-at (λ j. caseWord b cs (j / codeLimit) (j % codeLimit)) (places * codeLimit) 0 i 0 l
-    ∙ ap (λ (j : ℕ). caseWord b cs (j / codeLimit) (j % codeLimit)) (zero-add i)
-
-pub marks-length : (b : Book) (cs : List (List ℕ)) → length (marksOf b cs) ≡ places * codeLimit
-unfolding marksOf
-marks-length b cs = length-tabulate (λ j. caseWord b cs (j / codeLimit) (j % codeLimit)) (places * codeLimit) 0
 
 -- ---- the end of a pass over cases cs
 
@@ -85,7 +73,7 @@ module _ (s a own : List ℕ) (all : ℕ) (M : List ℕ) (r : ℕ) (N : List ℕ
       ap (λ (j : ℕ). getD N j 0) (sym (div-add-mod' i codeLimit))
       ∙ bits-same (wordAt N (i / codeLimit) (i % codeLimit)) (caseWord (bookOf s) cs (i / codeLimit) (i % codeLimit))
       (λ k. word-bits (i / codeLimit) (i % codeLimit) k (mod-lt i (zero-lt-suc 31)))
-      ∙ sym (marks-word (bookOf s) cs i (subst (λ (n : ℕ). i < n) size l)))
+      ∙ sym (marks-at (bookOf s) cs i (subst (λ (n : ℕ). i < n) size l)))
     where
       size : length N ≡ places * codeLimit
       size = y .same-length ∙ x .size

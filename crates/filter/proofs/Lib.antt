@@ -3,6 +3,7 @@ pub mod Bits
 pub mod Words
 pub mod Removals
 pub mod Limits
+pub mod Lists
 pub mod Stores
 pub mod Starts
 pub mod StartFields
@@ -14,7 +15,10 @@ pub mod Narrowing
 pub mod RowSearch
 pub mod FirstRow
 pub mod StartDomains
+pub mod CaseMarks
 pub mod Ends
 pub mod Propagation
 pub mod Totals
 pub mod Gathers
+pub mod Passes
+pub mod Agreement

@@ -20,10 +20,11 @@ use Rattle.consistency.proofs.Rounds.{start-at, start-within, start-holds-all}
 use Rattle.consistency.proofs.CodeCounts.{field-in}
 use Rattle.filter.specs.Words.{bit, wordAt, domainOf}
 use Rattle.filter.specs.Start.{CasesAre, startWord, Started}
-use Rattle.filter.proofs.Bits.{zero-bit, low-bits}
+use Rattle.filter.proofs.Bits.{zero-bit}
 use Rattle.filter.proofs.Words.{domain-bit}
 use Rattle.filter.proofs.Limits.{fields-few, codes-few}
-use Rattle.filter.proofs.Starts.{word-within}
+use Rattle.filter.proofs.Starts.{or-true, word-within}
+use Rattle.filter.proofs.CaseWords.{all-bit, own-within}
 
 module _ (s a own : List ℕ) (all : ℕ) (M : List ℕ) (r : ℕ) (p : Promise s) (x : Started (bookOf s) a own all M r) where
   -- a code of the book: its field has a place on the sheet
@@ -58,13 +59,6 @@ module _ (s a own : List ℕ) (all : ℕ) (M : List ℕ) (r : ℕ) (p : Promise 
       at (no n) = absurd (false-T (domain-lacking k f c (omega arith)) t)
 
   module _ (cs : List (List ℕ)) (y : CasesAre a own all cs) where
-    -- a bit of `all` is a case
-    all-bit : (k : ℕ) → bit all k ≡ ltb k (length cs)
-    all-bit k = ap (λ (w : ℕ). bit w k) (y .all-is) ∙ low-bits (length cs) k
-
-    own-within : (f k : ℕ) → T (bit (getD own f 0) k) → T (bit all k)
-    own-within f k t = subst T (sym (all-bit k ∙ lt-ltb k (length cs) (y .within f k t))) tt
-
     -- no mark stands outside the cases
     pub started-cases : (k f c : ℕ) → T (domainOf M k f c) → k < length cs
     started-cases k f c t =
@@ -72,7 +66,7 @@ module _ (s a own : List ℕ) (all : ℕ) (M : List ℕ) (r : ℕ) (p : Promise 
         let e : domainOf M k f c ≡ bit (startWord (answer a f) c all (getD own f 0)) k =
         domain-bit M k f c (le-trans l (codes-few s p f)) ∙ ap (λ (w : ℕ). bit w k) (word-started f c l) in
         ltb→lt k (length cs)
-        (subst T (all-bit k) (word-within (answer a f) c all (getD own f 0) (own-within f) k (subst T e t)))
+        (subst T (all-bit y k) (word-within (answer a f) c all (getD own f 0) (own-within y f) k (subst T e t)))
 
     -- a start's bit: the answers of that case allow the code
     start-bit : (k f c : ℕ) → k < length cs → f < places → bit (startWord (answer a f) c all (getD own f 0)) k ≡ allowed (getD cs k []) f c
@@ -81,18 +75,14 @@ module _ (s a own : List ℕ) (all : ℕ) (M : List ℕ) (r : ℕ) (p : Promise 
         ∙ ap (λ (z : ℕ). eqb z 255 || eqb c z) (sym (y .answers k f kl fl))
       where
         bit-of : (t : Bool) → bit (pick t all (getD own f 0)) k ≡ (t || bit (getD own f 0) k)
-        bit-of true = all-bit k ∙ lt-ltb k (length cs) kl
+        bit-of true = all-bit y k ∙ lt-ltb k (length cs) kl
         bit-of false = refl
 
         or-false : (t : Bool) → (t || false) ≡ t
         or-false true = refl
         or-false false = refl
 
-        or-true : (t : Bool) → (t || true) ≡ true
-        or-true true = refl
-        or-true false = refl
-
-        relaxed : (o : Bool) → (((eqb (answer a f) 255 || eqb c (answer a f))) || o) ≡ (eqb (pick o 255 (answer a f)) 255 || eqb c (pick o 255 (answer a f)))
+        relaxed : (o : Bool) → ((eqb (answer a f) 255 || eqb c (answer a f)) || o) ≡ (eqb (pick o 255 (answer a f)) 255 || eqb c (pick o 255 (answer a f)))
         relaxed true = or-true (eqb (answer a f) 255 || eqb c (answer a f))
         relaxed false = or-false (eqb (answer a f) 255 || eqb c (answer a f))
 

@@ -1,8 +1,8 @@
 -- The start of the marks, field by field, and the whole of it. Assumes nothing.
-use mathlib.Core.Path.{_≡_, refl, sym, ap, _∙_, subst}
+use mathlib.Core.Path.{_≡_, sym, ap, _∙_, subst}
 use mathlib.Core.Bool.{Bool}
-use mathlib.Core.List.{List, [], _∷_}
-use Prim.Native.Nat.{ℕ, zero, suc, _+_, _*_, _≤_, _<_}
+use mathlib.Core.List.{List}
+use Prim.Native.Nat.{ℕ, _+_, _*_, _≤_, _<_}
 use native.Mathlib.Nat.{le-trans, mul-add, mul-zero}
 use native.Mathlib.Numerals.{add-one}
 use native.Mathlib.Decide.{decLt}
@@ -21,23 +21,13 @@ use Rattle.consistency.proofs.CodeCounts.{field-in}
 use Rattle.filter.specs.Words.{bit, wordAt, standing}
 use Rattle.filter.specs.Start.{startWord, StartsField, FieldStarted, Starts, Started}
 use Rattle.filter.proofs.Tallies.{sum-ext}
+use Rattle.filter.proofs.Lists.{answer-at, zeros}
 use Rattle.filter.proofs.Limits.{fields-few, codes-few}
+use Rattle.filter.proofs.Starts.{casesAt}
 
--- an answer within the sheet
-pub answer-at : (a : List ℕ) (f : ℕ) → f < length a → getD a f 0 ≡ answer a f
-answer-at [] f l = absurd (omega arith)
-answer-at (x ∷ a) zero l = refl
-answer-at (x ∷ a) (suc f) l = answer-at a f (omega arith)
-
--- words that are all 0
-pub zeros : (n i : ℕ) → _≡_ {A = ℕ} (getD (replicate n 0) i 0) 0
-zeros zero i = refl
-zeros (suc n) zero = refl
-zeros (suc n) (suc i) = zeros n i
-
--- the number of marks of code c of field f that stand, over the cases
-abbrev standingAt : List ℕ → ℕ → ℕ → ℕ
-standingAt N f c = howMany 64 (bit (wordAt N f c))
+-- the number of marks of field f that stand, over the cases
+abbrev standingOf : Book → List ℕ → ℕ → ℕ
+standingOf b N f = sumBelow (codes b f) (casesAt N f)
 
 -- the fields below m are started, the others' words are 0
 pub record StartedBelow (b : Book) (a own : List ℕ) (all : ℕ) (N : List ℕ) (m r : ℕ) : Type 0 where
@@ -45,9 +35,10 @@ pub record StartedBelow (b : Book) (a own : List ℕ) (all : ℕ) (N : List ℕ)
   pub size : length N ≡ places * codeLimit
   pub words : (f c : ℕ) → f < m → c < codes b f → wordAt N f c ≡ startWord (answer a f) c all (getD own f 0)
   pub rest : (f c : ℕ) → c < codeLimit → (f < m → c < codes b f → ⊥) → wordAt N f c ≡ 0
-  pub counts : r + sumBelow m (λ f. sumBelow (codes b f) (standingAt N f)) ≡ ones all * sumBelow m (codes b)
+  pub counts : r + sumBelow m (standingOf b N) ≡ ones all * sumBelow m (codes b)
   pub few : r ≤ 2048 * m
 
+-- no field yet
 pub started-none : (b : Book) (a own : List ℕ) (all : ℕ) (N : List ℕ) → length a ≡ places → N ≡ replicate (places * codeLimit) 0
     → StartedBelow b a own all N 0 0
 started-none b a own all N l e =
@@ -61,7 +52,9 @@ started-none b a own all N l e =
     }
 
 module _ (s a own : List ℕ) (all list fields : ℕ) (q : Starts s own all list fields) where
+  -- one field more
   module _ (N : List ℕ) (f t : ℕ) (y : StartedBelow (bookOf s) a own all N f t) (l : f < fields) where
+    -- f is a field of the book
     fl : f < fieldCount s
     fl = omega (arith, q .fields-is)
 
@@ -98,8 +91,19 @@ module _ (s a own : List ℕ) (all list fields : ℕ) (q : Starts s own all list
             x .words c (subst (λ (z : ℕ). c < z) (sym k-codes) cl)
             ∙ ap (λ (z : ℕ). startWord z c all (getD own f 0)) (answer-at a f (omega (arith, field-place, y .sheet)))
 
-        sums : (S S′ F n K : ℕ) → t + S ≡ n * K → S′ ≡ S → u + F ≡ t + n * k → u + (S′ + F) ≡ n * (K + k)
-        sums S S′ F n K h i j = omega (arith, mul-add n K k)
+        -- the marks of f that stand are as many as its cases and codes, but those counted now
+        field-counts : u + standingOf (bookOf s) P f ≡ t + ones all * codes (bookOf s) f
+        field-counts = subst (λ (z : ℕ). u + sumBelow z (casesAt P f) ≡ t + ones all * z) k-codes (x .counts)
+
+        below-counts : sumBelow f (standingOf (bookOf s) P) ≡ sumBelow f (standingOf (bookOf s) N)
+        below-counts =
+            sum-ext f (standingOf (bookOf s) P) (standingOf (bookOf s) N)
+            (λ g gl.
+            sum-ext (codes (bookOf s) g) (casesAt P g) (casesAt N g)
+            (λ c cl. ap (λ (z : ℕ). howMany 64 (bit z)) (same g c gl cl)))
+
+        sums : (S S′ F n K k : ℕ) → t + S ≡ n * K → S′ ≡ S → u + F ≡ t + n * k → u + (S′ + F) ≡ n * (K + k)
+        sums S S′ F n K k h i j = omega (arith, mul-add n K k)
 
         pub started-more : StartedBelow (bookOf s) a own all P (f + 1) u
         started-more =
@@ -113,16 +117,9 @@ module _ (s a own : List ℕ) (all list fields : ℕ) (q : Starts s own all list
                   x .rest g c cl (λ e m. n (omega arith) (subst (λ (z : ℕ). c < z) (k-codes ∙ ap (codes (bookOf s)) (sym e)) m))
                   ∙ y .rest g c cl (λ gl m. n (omega arith) m);
               counts =
-                  subst (λ (z : ℕ). u + sumBelow z (λ g. sumBelow (codes (bookOf s) g) (standingAt P g)) ≡ ones all * sumBelow z (codes (bookOf s)))
-                  (sym (add-one f))
-                  (subst (λ (z : ℕ). u + (sumBelow f (λ g. sumBelow (codes (bookOf s) g) (standingAt P g)) + sumBelow z (standingAt P f)) ≡ ones all * (sumBelow f (codes (bookOf s)) + z))
-                  k-codes
-                  (sums (sumBelow f (λ g. sumBelow (codes (bookOf s) g) (standingAt N g))) (sumBelow f (λ g. sumBelow (codes (bookOf s) g) (standingAt P g)))
-                  (sumBelow k (standingAt P f)) (ones all) (sumBelow f (codes (bookOf s))) (y .counts)
-                  (sum-ext f (λ g. sumBelow (codes (bookOf s) g) (standingAt P g)) (λ g. sumBelow (codes (bookOf s) g) (standingAt N g))
-                  (λ g gl. sum-ext (codes (bookOf s) g) (standingAt P g) (standingAt N g)
-                  (λ c cl. ap (λ (z : ℕ). howMany 64 (bit z)) (same g c gl cl))))
-                  (x .counts)));
+                  subst (λ (z : ℕ). u + sumBelow z (standingOf (bookOf s) P) ≡ ones all * sumBelow z (codes (bookOf s))) (sym (add-one f))
+                  (sums (sumBelow f (standingOf (bookOf s) N)) (sumBelow f (standingOf (bookOf s) P)) (standingOf (bookOf s) P f) (ones all)
+                  (sumBelow f (codes (bookOf s))) (codes (bookOf s) f) (y .counts) below-counts field-counts);
               few = omega (arith, x .few, y .few, k-few);
             }
 
@@ -134,7 +131,7 @@ module _ (s a own : List ℕ) (all list fields : ℕ) (q : Starts s own all list
       record {
         size = y .size;
         words = λ g c gl cl. at g c cl fe (decLt c (codes (bookOf s) g));
-        counts = subst (λ (z : ℕ). r + sumBelow z (λ g. sumBelow (codes (bookOf s) g) (standingAt N g)) ≡ ones all * sumBelow z (codes (bookOf s))) fe (y .counts);
+        counts = subst (λ (z : ℕ). r + sumBelow z (standingOf (bookOf s) N) ≡ ones all * sumBelow z (codes (bookOf s))) fe (y .counts);
         few = omega (arith, y .few, e, q .fields-is, fields-few s (q .promise));
       }
     where

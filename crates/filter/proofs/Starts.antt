@@ -24,7 +24,7 @@ use Rattle.filter.proofs.Stores.{word-in, stored-here, stored-elsewhere
 
 -- ---- one word
 
-or-true : (x : Bool) → (x || true) ≡ true
+pub or-true : (x : Bool) → (x || true) ≡ true
 or-true true = refl
 or-true false = refl
 
@@ -57,10 +57,16 @@ start-count all w l m h =
 
 -- ---- a field, code by code
 
+-- in how many cases code c of field f stands
+abbrev pub casesAt : List ℕ → ℕ → ℕ → ℕ
+casesAt N f c = howMany 64 (bit (wordAt N f c))
+
+-- no code yet
 pub field-none : (M : List ℕ) (f x all own s : ℕ) → FieldStarted M M f 0 x all own s s
 field-none M f x all own s =
     record { same-length = refl; words = λ c l. absurd (omega arith); rest = λ g d l n. refl; counts = omega arith; few = omega arith }
 
+-- one code more
 module _ (M N : List ℕ) (f k x all own s t c : ℕ) (q : StartsField M f k all own s) (y : FieldStarted M N f c x all own s t) (l : c < k)
     (al : all < 2 ^ 64) (ol : own < 2 ^ 64) where
   code-in : c < codeLimit
@@ -81,11 +87,20 @@ module _ (M N : List ℕ) (f k x all own s t c : ℕ) (q : StartsField M f k all
     w-count : ones (bitXor all w) + howMany 64 (bit w) ≡ ones all
     w-count = start-count all w al w-small (subst (λ (z : ℕ). Within z all) (sym e) (word-within x c all own (q .within)))
 
-    here : wordAt (set N (f * codeLimit + c) w) f c ≡ w
+    abbrev P : List ℕ
+    P = set N (f * codeLimit + c) w
+
+    here : wordAt P f c ≡ w
     here = stored-here N f c w (omega (arith, y .same-length, q .size, start-in))
 
-    below : (i : ℕ) → i < c → wordAt (set N (f * codeLimit + c) w) f i ≡ wordAt N f i
+    below : (i : ℕ) → i < c → wordAt P f i ≡ wordAt N f i
     below i il = stored-elsewhere N f c w f i code-in (omega (arith, code-in)) (λ z. let d : i ≡ c = z .1 in omega arith)
+
+    below-counts : sumBelow c (casesAt P f) ≡ sumBelow c (casesAt N f)
+    below-counts = sum-ext c (casesAt P f) (casesAt N f) (λ i il. ap (λ (z : ℕ). howMany 64 (bit z)) (below i il))
+
+    here-counts : ones (bitXor all w) + casesAt P f c ≡ ones all
+    here-counts = ap (λ (z : ℕ). ones (bitXor all w) + howMany 64 (bit z)) here ∙ w-count
 
     sums : (S S′ o m n : ℕ) → t + S ≡ s + n * c → S′ ≡ S → o + m ≡ n → (t + o) + (S′ + m) ≡ s + n * (c + 1)
     sums S S′ o m n h i j = omega (arith, mul-add n c 1)
@@ -95,22 +110,16 @@ module _ (M N : List ℕ) (f k x all own s t c : ℕ) (q : StartsField M f k all
         subst (λ (z : ℕ). FieldStarted M (set N (f * codeLimit + z) w) f (c + 1) x all own s (t + ones (bitXor all w))) (sym de)
         (record {
           same-length = length-set N (f * codeLimit + c) w ∙ y .same-length;
-          words =
-              below-more (λ (i : ℕ). wordAt (set N (f * codeLimit + c) w) f i ≡ startWord x i all own) c
-              (λ i il. below i il ∙ y .words i il) (here ∙ e);
+          words = below-more (λ (i : ℕ). wordAt P f i ≡ startWord x i all own) c (λ i il. below i il ∙ y .words i il) (here ∙ e);
           rest = λ g i il n.
               stored-elsewhere N f c w g i code-in il (λ z. let z1 : i ≡ c = z .1 in n (z .0) (omega arith))
               ∙ y .rest g i il (λ z m. n z (omega arith));
           counts =
-              subst (λ (z : ℕ). (t + ones (bitXor all w)) + sumBelow z (λ i. howMany 64 (bit (wordAt (set N (f * codeLimit + c) w) f i))) ≡ s + ones all * (c + 1))
-              (sym (add-one c))
-              (sums (sumBelow c (λ i. howMany 64 (bit (wordAt N f i)))) (sumBelow c (λ i. howMany 64 (bit (wordAt (set N (f * codeLimit + c) w) f i))))
-              (ones (bitXor all w)) (howMany 64 (bit (wordAt (set N (f * codeLimit + c) w) f c))) (ones all) (y .counts)
-              (sum-ext c (λ i. howMany 64 (bit (wordAt (set N (f * codeLimit + c) w) f i))) (λ i. howMany 64 (bit (wordAt N f i)))
-              (λ i il. ap (λ (z : ℕ). howMany 64 (bit z)) (below i il)))
-              (ap (λ (z : ℕ). ones (bitXor all w) + howMany 64 (bit z)) here ∙ w-count));
+              subst (λ (z : ℕ). (t + ones (bitXor all w)) + sumBelow z (casesAt P f) ≡ s + ones all * (c + 1)) (sym (add-one c))
+              (sums (sumBelow c (casesAt N f)) (sumBelow c (casesAt P f)) (ones (bitXor all w)) (casesAt P f c) (ones all) (y .counts) below-counts here-counts);
           few = omega (arith, y .few, few-struck);
         })
 
+-- all codes
 pub field-done : (M N : List ℕ) (f k x all own s t c : ℕ) → FieldStarted M N f c x all own s t → c ≡ k → FieldStarted M N f k x all own s t
 field-done M N f k x all own s t c y e = subst (λ (z : ℕ). FieldStarted M N f z x all own s t) e y

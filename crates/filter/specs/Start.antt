@@ -7,12 +7,13 @@ use lib.ListN.{length, getD}
 use lib.Count.{ones}
 use lib.Dec.{T, eqb, ltb}
 use Rattle.format.specs.Basics.{pick}
-use Rattle.format.specs.Format.{Book, codeLimit, fieldCount, listPlace}
+use Rattle.format.specs.Format.{Book, codeLimit, fieldCount, tableCount, listPlace}
 use Rattle.format.specs.Promise.{Promise}
 use Rattle.consistency.specs.Counting.{howMany, those, sumBelow}
 use Rattle.consistency.specs.Consistency.{places, codes, answer, relax}
 use Rattle.consistency.specs.Counts.{answered}
 use Rattle.filter.specs.Words.{bit, wordAt, standing}
+use Rattle.filter.specs.Cases.{marksOf, outsideOver}
 
 -- ---- the cases
 
@@ -64,3 +65,22 @@ pub record Started (b : Book) (a own : List ℕ) (all : ℕ) (N : List ℕ) (r :
       → wordAt N f c ≡ pick (ltb c (codes b f)) (startWord (answer a f) c all (getD own f 0)) 0
   pub counts : r + standing b N ≡ ones all * sumBelow (length (b .counts)) (codes b)
   pub few : r ≤ 65536
+
+-- ---- a whole pass
+
+-- the trailer's numbers
+pub record HeaderIs (s : List ℕ) (list fields tables : ℕ) : Type 0 where
+  pub list-is : list ≡ listPlace s
+  pub fields-is : fields ≡ fieldCount s
+  pub tables-is : tables ≡ tableCount s
+
+-- an accepted book, and words that say cases
+pub record RunGiven (s a own : List ℕ) (all : ℕ) : Type 0 where
+  pub promise : Promise s
+  pub cases : List (List ℕ)
+  pub are : CasesAre a own all cases
+
+-- the words and the count at the end of a pass, over the cases that its words say
+pub record Ran (b : Book) (a own : List ℕ) (all : ℕ) (N : List ℕ) (r : ℕ) : Type 0 where
+  pub marks : (cs : List (List ℕ)) → CasesAre a own all cs → N ≡ marksOf b cs
+  pub counts : (cs : List (List ℕ)) → CasesAre a own all cs → r ≡ outsideOver b cs

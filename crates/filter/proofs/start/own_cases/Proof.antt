@@ -2,7 +2,7 @@
 use Prim.Native.Nat.{_≤_, _-_}
 use mathlib.Core.Path.{refl}
 use mathlib.Core.Logic.{⊎-elim}
-use Rattle.filter.proofs.StartFields.{zeros}
+use Rattle.filter.proofs.Lists.{zeros}
 use Rattle.filter.proofs.CaseWords.{CasesBelow, cases-none, own-fits, cases-same, cases-answered, cases-open, cases-done}
 use native.Mathlib.Omega.{arith}
 use Rattle.filter.proofs.start.own_cases.Statement.{statement}
