@@ -1,8 +1,8 @@
 -- One turn over the fields: what the marks of a pass show of a field, and what is counted and written for it. Assumes nothing.
-use mathlib.Core.Path.{_≡_, refl, sym, ap, _∙_, subst}
+use mathlib.Core.Path.{_≡_, sym, ap, _∙_, subst}
 use mathlib.Core.Bool.{Bool, true, false, not}
-use mathlib.Core.List.{List, [], _∷_, _++_, map}
-use Prim.Native.Nat.{ℕ, zero, suc, _+_, _*_, _≤_, _<_}
+use mathlib.Core.List.{List, _++_, map}
+use Prim.Native.Nat.{ℕ, _+_, _*_, _≤_, _<_}
 use native.Mathlib.Nat.{zero-add}
 use native.Mathlib.Omega.{arith}
 use lib.Dec.{T}
@@ -11,7 +11,7 @@ use lib.Seq.{sets, sets-eq, length-sets}
 use borrow.Author.Tests.{eq-eqb, ne-eqb}
 use Rattle.format.specs.Format.{codeLimit, byte, bookOf}
 use Rattle.format.proofs.Verdict.{verdict-promise}
-use Rattle.consistency.specs.Counting.{howMany, those}
+use Rattle.consistency.specs.Counting.{howMany}
 use Rattle.consistency.specs.Consistency.{places, codes, answer}
 use Rattle.consistency.specs.Counts.{answered, listed, total, Line, lines, lineBytes}
 use Rattle.consistency.proofs.Sums.{many-ext, many-not, those-ext}
@@ -68,6 +68,9 @@ module _ {s a M : List ℕ} {list fields : ℕ} (x : Passed s a M list fields) w
     pub total-without : {sum : ℕ} → answered a f ≡ false → sum ≡ totalBelow (bookOf s) a f → sum ≡ totalBelow (bookOf s) a (f + 1)
     total-without e d = d ∙ sym (total-same (bookOf s) a f e)
 
+    pub place-without : {next : ℕ} → answered a f ≡ false → next ≡ 2 * totalBelow (bookOf s) a f → next ≡ 2 * totalBelow (bookOf s) a (f + 1)
+    place-without e d = omega (arith, total-same (bookOf s) a f e)
+
     pub lines-without : (o : List ℕ) {out : List ℕ} → answered a f ≡ false → out ≡ sets o 0 (bytesBelow (bookOf s) a f)
         → out ≡ sets o 0 (bytesBelow (bookOf s) a (f + 1))
     lines-without o e d = d ∙ ap (sets o 0) (sym (bytes-same (bookOf s) a f e))
@@ -90,10 +93,10 @@ module _ {s a M : List ℕ} {list fields : ℕ} (x : Passed s a M list fields) w
         own-listed c h = ap (λ (i : ℕ). stands M i f c) case-is ∙ x .own f c l (subst T (sym e) tt) h
 
         -- in its own case its alternatives stand
-        pub stand-count : howMany n (stands M k f) ≡ alternativesOf (bookOf s) a f
+        stand-count : howMany n (stands M k f) ≡ alternativesOf (bookOf s) a f
         stand-count = ap (λ (i : ℕ). howMany i (stands M k f)) codes-is ∙ many-ext (codes (bookOf s) f) (stands M k f) (listed (bookOf s) a f) own-listed
 
-        pub stand-lines : linesBelow n (stands M k f) f ≡ fieldLines (bookOf s) a f
+        stand-lines : linesBelow n (stands M k f) f ≡ fieldLines (bookOf s) a f
         stand-lines =
             ap (λ (i : ℕ). linesBelow i (stands M k f) f) codes-is
             ∙ ap (λ (cs : List ℕ). map (λ (c : ℕ). record { field = f; code = c }) cs)
@@ -102,6 +105,11 @@ module _ {s a M : List ℕ} {list fields : ℕ} (x : Passed s a M list fields) w
         -- the total with it
         pub total-with : {sum r : ℕ} → sum ≡ totalBelow (bookOf s) a f → r ≡ howMany n (stands M k f) → sum + r ≡ totalBelow (bookOf s) a (f + 1)
         total-with p q = omega (arith, stand-count, total-more (bookOf s) a f e)
+
+        -- the place behind its lines
+        pub place-with : {next r : ℕ} → next ≡ 2 * totalBelow (bookOf s) a f → r ≡ next + 2 * howMany n (stands M k f)
+            → r ≡ 2 * totalBelow (bookOf s) a (f + 1)
+        place-with p q = omega (arith, stand-count, total-more (bookOf s) a f e)
 
         -- there is room for its lines where there is for all
         pub lines-fit : (o : List ℕ) {out : List ℕ} {next : ℕ} → 2 * total (bookOf s) a ≤ length o → next ≡ 2 * totalBelow (bookOf s) a f

@@ -1,24 +1,19 @@
 -- One answered field more: the total, the lines and their bytes; and what the marks of a pass show of a field. Assumes nothing.
-use mathlib.Core.Path.{_≡_, refl, sym, ap, ap₂, _∙_, subst}
-use mathlib.Core.Bool.{Bool, true, false, not}
+use mathlib.Core.Path.{_≡_, sym, ap, _∙_}
+use mathlib.Core.Bool.{Bool, true, false}
 use mathlib.Core.List.{List, [], _∷_, _++_, append-nil}
-use Prim.Native.Nat.{ℕ, zero, suc, _+_, _*_, _≤_, _<_}
+use Prim.Native.Nat.{ℕ, zero, suc, _+_, _*_, _≤_}
 use native.Mathlib.Nat.{suc-mul}
-use native.Mathlib.Numerals.{add-one}
 use native.Mathlib.Omega.{arith}
-use lib.Dec.{T}
-use lib.ListN.{length, getD, drop, length-map}
-use lib.Seq.{sets, sets-eq, length-sets}
-use borrow.Author.Tests.{eq-eqb, ne-eqb}
+use lib.ListN.{length, length-map}
 use Rattle.format.specs.Basics.{pick}
-use Rattle.format.specs.Format.{Book, codeLimit, byte, bookOf}
-use Rattle.format.proofs.Verdict.{verdict-promise}
+use Rattle.format.specs.Format.{Book}
 use Rattle.consistency.specs.Counting.{howMany, those, sumOver, joinOver}
-use Rattle.consistency.specs.Consistency.{places, codes, answer}
+use Rattle.consistency.specs.Consistency.{codes}
 use Rattle.consistency.specs.Counts.{answered, listed, total, Line, linesOf, lines, lineBytes}
 use Rattle.consistency.proofs.Sums.{many-not, length-those, length-join, sum-over-ext}
 use Rattle.consistency.proofs.Lines.{length-line-bytes}
-use Rattle.sheet.proofs.Upward.{many-more, many-same, those-more, those-same, rises, sum-append, join-append, line-bytes-append, sets-append}
+use Rattle.sheet.proofs.Upward.{those-more, those-same, rises, sum-append, join-append, line-bytes-append}
 
 -- ---- the answered fields below n
 

@@ -1,13 +1,13 @@
 -- Each way through alternatives and plain filtering: the tests passed so far and the one that fails give the refusal, all passed give the
 -- result. A law's name has the refusal's number. Assumes nothing.
-use mathlib.Core.Path.{_≡_, refl, sym, ap, _∙_}
+use mathlib.Core.Path.{_≡_, refl, sym, _∙_}
 use mathlib.Core.List.{List, [], _∷_, _++_}
-use Prim.Native.Nat.{ℕ, _+_, _*_, _≤_, _<_}
+use Prim.Native.Nat.{ℕ, _*_, _≤_, _<_}
 use native.Mathlib.Omega.{arith}
-use lib.ListN.{length, getD, set, take, drop}
+use lib.ListN.{length, getD, set, drop}
 use borrow.Author.Tests.{lt-ltb, le-ltb, eq-eqb, ne-eqb}
 use Rattle.format.specs.Format.{listPlace, bookOf}
-use Rattle.format.specs.Reading.{pass, fail}
+use Rattle.format.specs.Reading.{fail}
 use Rattle.consistency.specs.Consistency.{places, answer}
 use Rattle.consistency.specs.Counts.{total, struck, lines, lineBytes, masks}
 use Rattle.calls.specs.Calls.{Result, turned, done, masksInto, filtered, alternatives}

@@ -1,23 +1,23 @@
 -- In the marks of the one pass each answered field's own case is behind one case for each answered field before it, and has the field's
 -- alternatives. Assumes nothing.
-use mathlib.Core.Path.{_≡_, refl, sym, ap, _∙_}
+use mathlib.Core.Path.{_≡_, sym, ap, _∙_}
 use mathlib.Core.Logic.{⊎-elim}
 use mathlib.Core.Bool.{Bool, true, _&&_}
 use mathlib.Core.List.{List, [], _∷_, _++_, map, map-append, append-assoc}
 use Prim.Native.Nat.{ℕ, zero, suc, _+_, _*_, _/_, _%_, _<_}
 use native.Mathlib.Nat.{zero-add}
 use native.Mathlib.Omega.{arith}
-use lib.Dec.{T, ltb}
+use lib.Dec.{T}
 use lib.ListN.{length, getD, length-append, length-map}
 use lib.Seq.{getD-at}
 use borrow.Author.Tests.{lt-ltb}
 use Rattle.format.specs.Basics.{pick}
 use Rattle.format.specs.Format.{Book, codeLimit, bookOf}
 use Rattle.format.proofs.Verdict.{verdict-promise}
-use Rattle.consistency.specs.Counting.{howMany, those, tabulate}
+use Rattle.consistency.specs.Counting.{those}
 use Rattle.consistency.specs.Consistency.{places, codes, relax}
 use Rattle.consistency.specs.Largest.{largest}
-use Rattle.consistency.specs.Counts.{bit, mask, answered, relaxable, listed}
+use Rattle.consistency.specs.Counts.{bit, answered, listed}
 use Rattle.consistency.proofs.Booleans.{T-true, below-suc}
 use Rattle.consistency.proofs.Sums.{length-those, tabulate-at}
 use Rattle.consistency.proofs.Masks.{mask-bit}

@@ -1,6 +1,6 @@
 -- Counts, sums, lists and lines over the numbers of which a test holds, one number more at a time; bytes stored one after another.
 -- Assumes nothing.
-use mathlib.Core.Path.{_≡_, refl, sym, ap, ap₂, _∙_}
+use mathlib.Core.Path.{_≡_, refl, sym, ap, _∙_}
 use mathlib.Core.Bool.{Bool, true, false}
 use mathlib.Core.List.{List, [], _∷_, _++_, map, map-append, append-nil, append-assoc}
 use mathlib.Core.Logic.{⊎-elim}

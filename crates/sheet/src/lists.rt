@@ -32,14 +32,7 @@ fn count_codes(marks: &[u64; 1024], k: u64, f: usize, n: usize) -> usize
 }
 
 // The lines of the codes below n of field f that stand in case k, written from `at` on. Answers the place behind them.
-fn write_field(
-    marks: &[u64; 1024],
-    k: u64,
-    f: usize,
-    n: usize,
-    out: &mut [u8],
-    at: usize,
-) -> usize
+fn write_field(marks: &[u64; 1024], k: u64, f: usize, n: usize, out: &mut [u8], at: usize) -> usize
     requires { ⌜ InMarks k f n × Room (now out) at (howMany n (stands (now marks) k f)) ⌝ }
     ensures { λ r. ⌜ (r ≡ at + 2 * howMany n (stands (now (marks .entry)) k f)) × (now (out .exit) ≡ sets (now (out .entry)) at (lineBytes (linesBelow n (stands (now (marks .entry)) k f) f))) ⌝ }
 {

@@ -8,10 +8,6 @@ use borrow.Author.Needs.{needs}
 use native.Mathlib.Omega.{arith}
 use Rattle.sheet.proofs.history.after.Statement.{statement}
 use Rattle.sheet.proofs.history.after.Tie as tie
-use Rattle.sheet.proofs.history.after.Reads as reads
-use Rattle.sheet.proofs.history.after.Lts as lts
-use Rattle.sheet.proofs.Sheet.fresh.Reads as fresh-reads
-use Rattle.sheet.proofs.history.called.Reads as called-reads
 
 abbrev Inv-loop : tie.InvT-loop
 Inv-loop book calls sheet₀ at₀ sheet at = (at ≤ length calls) × (sheetThrough book (sheet .places) (callsIn (drop at calls)) ≡ sheetAfter book (callsIn calls))
@@ -19,55 +15,42 @@ Inv-loop book calls sheet₀ at₀ sheet at = (at ≤ length calls) × (sheetThr
 abbrev μ-loop : tie.MeasureT-loop
 μ-loop book calls sheet₀ at₀ sheet at = length calls - at
 
--- src/history.rt:30:9
 fresh-requires : tie.Need-fresh-requires Inv-loop μ-loop
 fresh-requires c κs = search needs
 
--- src/history.rt:32:5
 loop-holds : tie.Need-loop-holds Inv-loop μ-loop
 loop-holds c = (search needs, ap (λ s. sheetThrough (c .before .before .before .args .book .now) s (callsIn (c .before .before .before .args .calls .now))) (c .fresh .ensures))
 
--- src/history.rt:32:16
 sub-loop : tie.Need-sub-loop Inv-loop μ-loop
 sub-loop c = search needs
 
--- src/history.rt:33:20
 shared-slice-read-kind : tie.Need-shared-slice-read-kind Inv-loop μ-loop
 shared-slice-read-kind c = search needs
 
--- src/history.rt:34:27
 add-field : tie.Need-add-field Inv-loop μ-loop
 add-field c = search needs
 
--- src/history.rt:34:21
 shared-slice-read-field : tie.Need-shared-slice-read-field Inv-loop μ-loop
 shared-slice-read-field c = search needs
 
--- src/history.rt:35:26
 add-code : tie.Need-add-code Inv-loop μ-loop
 add-code c = search needs
 
--- src/history.rt:35:20
 shared-slice-read-code : tie.Need-shared-slice-read-code Inv-loop μ-loop
 shared-slice-read-code c = search needs
 
--- src/history.rt:36:9
 called-requires : tie.Need-called-requires Inv-loop μ-loop
 called-requires c κs = search needs
 
--- src/history.rt:37:9
 add-at : tie.Need-add-at Inv-loop μ-loop
 add-at c = search needs
 
--- src/history.rt:32:5
 loop-less : tie.Need-loop-less Inv-loop μ-loop
 loop-less c = search needs
 
--- src/history.rt:32:5
 loop-again : tie.Need-loop-again Inv-loop μ-loop
 loop-again c = (omega arith, called-on (c .before .before .before .before .before .before .before .before .before .args .book .now) (c .before .before .before .before .before .before .before .before .before .args .calls .now) (c .before .before .before .before .before .loop .sheet .places) (c .before .before .before .before .before .loop .at) (c .before .before .before .before .before .loop .inv .0) (c .before .before .before .before .loop-test .taken) (c .called .ensures) (c .before .before .before .before .before .loop .inv .1))
 
--- src/history.rt:27:1
 returns : tie.Need-returns Inv-loop μ-loop
 returns c = called-all (c .before .before .before .before .before .args .book .now) (c .before .before .before .before .before .args .calls .now) (c .before .loop .at) (c .loop-test .left) (c .before .loop .inv .1)
 

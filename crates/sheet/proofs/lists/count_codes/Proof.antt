@@ -10,8 +10,6 @@ use borrow.Author.Needs.{needs}
 use native.Mathlib.Omega.{arith}
 use Rattle.sheet.proofs.lists.count_codes.Statement.{statement}
 use Rattle.sheet.proofs.lists.count_codes.Tie as tie
-use Rattle.sheet.proofs.lists.count_codes.Reads as reads
-use Rattle.sheet.proofs.lists.count_codes.Lts as lts
 
 abbrev Inv-loop : tie.InvT-loop
 Inv-loop marks k f n count₀ c₀ count c = (c ≤ n) × (count ≡ howMany c (stands marks k f)) × (count ≤ c)
@@ -19,53 +17,45 @@ Inv-loop marks k f n count₀ c₀ count c = (c ≤ n) × (count ≡ howMany c (
 abbrev μ-loop : tie.MeasureT-loop
 μ-loop marks k f n count₀ c₀ count c = n - c
 
--- src/lists.rt:25:5
 loop-holds : tie.Need-loop-holds Inv-loop μ-loop
 loop-holds c = search needs
 
--- src/lists.rt:26:19
 mul-if1 : tie.Need-mul-if1 Inv-loop μ-loop
 mul-if1 c = omega (arith, c .before .before .pre .field-in)
 
--- src/lists.rt:26:19
 add-if1 : tie.Need-add-if1 Inv-loop μ-loop
 add-if1 c = omega (arith, c .before .before .pre .field-in, c .before .before .pre .codes-in)
 
--- src/lists.rt:26:13
 mul-if1-2 : tie.Need-mul-if1-2 Inv-loop μ-loop
 mul-if1-2 c = search needs
 
--- src/lists.rt:26:13
 element-copy-out-if1 : tie.Need-element-copy-out-if1 Inv-loop μ-loop
 element-copy-out-if1 c = search needs
 
--- src/lists.rt:26:13
 shr-if1 : tie.Need-shr-if1 Inv-loop μ-loop
 shr-if1 c = search needs
 
--- src/lists.rt:27:13
 add-count : tie.Need-add-count Inv-loop μ-loop
 add-count c = search needs
 
--- src/lists.rt:29:9
 add-c : tie.Need-add-c Inv-loop μ-loop
 add-c c = search needs
 
--- src/lists.rt:25:5
 loop-less : tie.Need-loop-less Inv-loop μ-loop
 loop-less c = search needs
 
--- src/lists.rt:25:5
 loop-again : tie.Need-loop-again Inv-loop μ-loop
-loop-again c = let p = stands (c .before .before .before .before .args .marks .now) (c .before .before .before .before .args .k) (c .before .before .before .before .args .f) in
+loop-again c =
+    let p = stands (c .before .before .before .before .args .marks .now) (c .before .before .before .before .args .k) (c .before .before .before .before .args .f) in
     ⊎-elim
     (λ w. (omega arith, w .1 ∙ ap (λ (x : ℕ). x + 1) (c .before .before .before .loop .inv .1) ∙ sym (many-more p (c .before .before .before .loop .c) (eq-eqb _ _ (w .0 .taken))), omega arith))
     (λ w. (omega arith, w .1 ∙ c .before .before .before .loop .inv .1 ∙ sym (many-same p (c .before .before .before .loop .c) (ne-eqb _ _ (w .0 .left))), omega arith))
     (c .if1 .came)
 
--- src/lists.rt:19:1
 returns : tie.Need-returns Inv-loop μ-loop
-returns c = let e : c .before .loop .c ≡ c .before .before .args .n = omega arith in (c .before .loop .inv .1 ∙ ap (λ (x : ℕ). howMany x (stands (c .before .before .args .marks .now) (c .before .before .args .k) (c .before .before .args .f))) e, omega arith)
+returns c =
+    let e : c .before .loop .c ≡ c .before .before .args .n = omega arith in
+    (c .before .loop .inv .1 ∙ ap (λ (x : ℕ). howMany x (stands (c .before .before .args .marks .now) (c .before .before .args .k) (c .before .before .args .f))) e, omega arith)
 
 pub count-codes-spec : {M : Type 1} → statement M
 count-codes-spec =

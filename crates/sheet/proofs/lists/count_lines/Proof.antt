@@ -13,10 +13,6 @@ use borrow.Author.Needs.{needs}
 use native.Mathlib.Omega.{arith}
 use Rattle.sheet.proofs.lists.count_lines.Statement.{statement}
 use Rattle.sheet.proofs.lists.count_lines.Tie as tie
-use Rattle.sheet.proofs.lists.count_lines.Reads as reads
-use Rattle.sheet.proofs.lists.count_lines.Lts as lts
-use Rattle.sheet.proofs.lists.count_codes.Reads as count-codes-reads
-use Rattle.sheet.proofs.lists.wide.Reads as wide-reads
 
 abbrev Inv-loop : tie.InvT-loop
 Inv-loop book marks list fields answers sum₀ k₀ f₀ sum k f = (f ≤ fields) × (k ≡ ownCase answers f) × (sum ≡ totalBelow (bookOf book) answers f)
@@ -24,69 +20,66 @@ Inv-loop book marks list fields answers sum₀ k₀ f₀ sum k f = (f ≤ fields
 abbrev μ-loop : tie.MeasureT-loop
 μ-loop book marks list fields answers sum₀ k₀ f₀ sum k f = fields - f
 
--- src/lists.rt:73:5
 loop-holds : tie.Need-loop-holds Inv-loop μ-loop
 loop-holds c = (omega arith, refl, refl)
 
--- src/lists.rt:74:12
 array-read-if1 : tie.Need-array-read-if1 Inv-loop μ-loop
 array-read-if1 c = omega (arith, fields-few _ _ _ (c .before .before .before .pre .at))
 
--- src/lists.rt:75:13
 add-f : tie.Need-add-f Inv-loop μ-loop
 add-f c = search needs
 
--- src/lists.rt:73:5
 loop-less : tie.Need-loop-less Inv-loop μ-loop
 loop-less c = search needs
 
--- src/lists.rt:73:5
 loop-again : tie.Need-loop-again Inv-loop μ-loop
-loop-again c = let n : length (c .before .before .before .before .args .t2) ≡ 32 = search needs in
-    let e = open-here (c .before .before .before .before .pre) (c .before .loop-test .taken) n (c .if1 .taken) in
-    (omega arith, same-case (c .before .before .before .before .pre) (c .before .loop-test .taken) e (c .before .before .loop .inv .1), total-without (c .before .before .before .before .pre) (c .before .loop-test .taken) e (c .before .before .loop .inv .2))
+loop-again c =
+    let l = c .before .loop-test .taken in
+    let long : length (c .before .before .before .before .args .t2) ≡ 32 = search needs in
+    let e = open-here (c .before .before .before .before .pre) l long (c .if1 .taken) in
+    (omega arith, same-case (c .before .before .before .before .pre) l e (c .before .before .loop .inv .1), total-without (c .before .before .before .before .pre) l e (c .before .before .loop .inv .2))
 
--- src/lists.rt:77:31
 add-wide : tie.Need-add-wide Inv-loop μ-loop
 add-wide c = omega (arith, field-byte (c .before .before .before .before .pre) (c .before .loop-test .taken), verdict-promise _ (c .before .before .before .before .pre .at .passes) .short)
 
--- src/lists.rt:77:26
 shared-slice-read-wide : tie.Need-shared-slice-read-wide Inv-loop μ-loop
 shared-slice-read-wide c = field-byte (c .before .before .before .before .before .pre) (c .before .before .loop-test .taken)
 
--- src/lists.rt:77:17
 wide-requires : tie.Need-wide-requires Inv-loop μ-loop
 wide-requires c κs = search needs
 
--- src/lists.rt:78:20
 count-codes-requires : tie.Need-count-codes-requires Inv-loop μ-loop
 count-codes-requires c κs = in-marks (c .before .before .before .before .before .before .pre) (c .before .before .before .loop-test .taken) (c .before .before .before .before .loop .inv .1) (c .wide .ensures)
 
--- src/lists.rt:78:13
 add-sum : tie.Need-add-sum Inv-loop μ-loop
-add-sum c = omega (arith, few-below (c .before .before .before .before .before .before .before .pre) (c .before .before .before .before .before .loop .f), c .before .before .before .before .before .loop .inv .2, fields-few _ _ _ (c .before .before .before .before .before .before .before .pre .at), c .count-codes .ensures .1, in-marks (c .before .before .before .before .before .before .before .pre) (c .before .before .before .before .loop-test .taken) (c .before .before .before .before .before .loop .inv .1) (c .before .wide .ensures) .codes-in)
+add-sum c =
+    let m = in-marks (c .before .before .before .before .before .before .before .pre) (c .before .before .before .before .loop-test .taken) (c .before .before .before .before .before .loop .inv .1) (c .before .wide .ensures) in
+    omega (arith, few-below (c .before .before .before .before .before .before .before .pre) (c .before .before .before .before .before .loop .f), c .before .before .before .before .before .loop .inv .2, fields-few _ _ _ (c .before .before .before .before .before .before .before .pre .at), c .count-codes .ensures .1)
 
--- src/lists.rt:79:13
 add-k : tie.Need-add-k Inv-loop μ-loop
 add-k c = omega (arith, in-marks (c .before .before .before .before .before .before .before .pre) (c .before .before .before .before .loop-test .taken) (c .before .before .before .before .before .loop .inv .1) (c .before .wide .ensures) .case-in)
 
--- src/lists.rt:80:13
 add-f-2 : tie.Need-add-f-2 Inv-loop μ-loop
 add-f-2 c = search needs
 
--- src/lists.rt:73:5
 loop-less-2 : tie.Need-loop-less-2 Inv-loop μ-loop
 loop-less-2 c = search needs
 
--- src/lists.rt:73:5
 loop-again-2 : tie.Need-loop-again-2 Inv-loop μ-loop
-loop-again-2 c = let n : length (c .before .before .before .before .before .before .before .args .t2) ≡ 32 = search needs in
-    let e = answered-here (c .before .before .before .before .before .before .before .pre) (c .before .before .before .before .loop-test .taken) n (c .before .before .before .if1 .left) in
-    (omega arith, next-case (c .before .before .before .before .before .before .before .pre) (c .before .before .before .before .loop-test .taken) e (c .before .before .before .before .before .loop .inv .1), total-with (c .before .before .before .before .before .before .before .pre) (c .before .before .before .before .loop-test .taken) (c .before .before .before .before .before .loop .inv .1) (c .before .wide .ensures) e (c .before .before .before .before .before .loop .inv .2) (c .count-codes .ensures .0))
+loop-again-2 c =
+    let l = c .before .before .before .before .loop-test .taken in
+    let long : length (c .before .before .before .before .before .before .before .args .t2) ≡ 32 = search needs in
+    let e = answered-here (c .before .before .before .before .before .before .before .pre) l long (c .before .before .before .if1 .left) in (
+      omega arith,
+      next-case (c .before .before .before .before .before .before .before .pre) l e (c .before .before .before .before .before .loop .inv .1),
+      total-with (c .before .before .before .before .before .before .before .pre) l (c .before .before .before .before .before .loop .inv .1) (c .before .wide .ensures) e (c .before .before .before .before .before .loop .inv .2) (c .count-codes .ensures .0),
+    )
 
--- src/lists.rt:60:1
 returns : tie.Need-returns Inv-loop μ-loop
-returns c = (counted-all (c .before .before .before .pre) (c .loop-test .left) (c .before .loop .inv .0) (c .before .loop .inv .2), omega (arith, few-below (c .before .before .before .pre) (c .before .loop .f), c .before .loop .inv .2, fields-few _ _ _ (c .before .before .before .pre .at)))
+returns c = (
+  counted-all (c .before .before .before .pre) (c .loop-test .left) (c .before .loop .inv .0) (c .before .loop .inv .2),
+  omega (arith, few-below (c .before .before .before .pre) (c .before .loop .f), c .before .loop .inv .2, fields-few _ _ _ (c .before .before .before .pre .at)),
+)
 
 pub count-lines-spec : {M : Type 1} → statement M
 count-lines-spec =

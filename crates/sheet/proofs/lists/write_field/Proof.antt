@@ -1,7 +1,7 @@
 -- `write_field` meets its contract. The loop's invariant: the lines of the codes passed are written. Assumes nothing.
 use mathlib.Core.Path.{_≡_, refl, sym, ap, _∙_}
 use mathlib.Core.Logic.{⊎-elim}
-use Prim.Native.Nat.{ℕ, _+_, _*_, _≤_, _<_, _-_}
+use Prim.Native.Nat.{ℕ, _+_, _*_, _≤_, _-_}
 use lib.ListN.{length, length-set}
 use lib.Seq.{sets, length-sets}
 use borrow.Author.Tests.{eq-eqb, ne-eqb}
@@ -14,8 +14,6 @@ use borrow.Author.Needs.{needs}
 use native.Mathlib.Omega.{arith}
 use Rattle.sheet.proofs.lists.write_field.Statement.{statement}
 use Rattle.sheet.proofs.lists.write_field.Tie as tie
-use Rattle.sheet.proofs.lists.write_field.Reads as reads
-use Rattle.sheet.proofs.lists.write_field.Lts as lts
 
 abbrev Inv-loop : tie.InvT-loop
 Inv-loop marks k f n out₀ at next₀ c₀ out next c = (c ≤ n) × (next ≡ at + 2 * howMany c (stands marks k f)) × (out ≡ sets out₀ at (lineBytes (linesBelow c (stands marks k f) f)))
@@ -23,87 +21,82 @@ Inv-loop marks k f n out₀ at next₀ c₀ out next c = (c ≤ n) × (next ≡ 
 abbrev μ-loop : tie.MeasureT-loop
 μ-loop marks k f n out₀ at next₀ c₀ out next c = n - c
 
--- src/lists.rt:48:5
 loop-holds : tie.Need-loop-holds Inv-loop μ-loop
 loop-holds c = (omega arith, omega arith, refl)
 
--- src/lists.rt:49:19
 mul-if1 : tie.Need-mul-if1 Inv-loop μ-loop
 mul-if1 c = search needs
 
--- src/lists.rt:49:19
 add-if1 : tie.Need-add-if1 Inv-loop μ-loop
 add-if1 c = search needs
 
--- src/lists.rt:49:13
 mul-if1-2 : tie.Need-mul-if1-2 Inv-loop μ-loop
 mul-if1-2 c = search needs
 
--- src/lists.rt:49:13
 element-copy-out-if1 : tie.Need-element-copy-out-if1 Inv-loop μ-loop
 element-copy-out-if1 c = search needs
 
--- src/lists.rt:49:13
 shr-if1 : tie.Need-shr-if1 Inv-loop μ-loop
 shr-if1 c = search needs
 
--- src/lists.rt:50:25
 cast-out : tie.Need-cast-out Inv-loop μ-loop
 cast-out c = search needs
 
--- src/lists.rt:50:13
 slice-write-out : tie.Need-slice-write-out Inv-loop μ-loop
-slice-write-out c = omega (arith, line-fits (stands (c .before .before .before .before .args .marks .now) (c .before .before .before .before .args .k) (c .before .before .before .before .args .f)) (c .before .before .before .before .args .f) (c .before .before .before .loop .c) (c .before .before .before .before .args .n) _ _ _ _ (c .before .before .loop-test .taken) (c .before .before .before .before .pre .1 .fits) (eq-eqb _ _ (c .if1 .taken)) (c .before .before .before .loop .inv .1) (c .before .before .before .loop .inv .2))
+slice-write-out c =
+    let p = stands (c .before .before .before .before .args .marks .now) (c .before .before .before .before .args .k) (c .before .before .before .before .args .f) in
+    omega (arith, line-fits p (c .before .before .before .before .args .f) (c .before .before .before .loop .c) (c .before .before .before .before .args .n) _ _ _ _ (c .before .before .loop-test .taken) (c .before .before .before .before .pre .1 .fits) (eq-eqb _ _ (c .if1 .taken)) (c .before .before .before .loop .inv .1) (c .before .before .before .loop .inv .2))
 
--- src/lists.rt:51:29
 cast-out-2 : tie.Need-cast-out-2 Inv-loop μ-loop
 cast-out-2 c = search needs
 
--- src/lists.rt:51:17
 add-out : tie.Need-add-out Inv-loop μ-loop
-add-out c = omega (arith, c .before .before .before .before .pre .1 .small, c .before .before .before .loop .inv .1, many-not (c .before .before .before .loop .c) (stands (c .before .before .before .before .args .marks .now) (c .before .before .before .before .args .k) (c .before .before .before .before .args .f)), c .before .before .before .before .pre .0 .codes-in)
+add-out c = omega (arith, many-not (c .before .before .before .loop .c) (stands (c .before .before .before .before .args .marks .now) (c .before .before .before .before .args .k) (c .before .before .before .before .args .f)), c .before .before .before .loop .inv .1, c .before .before .before .before .pre .1 .small, c .before .before .before .before .pre .0 .codes-in)
 
--- src/lists.rt:51:13
 slice-write-out-2 : tie.Need-slice-write-out-2 Inv-loop μ-loop
-slice-write-out-2 c = simp length-set (line-fits (stands (c .before .before .before .before .args .marks .now) (c .before .before .before .before .args .k) (c .before .before .before .before .args .f)) (c .before .before .before .before .args .f) (c .before .before .before .loop .c) (c .before .before .before .before .args .n) _ _ _ _ (c .before .before .loop-test .taken) (c .before .before .before .before .pre .1 .fits) (eq-eqb _ _ (c .if1 .taken)) (c .before .before .before .loop .inv .1) (c .before .before .before .loop .inv .2))
+slice-write-out-2 c =
+    let p = stands (c .before .before .before .before .args .marks .now) (c .before .before .before .before .args .k) (c .before .before .before .before .args .f) in
+    simp length-set (line-fits p (c .before .before .before .before .args .f) (c .before .before .before .loop .c) (c .before .before .before .before .args .n) _ _ _ _ (c .before .before .loop-test .taken) (c .before .before .before .before .pre .1 .fits) (eq-eqb _ _ (c .if1 .taken)) (c .before .before .before .loop .inv .1) (c .before .before .before .loop .inv .2))
 
--- src/lists.rt:52:13
 add-next : tie.Need-add-next Inv-loop μ-loop
-add-next c = omega (arith, c .before .before .before .before .pre .1 .small, c .before .before .before .loop .inv .1, many-not (c .before .before .before .loop .c) (stands (c .before .before .before .before .args .marks .now) (c .before .before .before .before .args .k) (c .before .before .before .before .args .f)), c .before .before .before .before .pre .0 .codes-in)
+add-next c = omega (arith, many-not (c .before .before .before .loop .c) (stands (c .before .before .before .before .args .marks .now) (c .before .before .before .before .args .k) (c .before .before .before .before .args .f)), c .before .before .before .loop .inv .1, c .before .before .before .before .pre .1 .small, c .before .before .before .before .pre .0 .codes-in)
 
--- src/lists.rt:54:9
 add-c : tie.Need-add-c Inv-loop μ-loop
 add-c c = search needs
 
--- src/lists.rt:48:5
 loop-less : tie.Need-loop-less Inv-loop μ-loop
 loop-less c = search needs
 
--- src/lists.rt:48:5
 loop-again : tie.Need-loop-again Inv-loop μ-loop
-loop-again c = let p = (stands (c .before .before .before .before .args .marks .now) (c .before .before .before .before .args .k) (c .before .before .before .before .args .f)) in
+loop-again c =
+    let p = stands (c .before .before .before .before .args .marks .now) (c .before .before .before .before .args .k) (c .before .before .before .before .args .f) in
     ⊎-elim
     (λ w.
     let e = eq-eqb _ _ (w .0 .taken) in (
-    omega arith,
-    omega (arith, w .2, c .before .before .before .loop .inv .1, many-more p (c .before .before .before .loop .c) e),
-    w .1 ∙ line-written p (c .before .before .before .before .args .f) (c .before .before .before .loop .c) _ _ (c .before .before .before .before .args .at) (c .before .before .before .loop .next) e (c .before .before .before .loop .inv .1) (c .before .before .before .loop .inv .2)))
+      omega arith,
+      omega (arith, w .2, c .before .before .before .loop .inv .1, many-more p (c .before .before .before .loop .c) e),
+      w .1 ∙ line-written p (c .before .before .before .before .args .f) (c .before .before .before .loop .c) _ _ (c .before .before .before .before .args .at) (c .before .before .before .loop .next) e (c .before .before .before .loop .inv .1) (c .before .before .before .loop .inv .2),
+    ))
     (λ w.
     let e = ne-eqb _ _ (w .0 .left) in (
-    omega arith,
-    omega (arith, w .2, c .before .before .before .loop .inv .1, many-same p (c .before .before .before .loop .c) e),
-    w .1 ∙ c .before .before .before .loop .inv .2 ∙ ap (sets _ (c .before .before .before .before .args .at)) (sym (lines-same p (c .before .before .before .before .args .f) (c .before .before .before .loop .c) e))))
+      omega arith,
+      omega (arith, w .2, c .before .before .before .loop .inv .1, many-same p (c .before .before .before .loop .c) e),
+      w .1 ∙ c .before .before .before .loop .inv .2 ∙ ap (sets _ (c .before .before .before .before .args .at)) (sym (lines-same p (c .before .before .before .before .args .f) (c .before .before .before .loop .c) e)),
+    ))
     (c .if1 .came)
 
--- src/lists.rt:35:1
 same-length : tie.Need-same-length Inv-loop μ-loop
-same-length c = ap length (c .before .loop .inv .2) ∙ length-sets _ (c .before .before .args .at) (lineBytes (linesBelow (c .before .loop .c) (stands (c .before .before .args .marks .now) (c .before .before .args .k) (c .before .before .args .f)) (c .before .before .args .f)))
+same-length c =
+    let p = stands (c .before .before .args .marks .now) (c .before .before .args .k) (c .before .before .args .f) in
+    ap length (c .before .loop .inv .2) ∙ length-sets _ (c .before .before .args .at) (lineBytes (linesBelow (c .before .loop .c) p (c .before .before .args .f)))
 
--- src/lists.rt:35:1
 returns : tie.Need-returns Inv-loop μ-loop
-returns c = let e : c .before .loop .c ≡ c .before .before .args .n = omega arith in
-    (c .before .loop .inv .1 ∙ ap (λ (x : ℕ). c .before .before .args .at + 2 * howMany x (stands (c .before .before .args .marks .now) (c .before .before .args .k) (c .before .before .args .f))) e,
-    c .before .loop .inv .2 ∙ ap (λ (x : ℕ). sets (c .before .before .args .out .now) (c .before .before .args .at) (lineBytes (linesBelow x (stands (c .before .before .args .marks .now) (c .before .before .args .k) (c .before .before .args .f)) (c .before .before .args .f)))) e)
+returns c =
+    let p = stands (c .before .before .args .marks .now) (c .before .before .args .k) (c .before .before .args .f) in
+    let e : c .before .loop .c ≡ c .before .before .args .n = omega arith in (
+      c .before .loop .inv .1 ∙ ap (λ (x : ℕ). c .before .before .args .at + 2 * howMany x p) e,
+      c .before .loop .inv .2 ∙ ap (λ (x : ℕ). sets (c .before .before .args .out .now) (c .before .before .args .at) (lineBytes (linesBelow x p (c .before .before .args .f)))) e,
+    )
 
 pub write-field-spec : {M : Type 1} → statement M
 write-field-spec =
