@@ -6,3 +6,6 @@ pub mod Shapes
 pub mod Narrowing
 pub mod RowSearch
 pub mod FirstRow
+pub mod Needs
+pub mod Remaining
+pub mod ColumnSearch

@@ -88,3 +88,6 @@ module _ (s : List ℕ) (t : Shape) (q : InTable s t) where
 
   pub code-small : (r i : ℕ) → r < t .rows → i < t .arity → codeOf of r i < codeLimit
   code-small r i rl il = omega (arith, code-known r i rl il, q .promise .sized (fieldOf of i) (field-known i il) .1)
+
+  pub codes-small : (r i : ℕ) → r < length (of .rows) → i < length (of .fields) → codeOf of r i < codeLimit
+  codes-small r i rl il = code-small r i (subst (r <_) rows-of rl) (subst (i <_) arity-of il)

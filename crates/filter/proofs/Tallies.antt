@@ -1,5 +1,5 @@
 -- How many numbers below n pass a test, and sums over the numbers below n: equal tests, disjoint tests, one number, one summand. Assumes nothing.
-use mathlib.Core.Path.{_≡_, refl, sym, ap, ap₂, subst}
+use mathlib.Core.Path.{_≡_, refl, sym, ap, ap₂, _∙_}
 use mathlib.Core.Logic.{_⊎_, inl, inr, _≢_}
 use mathlib.Core.Bool.{Bool, true, false}
 use Prim.Native.Nat.{ℕ, zero, suc, _+_, _≤_, _<_}
@@ -45,3 +45,26 @@ sum-one (suc n) g h k l o = go (below-suc l) (λ m. sum-one n g h k m (below-les
     go (inr m) ih =
         let last : h n ≡ g n = o n (lt-suc-self n) (λ (x : n ≡ k). omega arith) in
         omega (arith, ih m)
+
+-- a count is a sum
+many-sum : (n : ℕ) (p : ℕ → Bool) → howMany n p ≡ sumBelow n (λ k. pick (p k) 1 0)
+many-sum zero p = refl
+many-sum (suc n) p = ap (λ (x : ℕ). x + pick (p n) 1 0) (many-sum n p)
+
+-- where p and q are equal but at k, their counts differ as they do at k
+pub many-one : (n : ℕ) (p q : ℕ → Bool) (k : ℕ) → k < n → ((i : ℕ) → i < n → i ≢ k → q i ≡ p i)
+    → howMany n q + pick (p k) 1 0 ≡ howMany n p + pick (q k) 1 0
+many-one n p q k l o =
+    ap (λ (x : ℕ). x + pick (p k) 1 0) (many-sum n q)
+    ∙ sum-one n (λ i. pick (p i) 1 0) (λ i. pick (q i) 1 0) k l (λ i h m. ap (λ (x : Bool). pick x 1 0) (o i h m))
+    ∙ ap (λ (x : ℕ). x + pick (q k) 1 0) (sym (many-sum n p))
+
+-- no number below n passes
+pub many-none : (n : ℕ) (p : ℕ → Bool) → howMany n p ≡ 0 → (k : ℕ) → k < n → p k ≡ false
+many-none zero p e k l = absurd (not-suc-le-zero l)
+many-none (suc n) p e k l = go (below-suc l) (p n) refl (λ d m. many-none n p d k m)
+  where
+    go : (k ≡ n) ⊎ (k < n) → (x : Bool) → p n ≡ x → (howMany n p ≡ 0 → k < n → p k ≡ false) → p k ≡ false
+    go w true d ih = absurd (let h : howMany n p + 1 ≡ 0 = ap (λ (y : Bool). howMany n p + pick y 1 0) (sym d) ∙ e in omega arith)
+    go (inl q) false d ih = ap p q ∙ d
+    go (inr m) false d ih = ih (omega arith) m

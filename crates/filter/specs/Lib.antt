@@ -2,3 +2,4 @@ pub mod Words
 pub mod Cases
 pub mod Support
 pub mod Revise
+pub mod Asks

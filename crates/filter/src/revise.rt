@@ -1,1 +1,75 @@
 // Striking the marks that a table no longer supports: a column at once, then the columns of a table.
+ghost use mathlib.Core.Path.{_≡_};
+ghost use Prim.Native.Nat.{_≤_, _<_};
+ghost use Rattle.format.specs.Format.{tableAt};
+ghost use Rattle.filter.specs.Support.{InTable};
+ghost use Rattle.filter.specs.Revise.{Unsupported};
+ghost use Rattle.filter.specs.Asks.{Looks, Counted};
+use crate::support::Found;
+use crate::support::Shape;
+use crate::support::support;
+use crate::support::wide;
+
+// The cases in which each code still looks for a row that supports it, and the number of codes that have such a case.
+pub struct Need {
+    pub cases: [u64; 32],
+    pub waiting: usize,
+}
+
+// The cases in which each of the k codes of field f stands.
+pub fn looking(marks: &[u64; 1024], f: usize, k: usize) -> Need
+    requires { ⌜ (f < 32) × (k ≤ 32) ⌝ }
+    ensures { λ r. ⌜ Looks (now (marks .entry)) f k (r .cases) × Counted (r .cases) (r .waiting) ⌝ }
+{
+    let mut cases = [0u64; 32];
+    let mut waiting = 0;
+    for c in 0..k {
+        let word = marks[f * 32 + c];
+        cases[c] = word;
+        if word != 0 {
+            waiting = waiting + 1;
+        }
+    }
+    Need {
+        cases: cases,
+        waiting: waiting,
+    }
+}
+
+// Of the cases looked for, those in which no row of the table supports the code in column j. It stops early where no code
+// needs a row any more.
+pub fn unsupported(book: &[u8], marks: &[u64; 1024], t: Shape, j: usize, need: Need) -> [u64; 32]
+    requires { ⌜ InTable (now book) t × ((j < t .arity) × Counted (need .cases) (need .waiting)) ⌝ }
+    ensures { λ r. ⌜ Unsupported (now (marks .entry)) (tableAt (now (book .entry)) (t .at)) j (need .cases) r ⌝ }
+{
+    let at = t.at;
+    let arity = t.arity;
+    let first = t.first;
+    let rows = t.rows;
+    let mut left = need.cases;
+    let mut waiting = need.waiting;
+    let mut from = 0;
+    while waiting != 0 {
+        let shape = Shape {
+            at: at,
+            arity: arity,
+            first: first,
+            rows: rows,
+        };
+        match support(book, marks, &left, shape, j, from) {
+            Found::Row(r, cases) => {
+                let c = wide(book[first + r * arity + j]);
+                let rest = left[c] ^ cases;
+                left[c] = rest;
+                if rest == 0 {
+                    waiting = waiting - 1;
+                }
+                from = r + 1;
+            }
+            Found::Nothing => {
+                return left;
+            }
+        }
+    }
+    left
+}
