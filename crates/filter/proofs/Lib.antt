@@ -1,6 +1,9 @@
 pub mod Tallies
 pub mod Bits
 pub mod Words
+pub mod Removals
+pub mod Limits
+pub mod Surveys
 pub mod Firsts
 pub mod Shapes
 pub mod Narrowing
@@ -9,3 +12,5 @@ pub mod FirstRow
 pub mod Needs
 pub mod Remaining
 pub mod ColumnSearch
+pub mod Propagation
+pub mod Totals

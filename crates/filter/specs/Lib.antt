@@ -3,3 +3,4 @@ pub mod Cases
 pub mod Support
 pub mod Revise
 pub mod Asks
+pub mod Queue
