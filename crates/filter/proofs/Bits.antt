@@ -13,8 +13,9 @@ use lib.Count.{ones, ones-step, trailingZeros, under}
 use Rattle.format.specs.Basics.{pick}
 use Rattle.consistency.specs.Counting.{howMany}
 use Rattle.consistency.proofs.Booleans.{T-ext}
+use Rattle.consistency.proofs.Sums.{many-ext}
 use Rattle.filter.specs.Words.{bit}
-use Rattle.filter.proofs.Tallies.{many-ext, many-front, many-add}
+use Rattle.filter.proofs.Tallies.{many-front, many-add}
 
 two : zero < 2
 two = zero-lt-suc 1

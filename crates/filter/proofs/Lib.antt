@@ -12,5 +12,8 @@ pub mod FirstRow
 pub mod Needs
 pub mod Remaining
 pub mod ColumnSearch
+pub mod Strikes
+pub mod StruckWords
+pub mod Revisions
 pub mod Propagation
 pub mod Totals

@@ -16,7 +16,7 @@ use Rattle.format.specs.Format.{codeLimit}
 use Rattle.consistency.proofs.Booleans.{below-suc}
 use Rattle.filter.specs.Words.{wordAt}
 use Rattle.filter.specs.Asks.{Looks, needing}
-use Rattle.filter.proofs.Tallies.{many-one, many-none}
+use Rattle.filter.proofs.Tallies.{many-change, many-none}
 
 -- ---- how many codes have a case
 
@@ -39,7 +39,7 @@ module _ (need : List ℕ) (full : length need ≡ codeLimit) where
     unfolding needing
     needing-set x y e d =
         ap (λ (z : Bool). needing (set need c w) + pick z 1 0) (sym e)
-        ∙ many-one codeLimit (λ d. some (getD need d 0)) (λ d. some (getD (set need c w) d 0)) c l
+        ∙ many-change codeLimit (λ d. some (getD need d 0)) (λ d. some (getD (set need c w) d 0)) c l
         (λ d h n. ap some (getD-set-other need c d w 0 n))
         ∙ ap (λ (z : Bool). needing need + pick z 1 0) (ap some (getD-set-same need c w 0 (omega arith)) ∙ d)
 

@@ -1,30 +1,17 @@
 -- The shape of a table of an accepted book: where its rows and fields stand in the bytes, and how large they are. Assumes nothing.
 use mathlib.Core.Path.{_≡_, refl, sym, ap, _∙_, subst}
-use mathlib.Core.Bool.{Bool, true, false}
-use mathlib.Core.List.{List}
+use mathlib.Core.List.{List, []}
 use Prim.Native.Nat.{ℕ, _+_, _-_, _*_, _≤_, _<_}
 use native.Mathlib.Nat.{mul-le-mul-right}
 use native.Mathlib.Omega.{arith}
-use lib.Dec.{eqb}
 use lib.ListN.{length}
-use Rattle.format.specs.Basics.{pick}
-use Rattle.format.specs.Format.{Table, fieldLimit, codeLimit, byte, listPlace, fieldCount, arityAt, rowsOf, firstRow, tableEnd, tableAt}
+use Rattle.format.specs.Format.{Table, codeLimit, byte, listPlace, fieldCount, arityAt, rowsOf, firstRow, tableEnd, tableAt, bookOf}
 use Rattle.format.specs.Promise.{Promise, TablePromise, place, fieldAt, codeAt, countAt}
-use Rattle.format.proofs.Views.{table-rows, table-code, table-field, table-arity}
-use Rattle.consistency.specs.Consistency.{places, fieldOf, codeOf}
+use Rattle.format.proofs.Views.{tables-count, table-view, table-rows, table-code, table-field, table-arity}
+use Rattle.consistency.specs.Consistency.{places, fieldOf, codeOf, nth}
 use Rattle.filter.specs.declared.support.Shape.{Shape}
 use Rattle.filter.specs.Support.{InTable}
-
--- a book of any version has no more fields than a sheet has places
-limit-places : (v : ℕ) → fieldLimit v ≤ places
-limit-places v = go (eqb v 1)
-  where
-    go : (t : Bool) → pick t 32 0 ≤ 32
-    go true = omega arith
-    go false = omega arith
-
-pub fields-few : (s : List ℕ) → Promise s → fieldCount s ≤ places
-fields-few s p = omega (arith, p .few, limit-places (byte s (length s - 2)))
+use Rattle.filter.proofs.Limits.{fields-few}
 
 module _ (s : List ℕ) (t : Shape) (q : InTable s t) where
   -- the table
@@ -91,3 +78,10 @@ module _ (s : List ℕ) (t : Shape) (q : InTable s t) where
 
   pub codes-small : (r i : ℕ) → r < length (of .rows) → i < length (of .fields) → codeOf of r i < codeLimit
   codes-small r i rl il = code-small r i (subst (r <_) rows-of rl) (subst (i <_) arity-of il)
+
+  -- the table is the book's
+  pub index-below : q .index < length (bookOf s .tables)
+  index-below = omega (arith, tables-count s, q .index-in)
+
+  pub nth-is : nth (bookOf s) (q .index) ≡ of
+  nth-is = table-view s (record { fields = []; rows = [] }) (q .index) (q .index-in) ∙ ap (tableAt s) (sym (q .at-is))

@@ -1,18 +1,18 @@
 -- What the functions that strike marks ask of their callers, and what the inner ones answer. Assumes nothing.
-use Prim.Native.Nat.{ℕ, _+_, _*_, _≤_, _<_}
+use Prim.Native.Nat.{ℕ, _+_, _*_, _^_, _≤_, _<_}
 use mathlib.Core.Path.{_≡_}
 use mathlib.Core.Logic.{_⊎_}
 use mathlib.Core.Bool.{not}
 use mathlib.Core.List.{List}
 use lib.Bits.{bitXor}
-use lib.Count.{ones}
 use lib.Dec.{eqb}
 use lib.ListN.{length, getD}
 use Rattle.format.specs.Format.{codeLimit, listPlace, tableCount, bookOf}
 use Rattle.format.specs.Promise.{Promise, place, fieldAt, countAt}
 use Rattle.consistency.specs.Counting.{howMany, sumBelow}
+use Rattle.consistency.specs.Consistency.{places, OfBook}
 use Rattle.filter.specs.declared.support.Shape.{Shape}
-use Rattle.filter.specs.Words.{wordAt}
+use Rattle.filter.specs.Words.{bit, wordAt, domainOf}
 use Rattle.filter.specs.Support.{InTable}
 use Rattle.filter.specs.Revise.{Room, Watches}
 
@@ -35,21 +35,28 @@ pub record Struck (M N left : List ℕ) (f k s u : ℕ) : Type 0 where
   pub same-length : length N ≡ length M
   pub gone : (c : ℕ) → c < k → wordAt N f c ≡ bitXor (wordAt M f c) (getD left c 0)
   pub rest : (i : ℕ) → (i < f * codeLimit) ⊎ (f * codeLimit + k ≤ i) → getD N i 0 ≡ getD M i 0
-  pub counted : u ≡ s + sumBelow k (λ c. ones (getD left c 0))
+  pub small : (c : ℕ) → c < k → getD left c 0 < 2 ^ 64
+  pub counted : u ≡ s + sumBelow k (λ c. howMany 64 (bit (getD left c 0)))
 
--- column j of the table with shape t is for field f, of k codes, and the count has room
+-- marks of the book's codes alone, one word for each place and code, and room for them in the count n
+pub record Marks (s M : List ℕ) (n : ℕ) : Type 0 where
+  pub words : length M ≡ places * codeLimit
+  pub of-book : (k : ℕ) → OfBook (bookOf s) (domainOf M k)
+  pub room : Room (bookOf s) M n
+
+-- column j of the table with shape t is for field f, of k codes
 pub record ReviseAsks (s M : List ℕ) (t : Shape) (j f k n : ℕ) : Type 0 where
   pub table : InTable s t
   pub column : j < t .arity
   pub field : f ≡ fieldAt s (t .at) j
   pub codes-are : k ≡ countAt s f
-  pub room : Room (bookOf s) M n
+  pub marks : Marks s M n
 
--- table i of an accepted book stands at `at`, the field list at `list`; W has the tables with each field; the count has room
+-- table i of an accepted book stands at `at`, the field list at `list`; W has the tables with each field
 pub record SweepAsks (s W M : List ℕ) (i at list n : ℕ) : Type 0 where
   pub promise : Promise s
   pub index-in : i < tableCount s
   pub at-is : at ≡ place s i
   pub list-is : list ≡ listPlace s
   pub watches : Watches s W
-  pub room : Room (bookOf s) M n
+  pub marks : Marks s M n

@@ -1,14 +1,17 @@
 // Striking the marks that a table no longer supports: a column at once, then the columns of a table.
 ghost use mathlib.Core.Path.{_≡_};
-ghost use Prim.Native.Nat.{_≤_, _<_};
-ghost use Rattle.format.specs.Format.{tableAt};
+ghost use Prim.Native.Nat.{_^_, _≤_, _<_};
+ghost use lib.ListN.{length};
+ghost use Rattle.format.specs.Format.{tableAt, bookOf};
+ghost use Rattle.consistency.specs.Counting.{howMany};
+ghost use Rattle.filter.specs.Words.{bit};
 ghost use Rattle.filter.specs.Support.{InTable};
-ghost use Rattle.filter.specs.Revise.{Unsupported};
-ghost use Rattle.filter.specs.Asks.{Looks, Counted};
-use crate::support::Found;
-use crate::support::Shape;
-use crate::support::support;
-use crate::support::wide;
+ghost use Rattle.filter.specs.Revise.{Unsupported, Revised};
+ghost use Rattle.filter.specs.Asks.{Looks, Counted, Struck, ReviseAsks};
+use super::support::Found;
+use super::support::Shape;
+use super::support::support;
+use super::support::wide;
 
 // The cases in which each code still looks for a row that supports it, and the number of codes that have such a case.
 pub struct Need {
@@ -72,4 +75,43 @@ pub fn unsupported(book: &[u8], marks: &[u64; 1024], t: Shape, j: usize, need: N
         }
     }
     left
+}
+
+// The number of cases of a word; a word has 64 bits and no more.
+fn cases_in(word: u64) -> u32
+    ensures { λ r. ⌜ (r ≡ howMany 64 (bit word)) × (word < 2 ^ 64) ⌝ }
+{
+    u64::count_ones(word)
+}
+
+// Strikes the cases `left` of the k codes of field f, and counts them.
+pub fn strike(marks: &mut [u64; 1024], left: &[u64; 32], f: usize, k: usize, s: u32) -> u32
+    requires { ⌜ (length (now marks) ≡ 1024) × ((f < 32) × ((k ≤ 32) × (s ≤ 1000000))) ⌝ }
+    ensures { λ r. ⌜ Struck (now (marks .entry)) (now (marks .exit)) (now (left .entry)) f k s r ⌝ }
+{
+    let mut count = s;
+    for c in 0..k {
+        let gone = left[c];
+        marks[f * 32 + c] = marks[f * 32 + c] ^ gone;
+        count = count + cases_in(gone);
+    }
+    count
+}
+
+// Strikes each mark of field f that no row of the table supports in column j, f's column; the field has k codes.
+pub fn revise(
+    book: &[u8],
+    marks: &mut [u64; 1024],
+    t: Shape,
+    j: usize,
+    f: usize,
+    k: usize,
+    s: u32,
+) -> u32
+    requires { ⌜ ReviseAsks (now book) (now marks) t j f k s ⌝ }
+    ensures { λ r. ⌜ Revised (bookOf (now (book .entry))) (now (marks .entry)) (now (marks .exit)) (tableAt (now (book .entry)) (t .at)) j f s r ⌝ }
+{
+    let need = looking(marks, f, k);
+    let left = unsupported(book, marks, t, j, need);
+    strike(marks, &left, f, k, s)
 }
