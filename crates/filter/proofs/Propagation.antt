@@ -16,12 +16,12 @@ use Rattle.format.specs.Format.{Table, Book, codeLimit, tableCount, arityAt, ta
 use Rattle.format.specs.Promise.{Promise, place}
 use Rattle.format.proofs.Views.{tables-count, table-view, table-field, table-arity}
 use Rattle.consistency.specs.Counting.{howMany}
-use Rattle.consistency.specs.Consistency.{places, fieldOf, codeOf, nth, Support, ArcConsistent, OfBook}
+use Rattle.consistency.specs.Consistency.{fieldOf, codeOf, nth, Support, ArcConsistent}
 use Rattle.consistency.proofs.Booleans.{T-true, T-false, true-T, false-T, and-in, and-left}
 use Rattle.consistency.proofs.Loops.{loop-ends}
 use Rattle.filter.specs.Words.{bit, wordAt, domainOf, standing}
-use Rattle.filter.specs.Revise.{Removal, Room, TableSupported, Watches, Swept}
-use Rattle.filter.specs.Asks.{Marks, SweepAsks}
+use Rattle.filter.specs.Revise.{Removal, TableSupported, Watches, Swept}
+use Rattle.filter.specs.Asks.{SweepAsks}
 use Rattle.filter.specs.Queue.{PropagateGiven, Propagated}
 use Rattle.filter.proofs.Tallies.{many-le}
 use Rattle.filter.proofs.Bits.{Within, bit-without, many-without, ones-many, ones-pos, zero-bit, one-bit, shl-one, lowest, bit-small, later-bit}
