@@ -15,5 +15,8 @@ pub mod ColumnSearch
 pub mod Strikes
 pub mod StruckWords
 pub mod Revisions
+pub mod ColumnKept
+pub mod Queueing
+pub mod Sweeps
 pub mod Propagation
 pub mod Totals

@@ -1,14 +1,18 @@
 -- The shape of a table of an accepted book: where its rows and fields stand in the bytes, and how large they are. Assumes nothing.
 use mathlib.Core.Path.{_≡_, refl, sym, ap, _∙_, subst}
+use mathlib.Core.Logic.{⊎-elim, _≢_}
 use mathlib.Core.List.{List, []}
-use Prim.Native.Nat.{ℕ, _+_, _-_, _*_, _≤_, _<_}
-use native.Mathlib.Nat.{mul-le-mul-right}
+use Prim.Native.Nat.{ℕ, zero, suc, _+_, _-_, _*_, _≤_, _<_}
+use native.Mathlib.Nat.{le-trans, not-suc-le-zero, mul-le-mul-right}
+use native.Mathlib.Numerals.{add-one}
+use native.Mathlib.Decide.{decLt}
 use native.Mathlib.Omega.{arith}
 use lib.ListN.{length}
 use Rattle.format.specs.Format.{Table, codeLimit, byte, listPlace, fieldCount, arityAt, rowsOf, firstRow, tableEnd, tableAt, bookOf}
 use Rattle.format.specs.Promise.{Promise, TablePromise, place, fieldAt, codeAt, countAt}
 use Rattle.format.proofs.Views.{tables-count, table-view, table-rows, table-code, table-field, table-arity}
 use Rattle.consistency.specs.Consistency.{places, fieldOf, codeOf, nth}
+use Rattle.consistency.proofs.Booleans.{below-suc}
 use Rattle.filter.specs.declared.support.Shape.{Shape}
 use Rattle.filter.specs.Support.{InTable}
 use Rattle.filter.proofs.Limits.{fields-few}
@@ -62,6 +66,25 @@ module _ (s : List ℕ) (t : Shape) (q : InTable s t) where
   -- a column's field is one of the book's
   pub field-known : (i : ℕ) → i < t .arity → fieldOf of i < fieldCount s
   field-known i l = subst (λ (x : ℕ). x < fieldCount s) (field-is i l) (promised .known i (omega (arith, arity-is)))
+
+  -- fields rise, so those of two columns differ
+  rise : (i l : ℕ) → i < l → l < arityAt s (t .at) → fieldAt s (t .at) i < fieldAt s (t .at) l
+  rise i zero h m = absurd (not-suc-le-zero h)
+  rise i (suc l) h m =
+      let step : fieldAt s (t .at) l < fieldAt s (t .at) (suc l) =
+      subst (λ (x : ℕ). fieldAt s (t .at) l < fieldAt s (t .at) x) (add-one l) (promised .rising l (omega arith)) in
+      ⊎-elim (λ (e : i ≡ l). subst (λ (x : ℕ). fieldAt s (t .at) x < fieldAt s (t .at) (suc l)) (sym e) step)
+      (λ (k : i < l). le-trans (rise i l k (omega arith)) (omega arith)) (below-suc h)
+
+  pub fields-apart : (i l : ℕ) → i < t .arity → l < t .arity → i ≢ l → fieldOf of i ≢ fieldOf of l
+  fields-apart i l il ll n e = go (decLt i l)
+    where
+      same : fieldAt s (t .at) i ≡ fieldAt s (t .at) l
+      same = field-is i il ∙ e ∙ sym (field-is l ll)
+
+      go : Dec (i < l) → ⊥
+      go (yes h) = let r : fieldAt s (t .at) i < fieldAt s (t .at) l = rise i l h (omega (arith, arity-is)) in omega (arith, same)
+      go (no h) = let r : fieldAt s (t .at) l < fieldAt s (t .at) i = rise l i (omega arith) (omega (arith, arity-is)) in omega (arith, same)
 
   -- a code is one of its field's
   pub code-known : (r i : ℕ) → r < t .rows → i < t .arity → codeOf of r i < countAt s (fieldOf of i)

@@ -6,8 +6,8 @@ ghost use Rattle.format.specs.Format.{tableAt, bookOf};
 ghost use Rattle.consistency.specs.Counting.{howMany};
 ghost use Rattle.filter.specs.Words.{bit};
 ghost use Rattle.filter.specs.Support.{InTable};
-ghost use Rattle.filter.specs.Revise.{Unsupported, Revised};
-ghost use Rattle.filter.specs.Asks.{Looks, Counted, Struck, ReviseAsks};
+ghost use Rattle.filter.specs.Revise.{Unsupported, Revised, Swept};
+ghost use Rattle.filter.specs.Asks.{Looks, Counted, Struck, ReviseAsks, SweepAsks};
 use super::support::Found;
 use super::support::Shape;
 use super::support::support;
@@ -17,6 +17,12 @@ use super::support::wide;
 pub struct Need {
     pub cases: [u64; 32],
     pub waiting: usize,
+}
+
+// The strikes so far, and the tables to look at again.
+pub struct Pass {
+    pub struck: u32,
+    pub queue: u64,
 }
 
 // The cases in which each of the k codes of field f stands.
@@ -114,4 +120,45 @@ pub fn revise(
     let need = looking(marks, f, k);
     let left = unsupported(book, marks, t, j, need);
     strike(marks, &left, f, k, s)
+}
+
+// Revises the columns of table i, which stands at `at`, one after another. The other tables with a field that lost a mark
+// join the queue; table i itself need not, since a row that supports a mark in one column keeps its marks in the others.
+pub fn sweep(
+    book: &[u8],
+    marks: &mut [u64; 1024],
+    watch: &[u64; 32],
+    list: usize,
+    i: usize,
+    at: usize,
+    s: u32,
+    queue: u64,
+) -> Pass
+    requires { ⌜ SweepAsks (now book) (now watch) (now marks) i at list s ⌝ }
+    ensures { λ r. ⌜ Swept (now (book .entry)) (now (watch .entry)) (now (marks .entry)) (now (marks .exit)) i s (r .struck) queue (r .queue) ⌝ }
+{
+    let arity = wide(book[at]);
+    let rows = wide(book[at + 1 + arity]) + 256 * wide(book[at + 2 + arity]);
+    let first = at + 3 + arity;
+    let mut struck = s;
+    let mut tables = queue;
+    for j in 0..arity {
+        let f = wide(book[at + 1 + j]);
+        let k = wide(book[list + f]);
+        let shape = Shape {
+            at: at,
+            arity: arity,
+            first: first,
+            rows: rows,
+        };
+        let n = revise(book, marks, shape, j, f, k, struck);
+        if n != struck {
+            tables = tables | (watch[f] ^ (1 << i));
+            struck = n;
+        }
+    }
+    Pass {
+        struck: struck,
+        queue: tables,
+    }
 }
