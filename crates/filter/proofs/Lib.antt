@@ -17,6 +17,15 @@ pub mod FirstRow
 pub mod StartDomains
 pub mod CaseMarks
 pub mod Ends
+pub mod Needs
+pub mod Remaining
+pub mod ColumnSearch
+pub mod Strikes
+pub mod StruckWords
+pub mod Revisions
+pub mod ColumnKept
+pub mod Queueing
+pub mod Sweeps
 pub mod Propagation
 pub mod Totals
 pub mod Gathers

@@ -70,13 +70,11 @@ module _ (s a own : List ℕ) (all : ℕ) (g : RunGiven s a own all) (list field
         record {
           promise = g .promise;
           list-is = h .list-is;
-          words = x .size;
           watches = w .watches;
           placed = w .placed;
           all = λ i l. subst T (sym (queue-bit i)) (lt→ltb i (tableCount s) l);
           only = λ i t. ltb→lt i (tableCount s) (subst T (queue-bit i) t);
-          room = room;
-          of-book = started-of-book s a own all M r (g .promise) x;
+          marks = record { words = x .size; of-book = started-of-book s a own all M r (g .promise) x; room = room };
         }
 
     pub ran : (N : List ℕ) (m : ℕ) → Propagated s M N r m → Ran (bookOf s) a own all N m

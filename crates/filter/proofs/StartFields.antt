@@ -20,7 +20,7 @@ use Rattle.consistency.specs.Consistency.{places, codes, answer}
 use Rattle.consistency.proofs.CodeCounts.{field-in}
 use Rattle.filter.specs.Words.{bit, wordAt, standing}
 use Rattle.filter.specs.Start.{startWord, StartsField, FieldStarted, Starts, Started}
-use Rattle.filter.proofs.Tallies.{sum-ext}
+use Rattle.consistency.proofs.Sums.{sum-ext}
 use Rattle.filter.proofs.Lists.{answer-at, zeros}
 use Rattle.filter.proofs.Limits.{fields-few, codes-few}
 use Rattle.filter.proofs.Starts.{casesAt}

@@ -19,7 +19,7 @@ use Rattle.consistency.specs.Consistency.{places}
 use Rattle.filter.specs.Words.{bit, wordAt}
 use Rattle.filter.specs.Start.{startWord, StartsField, FieldStarted}
 use Rattle.filter.proofs.Bits.{Within, ones-many, many-without}
-use Rattle.filter.proofs.Tallies.{sum-ext}
+use Rattle.consistency.proofs.Sums.{sum-ext}
 use Rattle.filter.proofs.Stores.{word-in, stored-here, stored-elsewhere}
 
 -- ---- one word

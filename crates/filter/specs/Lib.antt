@@ -3,4 +3,5 @@ pub mod Cases
 pub mod Support
 pub mod Revise
 pub mod Start
+pub mod Asks
 pub mod Queue
