@@ -9,16 +9,16 @@ fn called(sheet: Sheet, book: &[u8], kind: u8, field: u8, code: u8) -> Sheet
     ensures { λ r. ⌜ r .places ≡ sheetThrough (now (book .entry)) (sheet .places) (addCall kind field code []) ⌝ }
 {
     if kind == 0 {
-        let handed = sheet.enter(book, field, code);
-        return handed.sheet;
+        let entered = sheet.enter(book, field, code);
+        return entered.sheet;
     }
     if kind == 1 {
-        let handed = sheet.withdraw(book, field);
-        return handed.sheet;
+        let withdrawn = sheet.withdraw(book, field);
+        return withdrawn.sheet;
     }
     if kind == 2 {
-        let handed = sheet.clear();
-        return handed.sheet;
+        let cleared = sheet.clear();
+        return cleared.sheet;
     }
     sheet
 }

@@ -9,6 +9,9 @@ ghost use Rattle.consistency.specs.Counting.{howMany};
 ghost use Rattle.consistency.specs.Counts.{total, lines, lineBytes};
 ghost use Rattle.sheet.specs.Lists.{stands, linesBelow, InMarks, Room, Passed};
 
+// The own case of the first answered field, behind the case with nothing relaxed.
+const FIRST_OWN: u64 = 1;
+
 fn wide(x: u8) -> usize
     ensures { λ r. ⌜ r ≡ x ⌝ }
 {
@@ -61,7 +64,7 @@ pub(crate) fn count_lines(
     ensures { λ r. ⌜ (r ≡ total (bookOf (now (book .entry))) answers) × (r ≤ 1024) ⌝ }
 {
     let mut sum = 0;
-    let mut k: u64 = 1;
+    let mut k = FIRST_OWN;
     let mut f = 0;
     while f < fields {
         if answers[f] == 255 {
@@ -89,7 +92,7 @@ pub(crate) fn write_lines(
     ensures { λ r. ⌜ now (out .exit) ≡ lineBytes (lines (bookOf (now (book .entry))) answers) ++ drop (2 * total (bookOf (now (book .entry))) answers) (now (out .entry)) ⌝ }
 {
     let mut next = 0;
-    let mut k: u64 = 1;
+    let mut k = FIRST_OWN;
     let mut f = 0;
     while f < fields {
         if answers[f] == 255 {
