@@ -29,6 +29,7 @@ module _ (bytes s o : List ℕ) where
     unfolding alternatives
     alternatives-18 h = on-ready 2 bytes s o _ (p .passes) _ (simp (← total-is, lt-ltb))
 
+    -- the total, the number struck and the lines
     pub alternatives-done : {k : ℕ} {out : List ℕ} → 2 * n ≤ length o → k ≡ struck (bookOf bytes) s
         → out ≡ lineBytes (lines (bookOf bytes) s) ++ drop (2 * total (bookOf bytes) s) o
         → done (n ∷ k ∷ []) s out ≡ alternatives bytes s o
@@ -48,7 +49,9 @@ module _ (bytes s a o : List ℕ) {list fields : ℕ} (at : FieldsAt bytes list 
   pub masks-18 : length o < fields → turned 0 s o 18 0 ≡ masksInto (bookOf bytes) s a o
   masks-18 h = simp (fields-count bytes list fields at, lt-ltb)
 
-  pub masks-done : {out : List ℕ} → fields ≤ length o → out ≡ masks (bookOf bytes) a ++ drop fields o → done [] s out ≡ masksInto (bookOf bytes) s a o
+  -- the masks, and behind them what was there
+  pub masks-done : {out : List ℕ} → fields ≤ length o → out ≡ masks (bookOf bytes) a ++ drop fields o
+      → done [] s out ≡ masksInto (bookOf bytes) s a o
   masks-done h w = simp (fields-count bytes list fields at, le-ltb, w)
 
 module _ (bytes s o : List ℕ) (f : ℕ) where
@@ -70,6 +73,7 @@ module _ (bytes s o : List ℕ) (f : ℕ) where
       filtered-15 h = on-ready 0 bytes s o _ (p .passes) _ (simp (ne-eqb f 255 n, fields-count bytes list fields (p .at), le-ltb f fields h))
 
       module _ (long : length s ≡ places) (h : f < fields) where
+        -- the byte at the field is its answer
         held : getD s f 0 ≡ answer s f
         held = answer-at s long f (omega (arith, fields-few bytes list fields (p .at)))
 

@@ -75,7 +75,7 @@ returns-5 : tie.Need-returns-5
 returns-5 c =
     let o = opens-ready _ _ _ (c .before .before .before .before .before .before .before .before .before .before .«open» .ensures) _ _ (c .before .before .before .before .before .before .before .before .opened2 .given .1) in
     let long : length (c .before .before .before .before .before .before .before .before .before .before .before .before .before .before .args .self .places) ≡ 32 = search needs in
-    filtered-relaxed _ _ _ _ o (c .before .before .before .before .before .before .if1 .left) long (c .before .before .before .before .before .if2 .left) (c .before .before .before .before .if3 .left) (c .before .before .write-masks2 .ensures)
+    filtered-relaxed (c .before .before .before .before .before .before .before .before .before .before .before .before .before .before .args .book .now) (c .before .before .before .before .before .before .before .before .before .before .before .before .before .before .args .self .places) (c .before .before .before .before .before .before .before .before .before .before .before .before .before .before .args .out .now) (c .before .before .before .before .before .before .before .before .before .before .before .before .before .before .args .relaxed) o (c .before .before .before .before .before .before .if1 .left) long (c .before .before .before .before .before .if2 .left) (c .before .before .before .before .if3 .left) (c .before .before .write-masks2 .ensures)
 
 pub filtered-spec : {M : Type 1} → statement M
 filtered-spec =
