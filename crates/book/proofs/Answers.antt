@@ -1,11 +1,11 @@
 -- From the parts' answers to the whole: what each way through check and read answers. Assumes nothing.
 use mathlib.Core.Path.{_≡_, refl, sym, ap, _∙_}
 use mathlib.Core.List.{List, [], _∷_}
-use Prim.Native.Nat.{ℕ, _+_, _≤_, _<_}
+use Prim.Native.Nat.{ℕ, _≤_, _<_}
 use native.Mathlib.Omega.{arith}
 use lib.ListN.{length}
-use Rattle.format.specs.Format.{rowLimit, tableLimit, listPlace, fieldCount, tableCount, rowTotal, differentTotal, tablesAt, bookOf, bookCounts}
-use Rattle.format.specs.Promise.{place, Promise}
+use Rattle.format.specs.Format.{rowLimit, tableLimit, listPlace, fieldCount, tableCount, rowTotal, differentTotal, tablesAt, bookOf}
+use Rattle.format.specs.Promise.{place}
 use Rattle.format.specs.Reading.{Outcome, accepted, refused, Verdict, pass, fail, next, stop, listTest, tableStep, tablesStep, lastTest, verdict, outcome, reading, checking}
 use Rattle.format.proofs.Views.{counts-count, tables-count}
 use Rattle.format.proofs.Refusals.{verdict-list, verdict-tables, last-13-left, last-pass, reading-pass, checking-pass, checking-fail}

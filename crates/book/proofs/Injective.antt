@@ -1,6 +1,6 @@
 -- An answer is told by what is shown of it: no two answers show the same number, place and counts. Assumes nothing.
 use mathlib.Core.Path.{_≡_, refl, sym, ap, _∙_}
-use mathlib.Core.List.{List, [], _∷_}
+use mathlib.Core.List.{[], _∷_}
 use Prim.Native.Nat.{ℕ, _≤_}
 use native.Mathlib.Omega.{arith}
 use lib.ListN.{getD}

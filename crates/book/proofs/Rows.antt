@@ -1,16 +1,15 @@
 -- A turn of each loop that counts different rows: of two rows, of the later rows, of a table's rows, of all tables. Assumes nothing.
 use mathlib.Core.Path.{_≡_, refl, sym, ap, _∙_}
-use mathlib.Core.Bool.{Bool, true, false, _&&_, _||_}
+use mathlib.Core.Bool.{Bool, true, false, _&&_}
 use mathlib.Core.List.{List, [], _∷_}
 use Prim.Native.Nat.{ℕ, zero, suc, _+_, _-_, _*_, _≤_, _<_}
 use native.Mathlib.Nat.{suc-mul, sub-zero}
 use native.Mathlib.Numerals.{add-one}
 use native.Mathlib.Omega.{arith}
-use lib.ListN.{length, take}
+use lib.ListN.{length}
 use lib.Seq.{drop-cons}
 use lib.Dec.{eqb}
 use borrow.Author.Tests.{eq-eqb, ne-eqb}
-use Rattle.format.specs.Basics.{pick}
 use Rattle.format.specs.Format.{byte, le16, part, arityAt, tableEnd, rowsAt, tableAt, tablesAt, sameCodes, isIn, different, differentTotal}
 use Rattle.format.specs.Promise.{place}
 use Rattle.format.proofs.Views.{places-rise}
