@@ -11,7 +11,7 @@ use Rattle.book.specs.declared.Refusal.the-variants.{Length, Closing, Ve
 use Rattle.book.specs.declared.Reading.{Reading}
 use Rattle.book.specs.declared.Reading.the-variants.{Accepted, Refused}
 use Rattle.book.specs.declared.Checked.{Checked}
-use Rattle.book.specs.declared.Checked.the-variants.{Good, Bad}
+use Rattle.book.specs.declared.Checked.the-variants as checked
 
 -- the kind of a number from 1 to 13
 kindOf : ℕ → Refusal
@@ -60,7 +60,7 @@ shown-injective (Refused k p) (Accepted f t r d) e = absurd (omega (arith, numbe
 shown-injective (Refused k p) (Refused k′ p′) e = cc (number-injective k k′ (numbers e), places e)
 
 pub shownCheck-injective : (x y : Checked) → shownCheck x ≡ shownCheck y → x ≡ y
-shownCheck-injective (Good l f t r) (Good l′ f′ t′ r′) e = cc (lists e)
-shownCheck-injective (Good l f t r) (Bad k p) e = absurd (omega (arith, numbers e, number-some k))
-shownCheck-injective (Bad k p) (Good l f t r) e = absurd (omega (arith, numbers e, number-some k))
-shownCheck-injective (Bad k p) (Bad k′ p′) e = cc (number-injective k k′ (numbers e), places e)
+shownCheck-injective (checked.Good l f t r) (checked.Good l′ f′ t′ r′) e = cc (lists e)
+shownCheck-injective (checked.Good l f t r) (checked.Refused k p) e = absurd (omega (arith, numbers e, number-some k))
+shownCheck-injective (checked.Refused k p) (checked.Good l f t r) e = absurd (omega (arith, numbers e, number-some k))
+shownCheck-injective (checked.Refused k p) (checked.Refused k′ p′) e = cc (number-injective k k′ (numbers e), places e)
