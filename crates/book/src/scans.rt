@@ -51,7 +51,14 @@ pub fn bad_field(book: &[u8], fields: usize, first: usize, end: usize) -> usize
 }
 
 // 11: the first code that is too large, in rows of arity codes from start on; the fields of the columns stand from first on.
-pub fn bad_code(book: &[u8], list: usize, first: usize, arity: usize, start: usize, end: usize) -> usize
+pub fn bad_code(
+    book: &[u8],
+    list: usize,
+    first: usize,
+    arity: usize,
+    start: usize,
+    end: usize,
+) -> usize
     requires { ⌜ CodesFit (now book) list first arity start end ⌝ }
     ensures { λ r. ⌜ r ≡ firstBad (codeOk (now (book .entry)) list first arity start) start end ⌝ }
 {

@@ -12,9 +12,13 @@ use super::bytes::pair;
 use super::scans;
 
 const LENGTH_LIMIT: usize = 32768;
+
 const CLOSING_BYTE: u8 = 0xE5;
+
 const TABLE_LIMIT: usize = 64;
+
 const ARITY_LIMIT: usize = 4;
+
 const ROW_LIMIT: usize = 4096;
 
 // A test's answer.
@@ -104,7 +108,10 @@ fn table_rows(book: &[u8], list: usize, at: usize, rows: usize) -> Step
     if bad < end {
         return Step::Stop(Refusal::Code, bad);
     }
-    Step::Next { at: end, rows: total }
+    Step::Next {
+        at: end,
+        rows: total,
+    }
 }
 
 // 8, 9, 8 and 10, of the table at at, with rows before it; then its rows.
@@ -147,7 +154,10 @@ pub fn tables(book: &[u8], list: usize, fields: usize, count: usize) -> Step
             Step::Stop(kind, place) => {
                 return Step::Stop(kind, place);
             }
-            Step::Next { at: end, rows: total } => {
+            Step::Next {
+                at: end,
+                rows: total,
+            } => {
                 at = end;
                 rows = total;
             }

@@ -10,9 +10,6 @@ use borrow.Author.Needs.{needs}
 use native.Mathlib.Omega.{arith}
 use Rattle.book.proofs.different.different_rows.Statement.{statement}
 use Rattle.book.proofs.different.different_rows.Tie as tie
-use Rattle.book.proofs.different.different_rows.Reads as reads
-use Rattle.book.proofs.different.different_rows.Lts as lts
-use Rattle.book.proofs.different.is_repeated.Reads as is-repeated-reads
 
 abbrev Inv-loop : tie.InvT-loop
 Inv-loop book start arity count found₀ next₀ left₀ found next left = (next + left * arity ≤ length book) × (found + left ≤ count) × (found + different (rowsAt book arity next left) ≡ different (rowsAt book arity start count))
@@ -20,47 +17,37 @@ Inv-loop book start arity count found₀ next₀ left₀ found next left = (next
 abbrev μ-loop : tie.MeasureT-loop
 μ-loop book start arity count found₀ next₀ left₀ found next left = left
 
--- src/different.rt:55:5
 loop-holds : tie.Need-loop-holds Inv-loop μ-loop
 loop-holds c = ((c .before .pre), omega arith, omega arith)
 
--- src/different.rt:57:9
 add-next : tie.Need-add-next Inv-loop μ-loop
 add-next c = omega (arith, one-less (c .before .loop .left) (c .before .before .before .args .arity) (c .loop-test .taken))
 
--- src/different.rt:58:9
 sub-left : tie.Need-sub-left Inv-loop μ-loop
 sub-left c = search needs
 
--- src/different.rt:59:13
 is-repeated-requires : tie.Need-is-repeated-requires Inv-loop μ-loop
 is-repeated-requires c κs = let n = one-less (c .before .loop .left) (c .before .before .before .args .arity) (c .loop-test .taken) in (omega arith, omega arith)
 
--- src/different.rt:60:13
 add-found : tie.Need-add-found Inv-loop μ-loop
 add-found c = search needs
 
--- src/different.rt:55:5
 loop-less : tie.Need-loop-less Inv-loop μ-loop
 loop-less c = search needs
 
--- src/different.rt:55:5
 loop-again : tie.Need-loop-again Inv-loop μ-loop
 loop-again c = let n = one-less (c .before .before .before .loop .left) (c .before .before .before .before .before .args .arity) (c .before .before .loop-test .taken) in
     let d = different-new (c .before .before .before .before .before .args .book .now) (c .before .before .before .before .before .args .arity) (c .before .before .before .loop .next) (c .before .before .before .loop .left) (c .before .before .loop-test .taken) _ (c .before .is-repeated .ensures) (not-true _ (c .if1 .taken)) in
     (omega arith, omega arith, omega arith)
 
--- src/different.rt:55:5
 loop-less-2 : tie.Need-loop-less-2 Inv-loop μ-loop
 loop-less-2 c = search needs
 
--- src/different.rt:55:5
 loop-again-2 : tie.Need-loop-again-2 Inv-loop μ-loop
 loop-again-2 c = let n = one-less (c .before .before .before .loop .left) (c .before .before .before .before .before .args .arity) (c .before .before .loop-test .taken) in
     let d = different-old (c .before .before .before .before .before .args .book .now) (c .before .before .before .before .before .args .arity) (c .before .before .before .loop .next) (c .before .before .before .loop .left) (c .before .before .loop-test .taken) _ (c .before .is-repeated .ensures) (not-false _ (c .if1 .left)) in
     (omega arith, omega arith, omega arith)
 
--- src/different.rt:48:1
 returns : tie.Need-returns Inv-loop μ-loop
 returns c = let d = different-end (c .before .before .before .args .book .now) (c .before .before .before .args .arity) (c .before .loop .next) (c .before .loop .left) (c .loop-test .left) in (omega arith, omega arith)
 
