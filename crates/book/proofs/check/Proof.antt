@@ -22,26 +22,40 @@ enum-told : tie.Need-enum-told
 enum-told c = search needs
 
 sub-pair : tie.Need-sub-pair
-sub-pair c = omega (arith, trailer-long (c .before .before .before .before .args .book .now) (sym (ap verdictOf (c .enum-told .given .1)) ∙ c .before .before .trailer .ensures))
+sub-pair c =
+    let l = c .before .before .before .before in
+    omega (arith, trailer-long (l .args .book .now) (sym (ap verdictOf (c .enum-told .given .1)) ∙ c .before .before .trailer .ensures))
 
 pair-requires : tie.Need-pair-requires
-pair-requires c κs = omega (arith, trailer-long (c .before .before .before .before .args .book .now) (sym (ap verdictOf (c .enum-told .given .1)) ∙ c .before .before .trailer .ensures))
+pair-requires c κs =
+    let l = c .before .before .before .before in
+    omega (arith, trailer-long (l .args .book .now) (sym (ap verdictOf (c .enum-told .given .1)) ∙ c .before .before .trailer .ensures))
 
 sub-byte : tie.Need-sub-byte
-sub-byte c = omega (arith, trailer-long (c .before .before .before .before .before .args .book .now) (sym (ap verdictOf (c .before .enum-told .given .1)) ∙ c .before .before .before .trailer .ensures))
+sub-byte c =
+    let l = c .before .before .before in
+    omega (arith, trailer-long (l .before .before .args .book .now) (sym (ap verdictOf (c .before .enum-told .given .1)) ∙ l .trailer .ensures))
 
 byte-requires : tie.Need-byte-requires
-byte-requires c κs = omega (arith, trailer-long (c .before .before .before .before .before .args .book .now) (sym (ap verdictOf (c .before .enum-told .given .1)) ∙ c .before .before .before .trailer .ensures))
+byte-requires c κs =
+    let l = c .before .before .before in
+    omega (arith, trailer-long (l .before .before .args .book .now) (sym (ap verdictOf (c .before .enum-told .given .1)) ∙ l .trailer .ensures))
 
 sub-byte-2 : tie.Need-sub-byte-2
-sub-byte-2 c = omega (arith, trailer-long (c .before .before .before .before .before .before .args .book .now) (sym (ap verdictOf (c .before .before .enum-told .given .1)) ∙ c .before .before .before .before .trailer .ensures))
+sub-byte-2 c =
+    let l = c .before .before .before .before in
+    omega (arith, trailer-long (l .before .before .args .book .now) (sym (ap verdictOf (c .before .before .enum-told .given .1)) ∙ l .trailer .ensures))
 
 byte-requires-2 : tie.Need-byte-requires-2
-byte-requires-2 c κs = omega (arith, trailer-long (c .before .before .before .before .before .before .args .book .now) (sym (ap verdictOf (c .before .before .enum-told .given .1)) ∙ c .before .before .before .before .trailer .ensures))
+byte-requires-2 c κs =
+    let l = c .before .before .before .before in
+    omega (arith, trailer-long (l .before .before .args .book .now) (sym (ap verdictOf (c .before .before .enum-told .given .1)) ∙ l .trailer .ensures))
 
 field-list-requires : tie.Need-field-list-requires
-field-list-requires c κs = let p = sym (ap verdictOf (c .before .before .before .enum-told .given .1)) ∙ c .before .before .before .before .before .trailer .ensures in
-    body-fits (c .before .before .before .before .before .before .before .args .book .now) p _ _ (c .before .before .pair .ensures .0) (c .before .byte .ensures .0) .within
+field-list-requires c κs =
+    let l = c .before .before .before .before .before in
+    let p = sym (ap verdictOf (c .before .before .before .enum-told .given .1)) ∙ l .trailer .ensures in
+    body-fits (l .before .before .args .book .now) p _ _ (c .before .before .pair .ensures .0) (c .before .byte .ensures .0) .within
 
 enum-known-counts : tie.Need-enum-known-counts
 enum-known-counts c = search needs

@@ -17,15 +17,19 @@ enum-known-checked-2 : tie.Need-enum-known-checked-2
 enum-known-checked-2 c = search needs
 
 different-total-requires : tie.Need-different-total-requires
-different-total-requires c κs = read-fits (c .before .before .before .before .before .args .book .now) _ _ _ _ (sym (ap shownCheck (c .before .checked2 .given .1)) ∙ c .before .before .before .check .ensures)
+different-total-requires c κs =
+    let l = c .before .before .before in
+    read-fits (l .before .before .args .book .now) _ _ _ _ (sym (ap shownCheck (c .before .checked2 .given .1)) ∙ l .check .ensures)
 
 returns : tie.Need-returns
 returns c = let e = sym (ap shownCheck (c .before .checked .given .1)) ∙ c .before .before .before .check .ensures in
     read-bad (c .before .before .before .before .before .args .book .now) _ _ (number-some (c .before .checked .given .0 .0)) e
 
 returns-2 : tie.Need-returns-2
-returns-2 c = let e = sym (ap shownCheck (c .before .before .checked2 .given .1)) ∙ c .before .before .before .before .check .ensures in
-    read-good (c .before .before .before .before .before .before .args .book .now) _ _ _ _ e _ (c .different-total .ensures)
+returns-2 c =
+    let l = c .before .before .before .before in
+    let e = sym (ap shownCheck (c .before .before .checked2 .given .1)) ∙ l .check .ensures in
+    read-good (l .before .before .args .book .now) _ _ _ _ e _ (c .different-total .ensures)
 
 pub read-spec : {M : Type 1} → statement M
 read-spec =

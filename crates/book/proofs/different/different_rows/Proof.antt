@@ -27,7 +27,9 @@ sub-left : tie.Need-sub-left Inv-loop μ-loop
 sub-left c = search needs
 
 is-repeated-requires : tie.Need-is-repeated-requires Inv-loop μ-loop
-is-repeated-requires c κs = let n = one-less (c .before .loop .left) (c .before .before .before .args .arity) (c .loop-test .taken) in (omega arith, omega arith)
+is-repeated-requires c κs =
+    let l = c .before .before .before in
+    let n = one-less (c .before .loop .left) (l .args .arity) (c .loop-test .taken) in (omega arith, omega arith)
 
 add-found : tie.Need-add-found Inv-loop μ-loop
 add-found c = search needs
@@ -36,20 +38,26 @@ loop-less : tie.Need-loop-less Inv-loop μ-loop
 loop-less c = search needs
 
 loop-again : tie.Need-loop-again Inv-loop μ-loop
-loop-again c = let n = one-less (c .before .before .before .loop .left) (c .before .before .before .before .before .args .arity) (c .before .before .loop-test .taken) in
-    let d = different-new (c .before .before .before .before .before .args .book .now) (c .before .before .before .before .before .args .arity) (c .before .before .before .loop .next) (c .before .before .before .loop .left) (c .before .before .loop-test .taken) _ (c .before .is-repeated .ensures) (not-true _ (c .if1 .taken)) in
+loop-again c =
+    let l = c .before .before .before in
+    let n = one-less (l .loop .left) (l .before .before .args .arity) (c .before .before .loop-test .taken) in
+    let d = different-new (l .before .before .args .book .now) (l .before .before .args .arity) (l .loop .next) (l .loop .left) (c .before .before .loop-test .taken) _ (c .before .is-repeated .ensures) (not-true _ (c .if1 .taken)) in
     (omega arith, omega arith, omega arith)
 
 loop-less-2 : tie.Need-loop-less-2 Inv-loop μ-loop
 loop-less-2 c = search needs
 
 loop-again-2 : tie.Need-loop-again-2 Inv-loop μ-loop
-loop-again-2 c = let n = one-less (c .before .before .before .loop .left) (c .before .before .before .before .before .args .arity) (c .before .before .loop-test .taken) in
-    let d = different-old (c .before .before .before .before .before .args .book .now) (c .before .before .before .before .before .args .arity) (c .before .before .before .loop .next) (c .before .before .before .loop .left) (c .before .before .loop-test .taken) _ (c .before .is-repeated .ensures) (not-false _ (c .if1 .left)) in
+loop-again-2 c =
+    let l = c .before .before .before in
+    let n = one-less (l .loop .left) (l .before .before .args .arity) (c .before .before .loop-test .taken) in
+    let d = different-old (l .before .before .args .book .now) (l .before .before .args .arity) (l .loop .next) (l .loop .left) (c .before .before .loop-test .taken) _ (c .before .is-repeated .ensures) (not-false _ (c .if1 .left)) in
     (omega arith, omega arith, omega arith)
 
 returns : tie.Need-returns Inv-loop μ-loop
-returns c = let d = different-end (c .before .before .before .args .book .now) (c .before .before .before .args .arity) (c .before .loop .next) (c .before .loop .left) (c .loop-test .left) in (omega arith, omega arith)
+returns c =
+    let l = c .before .before .before in
+    let d = different-end (l .args .book .now) (l .args .arity) (c .before .loop .next) (c .before .loop .left) (c .loop-test .left) in (omega arith, omega arith)
 
 pub different-rows-spec : {M : Type 1} → statement M
 different-rows-spec =

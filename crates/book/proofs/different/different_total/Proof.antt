@@ -21,22 +21,34 @@ loop-holds : tie.Need-loop-holds Inv-loop μ-loop
 loop-holds c = (search needs, place-start (c .before .args .book .now), search needs, total-start (c .before .args .book .now) (c .before .args .tables))
 
 byte-requires : tie.Need-byte-requires Inv-loop μ-loop
-byte-requires c κs = omega (arith, c .before .before .before .pre .1, head-within (c .before .before .before .args .book .now) _ _ _ (c .loop-test .taken) (c .before .loop .inv .1))
+byte-requires c κs =
+    let l = c .before .before .before in
+    omega (arith, l .pre .1, head-within (l .args .book .now) _ _ _ (c .loop-test .taken) (c .before .loop .inv .1))
 
 add-pair : tie.Need-add-pair Inv-loop μ-loop
-add-pair c = omega (arith, c .before .before .before .before .pre .1, head-within (c .before .before .before .before .args .book .now) _ _ _ (c .before .loop-test .taken) (c .before .before .loop .inv .1))
+add-pair c =
+    let l = c .before .before .before .before in
+    omega (arith, l .pre .1, head-within (l .args .book .now) _ _ _ (c .before .loop-test .taken) (c .before .before .loop .inv .1))
 
 add-pair-2 : tie.Need-add-pair-2 Inv-loop μ-loop
-add-pair-2 c = omega (arith, c .before .before .before .before .pre .1, head-within (c .before .before .before .before .args .book .now) _ _ _ (c .before .loop-test .taken) (c .before .before .loop .inv .1))
+add-pair-2 c =
+    let l = c .before .before .before .before in
+    omega (arith, l .pre .1, head-within (l .args .book .now) _ _ _ (c .before .loop-test .taken) (c .before .before .loop .inv .1))
 
 pair-requires : tie.Need-pair-requires Inv-loop μ-loop
-pair-requires c κs = omega (arith, c .before .before .before .before .pre .1, head-within (c .before .before .before .before .args .book .now) _ _ _ (c .before .loop-test .taken) (c .before .before .loop .inv .1))
+pair-requires c κs =
+    let l = c .before .before .before .before in
+    omega (arith, l .pre .1, head-within (l .args .book .now) _ _ _ (c .before .loop-test .taken) (c .before .before .loop .inv .1))
 
 add-start : tie.Need-add-start Inv-loop μ-loop
-add-start c = omega (arith, c .before .before .before .before .before .pre .1, head-within (c .before .before .before .before .before .args .book .now) _ _ _ (c .before .before .loop-test .taken) (c .before .before .before .loop .inv .1))
+add-start c =
+    let l = c .before .before .before .before .before in
+    omega (arith, l .pre .1, head-within (l .args .book .now) _ _ _ (c .before .before .loop-test .taken) (c .before .before .before .loop .inv .1))
 
 add-start-2 : tie.Need-add-start-2 Inv-loop μ-loop
-add-start-2 c = omega (arith, c .before .before .before .before .before .pre .1, head-within (c .before .before .before .before .before .args .book .now) _ _ _ (c .before .before .loop-test .taken) (c .before .before .before .loop .inv .1))
+add-start-2 c =
+    let l = c .before .before .before .before .before in
+    omega (arith, l .pre .1, head-within (l .args .book .now) _ _ _ (c .before .before .loop-test .taken) (c .before .before .before .loop .inv .1))
 
 different-rows-requires : tie.Need-different-rows-requires Inv-loop μ-loop
 different-rows-requires c κs = let l = c .before .before .before in
@@ -67,7 +79,9 @@ loop-again c = let l = c .before .before .before .before in
     (search needs, at, omega arith, omega (arith, sum))
 
 returns : tie.Need-returns Inv-loop μ-loop
-returns c = omega (arith, total-end (c .before .before .before .args .book .now) (c .before .before .before .args .tables) (c .before .loop .i) (c .before .loop .at) (c .loop-test .left))
+returns c =
+    let l = c .before .before .before in
+    omega (arith, total-end (l .args .book .now) (l .args .tables) (c .before .loop .i) (c .before .loop .at) (c .loop-test .left))
 
 pub different-total-spec : {M : Type 1} → statement M
 different-total-spec =

@@ -20,14 +20,20 @@ loop-holds : tie.Need-loop-holds Inv-loop μ-loop
 loop-holds c = (c .before .pre .1, refl)
 
 same-row-requires : tie.Need-same-row-requires Inv-loop μ-loop
-same-row-requires c κs = (c .before .before .before .pre .0, omega (arith, one-less (c .before .loop .left) (c .before .before .before .args .arity) (c .loop-test .taken)))
+same-row-requires c κs =
+    let l = c .before .before .before in
+    (l .pre .0, omega (arith, one-less (c .before .loop .left) (l .args .arity) (c .loop-test .taken)))
 
 returns : tie.Need-returns Inv-loop μ-loop
-returns c = let a = (c .before .before .before .before .before .args) in
-    repeat-yes (a .book .now) _ (a .arity) (c .before .before .before .loop .y) _ (c .before .before .loop-test .taken) _ (c .before .same-row .ensures) (c .if1 .taken) ∙ c .before .before .before .loop .inv .1
+returns c =
+    let l = c .before .before .before in
+    let a = (l .before .before .args) in
+    repeat-yes (a .book .now) _ (a .arity) (l .loop .y) _ (c .before .before .loop-test .taken) _ (c .before .same-row .ensures) (c .if1 .taken) ∙ l .loop .inv .1
 
 add-y : tie.Need-add-y Inv-loop μ-loop
-add-y c = omega (arith, one-less (c .before .before .before .loop .left) (c .before .before .before .before .before .args .arity) (c .before .before .loop-test .taken))
+add-y c =
+    let l = c .before .before .before in
+    omega (arith, one-less (l .loop .left) (l .before .before .args .arity) (c .before .before .loop-test .taken))
 
 sub-left : tie.Need-sub-left Inv-loop μ-loop
 sub-left c = search needs
@@ -36,14 +42,18 @@ loop-less : tie.Need-loop-less Inv-loop μ-loop
 loop-less c = search needs
 
 loop-again : tie.Need-loop-again Inv-loop μ-loop
-loop-again c = let a = (c .before .before .before .before .before .args) in
-    let n = one-less (c .before .before .before .loop .left) (a .arity) (c .before .before .loop-test .taken) in (
+loop-again c =
+    let l = c .before .before .before in
+    let a = (l .before .before .args) in
+    let n = one-less (l .loop .left) (a .arity) (c .before .before .loop-test .taken) in (
       omega arith,
-      repeat-on (a .book .now) _ (a .arity) (c .before .before .before .loop .y) _ (c .before .before .loop-test .taken) _ (c .before .same-row .ensures) (c .if1 .left) ∙ c .before .before .before .loop .inv .1,
+      repeat-on (a .book .now) _ (a .arity) (l .loop .y) _ (c .before .before .loop-test .taken) _ (c .before .same-row .ensures) (c .if1 .left) ∙ l .loop .inv .1,
     )
 
 returns-2 : tie.Need-returns-2 Inv-loop μ-loop
-returns-2 c = repeat-end (c .before .before .before .args .book .now) _ (c .before .before .before .args .arity) (c .before .loop .y) _ (c .loop-test .left) ∙ c .before .loop .inv .1
+returns-2 c =
+    let l = c .before .before .before in
+    repeat-end (l .args .book .now) _ (l .args .arity) (c .before .loop .y) _ (c .loop-test .left) ∙ c .before .loop .inv .1
 
 pub is-repeated-spec : {M : Type 1} → statement M
 is-repeated-spec =

@@ -31,14 +31,18 @@ add-if1 : tie.Need-add-if1 Inv-loop μ-loop
 add-if1 c = omega (arith, c .before .before .before .before .pre .known (c .before .before .loop .column) (c .before .before .loop .inv .2))
 
 shared-slice-read-if1 : tie.Need-shared-slice-read-if1 Inv-loop μ-loop
-shared-slice-read-if1 c = omega (arith, c .before .before .before .before .before .pre .known (c .before .before .before .loop .column) (c .before .before .before .loop .inv .2))
+shared-slice-read-if1 c =
+    let l = c .before .before .before in
+    omega (arith, l .before .before .pre .known (l .loop .column) (l .loop .inv .2))
 
 shared-slice-read-if1-2 : tie.Need-shared-slice-read-if1-2 Inv-loop μ-loop
 shared-slice-read-if1-2 c = search needs
 
 returns : tie.Need-returns Inv-loop μ-loop
-returns c = let large = code-large (c .before .before .before .before .before .before .before .args .book .now) _ _ _ _ _ _ _ (c .before .before .before .before .before .loop .inv .3) (c .before .before .before .byte .ensures .0) (c .if1 .taken) in
-    bad-here _ _ _ (c .before .before .before .before .loop-test .taken) large ∙ c .before .before .before .before .before .loop .inv .4
+returns c =
+    let l = c .before .before .before .before in
+    let large = code-large (l .before .before .before .args .book .now) _ _ _ _ _ _ _ (l .before .loop .inv .3) (c .before .before .before .byte .ensures .0) (c .if1 .taken) in
+    bad-here _ _ _ (l .loop-test .taken) large ∙ l .before .loop .inv .4
 
 add-i : tie.Need-add-i Inv-loop μ-loop
 add-i c = search needs

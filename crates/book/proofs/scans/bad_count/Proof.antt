@@ -22,13 +22,17 @@ shared-slice-read-if1 : tie.Need-shared-slice-read-if1 Inv-loop μ-loop
 shared-slice-read-if1 c = search needs
 
 returns : tie.Need-returns Inv-loop μ-loop
-returns c = bad-here _ _ _ (c .before .before .loop-test .taken) (count-none (c .before .before .before .before .args .book .now) _ (c .if1 .taken)) ∙ c .before .before .before .loop .inv .1
+returns c =
+    let l = c .before .before .before in
+    bad-here _ _ _ (c .before .before .loop-test .taken) (count-none (l .before .args .book .now) _ (c .if1 .taken)) ∙ l .loop .inv .1
 
 shared-slice-read-if2 : tie.Need-shared-slice-read-if2 Inv-loop μ-loop
 shared-slice-read-if2 c = search needs
 
 returns-2 : tie.Need-returns-2 Inv-loop μ-loop
-returns-2 c = bad-here _ _ _ (c .before .before .before .before .loop-test .taken) (count-many (c .before .before .before .before .before .before .args .book .now) _ (c .before .before .if1 .left) (c .if2 .taken)) ∙ c .before .before .before .before .before .loop .inv .1
+returns-2 c =
+    let l = c .before .before .before .before in
+    bad-here _ _ _ (l .loop-test .taken) (count-many (l .before .before .args .book .now) _ (c .before .before .if1 .left) (c .if2 .taken)) ∙ l .before .loop .inv .1
 
 add-i : tie.Need-add-i Inv-loop μ-loop
 add-i c = search needs
@@ -37,7 +41,9 @@ loop-less : tie.Need-loop-less Inv-loop μ-loop
 loop-less c = search needs
 
 loop-again : tie.Need-loop-again Inv-loop μ-loop
-loop-again c = (search needs, bad-on _ _ _ (c .before .before .before .before .loop-test .taken) (count-good (c .before .before .before .before .before .before .args .book .now) _ (c .before .before .if1 .left) (c .if2 .left)) ∙ c .before .before .before .before .before .loop .inv .1)
+loop-again c =
+    let l = c .before .before .before .before in
+    (search needs, bad-on _ _ _ (l .loop-test .taken) (count-good (l .before .before .args .book .now) _ (c .before .before .if1 .left) (c .if2 .left)) ∙ l .before .loop .inv .1)
 
 returns-3 : tie.Need-returns-3 Inv-loop μ-loop
 returns-3 c = bad-none _ _ _ (c .loop-test .left) ∙ c .before .loop .inv .1

@@ -24,12 +24,16 @@ byte-requires : tie.Need-byte-requires Inv-loop μ-loop
 byte-requires c κs = search needs
 
 returns : tie.Need-returns Inv-loop μ-loop
-returns c = let large = field-large (c .before .before .before .before .before .args .book .now) _ (c .before .before .before .before .before .args .first) _ _ (c .before .byte .ensures .0) (c .if1 .taken) in
+returns c =
+    let l = c .before .before .before .before .before in
+    let large = field-large (l .args .book .now) _ (l .args .first) _ _ (c .before .byte .ensures .0) (c .if1 .taken) in
     bad-here _ _ _ (c .before .before .loop-test .taken) large ∙ c .before .before .before .loop .inv .3
 
 returns-2 : tie.Need-returns-2 Inv-loop μ-loop
-returns-2 c = let low = field-low (c .before .before .before .before .before .before .args .book .now) _ (c .before .before .before .before .before .before .args .first) _ _ (c .before .before .byte .ensures .0) (c .before .if1 .left) _ (c .before .before .before .before .loop .inv .2) (c .if2 .taken) in
-    bad-here _ _ _ (c .before .before .before .loop-test .taken) low ∙ c .before .before .before .before .loop .inv .3
+returns-2 c =
+    let l = c .before .before .before .before in
+    let low = field-low (l .before .before .args .book .now) _ (l .before .before .args .first) _ _ (c .before .before .byte .ensures .0) (c .before .if1 .left) _ (l .loop .inv .2) (c .if2 .taken) in
+    bad-here _ _ _ (c .before .before .before .loop-test .taken) low ∙ l .loop .inv .3
 
 add-least : tie.Need-add-least Inv-loop μ-loop
 add-least c = search needs
@@ -41,9 +45,11 @@ loop-less : tie.Need-loop-less Inv-loop μ-loop
 loop-less c = search needs
 
 loop-again : tie.Need-loop-again Inv-loop μ-loop
-loop-again c = let least = least-next (c .before .before .before .before .before .before .args .book .now) _ _ _ (c .before .before .before .before .loop .inv .0) (c .before .before .byte .ensures .0) in
-    let good = field-good (c .before .before .before .before .before .before .args .book .now) _ (c .before .before .before .before .before .before .args .first) _ _ (c .before .before .byte .ensures .0) (c .before .if1 .left) _ (c .before .before .before .before .loop .inv .2) (c .if2 .left) in
-    (search needs, search needs, least, bad-on _ _ _ (c .before .before .before .loop-test .taken) good ∙ c .before .before .before .before .loop .inv .3)
+loop-again c =
+    let l = c .before .before .before .before in
+    let least = least-next (l .before .before .args .book .now) _ _ _ (l .loop .inv .0) (c .before .before .byte .ensures .0) in
+    let good = field-good (l .before .before .args .book .now) _ (l .before .before .args .first) _ _ (c .before .before .byte .ensures .0) (c .before .if1 .left) _ (l .loop .inv .2) (c .if2 .left) in
+    (search needs, search needs, least, bad-on _ _ _ (c .before .before .before .loop-test .taken) good ∙ l .loop .inv .3)
 
 returns-3 : tie.Need-returns-3 Inv-loop μ-loop
 returns-3 c = bad-none _ _ _ (c .loop-test .left) ∙ c .before .loop .inv .3

@@ -15,10 +15,14 @@ byte-requires : tie.Need-byte-requires
 byte-requires c κs = search needs
 
 returns-2 : tie.Need-returns-2
-returns-2 c = table-9-none (c .before .before .before .before .args .book .now) _ _ _ _ (c .before .before .if1 .left) _ (c .before .byte .ensures .0) (c .if2 .taken)
+returns-2 c =
+    let l = c .before .before .before .before in
+    table-9-none (l .args .book .now) _ _ _ _ (c .before .before .if1 .left) _ (c .before .byte .ensures .0) (c .if2 .taken)
 
 returns-3 : tie.Need-returns-3
-returns-3 c = table-9-many (c .before .before .before .before .before .args .book .now) _ _ _ _ (c .before .before .before .if1 .left) _ (c .before .before .byte .ensures .0) (c .before .if2 .left) (c .if3 .taken)
+returns-3 c =
+    let l = c .before .before .before in
+    table-9-many (l .before .before .args .book .now) _ _ _ _ (l .if1 .left) _ (c .before .before .byte .ensures .0) (c .before .if2 .left) (c .if3 .taken)
 
 add-if4 : tie.Need-add-if4
 add-if4 c = search needs
@@ -27,7 +31,9 @@ add-if4-2 : tie.Need-add-if4-2
 add-if4-2 c = search needs
 
 returns-4 : tie.Need-returns-4
-returns-4 c = table-8-head (c .before .before .before .before .before .before .args .book .now) _ _ _ _ (c .before .before .before .before .if1 .left) _ (c .before .before .before .byte .ensures .0) (c .before .before .if2 .left) (c .before .if3 .left) (c .if4 .taken)
+returns-4 c =
+    let l = c .before .before .before in
+    table-8-head (l .before .before .before .args .book .now) _ _ _ _ (l .before .if1 .left) _ (l .byte .ensures .0) (c .before .before .if2 .left) (c .before .if3 .left) (c .if4 .taken)
 
 add-end : tie.Need-add-end
 add-end c = search needs
@@ -47,16 +53,18 @@ returns-5 c = let f = c .before .before in
     (f .if4 .left) _ (c .before .bad-field .ensures) (c .if5 .taken)
 
 table-rows-requires : tie.Need-table-rows-requires
-table-rows-requires c κs = let a = (c .before .before .before .before .before .before .before .before .args) in
+table-rows-requires c κs =
+    let l = c .before .before .before .before .before .before .before .before in
+    let a = (l .args) in
     let known = fields-known (a .book .now) (a .fields) (a .at + 1) (c .before .before .before .before .before .byte .result) (omega arith) in
     record {
-      short = c .before .before .before .before .before .before .before .before .pre .0 .short;
+      short = l .pre .0 .short;
       within = omega arith;
       head = omega arith;
       some = omega arith;
       few = omega arith;
       known = λ j h. omega (arith, known j (omega arith));
-      before = c .before .before .before .before .before .before .before .before .pre .1;
+      before = l .pre .1;
     }
 
 returns-6 : tie.Need-returns-6

@@ -34,13 +34,17 @@ add-end c = let few : c .before .byte .result ≤ 4 = omega (arith, c .before .b
     omega (arith, mul-le-mul (le-of-lt (c .pair .ensures .1)) few)
 
 returns : tie.Need-returns
-returns c = rows-8-short (c .before .before .before .before .args .book .now) _ _ _ _ _ (c .before .before .byte .ensures .0) (c .before .pair .ensures .0) (c .if1 .taken)
+returns c =
+    let l = c .before .before .before .before in
+    rows-8-short (l .args .book .now) _ _ _ _ _ (c .before .before .byte .ensures .0) (c .before .pair .ensures .0) (c .if1 .taken)
 
 add-total : tie.Need-add-total
 add-total c = search needs
 
 returns-2 : tie.Need-returns-2
-returns-2 c = rows-12-many (c .before .before .before .before .before .args .book .now) _ _ _ _ _ (c .before .before .before .byte .ensures .0) (c .before .before .pair .ensures .0) (c .before .if1 .left) (c .if2 .taken)
+returns-2 c =
+    let l = c .before .before .before in
+    rows-12-many (l .before .before .args .book .now) _ _ _ _ _ (l .byte .ensures .0) (c .before .before .pair .ensures .0) (c .before .if1 .left) (c .if2 .taken)
 
 add-bad-code : tie.Need-add-bad-code
 add-bad-code c = search needs
@@ -55,11 +59,15 @@ bad-code-requires c κs = record {
 }
 
 returns-3 : tie.Need-returns-3
-returns-3 c = rows-11-code (c .before .before .before .before .before .before .before .args .book .now) _ _ _ _ _ (c .before .before .before .before .before .byte .ensures .0) (c .before .before .before .before .pair .ensures .0) (c .before .before .before .if1 .left) (c .before .before .if2 .left) _
+returns-3 c =
+    let l = c .before .before .before in
+    rows-11-code (l .before .before .before .before .args .book .now) _ _ _ _ _ (l .before .before .byte .ensures .0) (l .before .pair .ensures .0) (l .if1 .left) (c .before .before .if2 .left) _
     (c .before .bad-code .ensures) (c .if3 .taken)
 
 returns-4 : tie.Need-returns-4
-returns-4 c = rows-next (c .before .before .before .before .before .before .before .args .book .now) _ _ _ _ _ (c .before .before .before .before .before .byte .ensures .0) (c .before .before .before .before .pair .ensures .0) (c .before .before .before .if1 .left) (c .before .before .if2 .left) _
+returns-4 c =
+    let l = c .before .before .before in
+    rows-next (l .before .before .before .before .args .book .now) _ _ _ _ _ (l .before .before .byte .ensures .0) (l .before .pair .ensures .0) (l .if1 .left) (c .before .before .if2 .left) _
     (c .before .bad-code .ensures) (c .if3 .left)
 
 pub table-rows-spec : {M : Type 1} → statement M

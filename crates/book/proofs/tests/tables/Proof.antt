@@ -26,8 +26,10 @@ enum-known-step : tie.Need-enum-known-step Inv-loop μ-loop
 enum-known-step c = search needs
 
 returns : tie.Need-returns Inv-loop μ-loop
-returns c = let stopped = sym (ap stepOf (c .before .step .given .1)) ∙ c .before .before .before .table .ensures in
-    tables-stop (c .before .before .before .before .before .before .before .args .book .now) _ _ _ _ _ (c .before .before .before .before .loop-test .taken) _ _ stopped ∙ c .before .before .before .before .before .loop .inv .1
+returns c =
+    let l = c .before .before .before in
+    let stopped = sym (ap stepOf (c .before .step .given .1)) ∙ l .table .ensures in
+    tables-stop (l .before .before .before .before .args .book .now) _ _ _ _ _ (l .before .loop-test .taken) _ _ stopped ∙ l .before .before .loop .inv .1
 
 enum-known-step-2 : tie.Need-enum-known-step-2 Inv-loop μ-loop
 enum-known-step-2 c = search needs
