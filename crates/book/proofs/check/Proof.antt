@@ -44,12 +44,20 @@ byte-requires c κs =
 sub-byte-2 : tie.Need-sub-byte-2
 sub-byte-2 c =
     let l = c .before .before .before .before in
-    omega (arith, trailer-long (l .before .before .args .book .now) (sym (ap verdictOf (c .before .before .enum-told .given .1)) ∙ l .trailer .ensures))
+    omega (
+      arith,
+      trailer-long (l .before .before .args .book .now)
+          (sym (ap verdictOf (c .before .before .enum-told .given .1)) ∙ l .trailer .ensures),
+    )
 
 byte-requires-2 : tie.Need-byte-requires-2
 byte-requires-2 c κs =
     let l = c .before .before .before .before in
-    omega (arith, trailer-long (l .before .before .args .book .now) (sym (ap verdictOf (c .before .before .enum-told .given .1)) ∙ l .trailer .ensures))
+    omega (
+      arith,
+      trailer-long (l .before .before .args .book .now)
+          (sym (ap verdictOf (c .before .before .enum-told .given .1)) ∙ l .trailer .ensures),
+    )
 
 field-list-requires : tie.Need-field-list-requires
 field-list-requires c κs =
@@ -63,7 +71,8 @@ enum-known-counts c = search needs
 returns-2 : tie.Need-returns-2
 returns-2 c = let n = c .before .before .before .before in
     let p = sym (ap verdictOf (n .before .before .before .enum-told .given .1)) ∙ n .before .before .before .before .before .trailer .ensures in
-    check-list (n .before .before .before .before .before .before .before .args .book .now) p _ _ _ (n .before .before .pair .ensures .0) (n .before .byte .ensures .0) (n .byte2 .ensures .0) _ _
+    check-list (n .before .before .before .before .before .before .before .args .book .now) p _ _ _ (n .before .before .pair .ensures .0)
+    (n .before .byte .ensures .0) (n .byte2 .ensures .0) _ _
     (sym (ap verdictOf (c .before .counts .given .1)) ∙ c .before .before .before .field-list .ensures)
 
 enum-told-2 : tie.Need-enum-told-2
@@ -72,7 +81,8 @@ enum-told-2 c = search needs
 tables-requires : tie.Need-tables-requires
 tables-requires c κs = let n = c .before .before .before in
     let p = sym (ap verdictOf (n .before .before .before .enum-told .given .1)) ∙ n .before .before .before .before .before .trailer .ensures in
-    body-fits (n .before .before .before .before .before .before .before .args .book .now) p _ _ (n .before .before .pair .ensures .0) (n .before .byte .ensures .0)
+    body-fits (n .before .before .before .before .before .before .before .args .book .now) p _ _ (n .before .before .pair .ensures .0)
+    (n .before .byte .ensures .0)
 
 enum-known-step : tie.Need-enum-known-step
 enum-known-step c = search needs
@@ -83,22 +93,28 @@ enum-known-step-2 c = search needs
 returns-3 : tie.Need-returns-3
 returns-3 c = let n = c .before .before .before .before .before .before .before .before in
     let p = sym (ap verdictOf (n .before .before .before .enum-told .given .1)) ∙ n .before .before .before .before .before .trailer .ensures in
-    let l = sym (ap verdictOf (c .before .before .before .before .before .enum-told2 .given .1)) ∙ c .before .before .before .before .before .before .before .field-list .ensures in
-    check-left (n .before .before .before .before .before .before .before .args .book .now) p _ _ _ (n .before .before .pair .ensures .0) (n .before .byte .ensures .0) (n .byte2 .ensures .0) l _ _
+    let l = sym (ap verdictOf (c .before .before .before .before .before .enum-told2 .given .1)) ∙
+    c .before .before .before .before .before .before .before .field-list .ensures in
+    check-left (n .before .before .before .before .before .before .before .args .book .now) p _ _ _ (n .before .before .pair .ensures .0)
+    (n .before .byte .ensures .0) (n .byte2 .ensures .0) l _ _
     (sym (ap stepOf (c .before .before .step2 .given .1)) ∙ c .before .before .before .before .tables .ensures) (c .if1 .taken)
 
 returns-4 : tie.Need-returns-4
 returns-4 c = let n = c .before .before .before .before .before .before .before in
     let p = sym (ap verdictOf (n .before .before .before .enum-told .given .1)) ∙ n .before .before .before .before .before .trailer .ensures in
-    let l = sym (ap verdictOf (c .before .before .before .before .enum-told2 .given .1)) ∙ c .before .before .before .before .before .before .field-list .ensures in
-    check-stop (n .before .before .before .before .before .before .before .args .book .now) p _ _ _ (n .before .before .pair .ensures .0) (n .before .byte .ensures .0) (n .byte2 .ensures .0) l _ _
+    let l = sym (ap verdictOf (c .before .before .before .before .enum-told2 .given .1)) ∙
+    c .before .before .before .before .before .before .field-list .ensures in
+    check-stop (n .before .before .before .before .before .before .before .args .book .now) p _ _ _ (n .before .before .pair .ensures .0)
+    (n .before .byte .ensures .0) (n .byte2 .ensures .0) l _ _
     (sym (ap stepOf (c .before .step .given .1)) ∙ c .before .before .before .tables .ensures)
 
 returns-5 : tie.Need-returns-5
 returns-5 c = let n = c .before .before .before .before .before .before .before .before in
     let p = sym (ap verdictOf (n .before .before .before .enum-told .given .1)) ∙ n .before .before .before .before .before .trailer .ensures in
-    let l = sym (ap verdictOf (c .before .before .before .before .before .enum-told2 .given .1)) ∙ c .before .before .before .before .before .before .before .field-list .ensures in
-    check-good (n .before .before .before .before .before .before .before .args .book .now) p _ _ _ (n .before .before .pair .ensures .0) (n .before .byte .ensures .0) (n .byte2 .ensures .0) l _ _
+    let l = sym (ap verdictOf (c .before .before .before .before .before .enum-told2 .given .1)) ∙
+    c .before .before .before .before .before .before .before .field-list .ensures in
+    check-good (n .before .before .before .before .before .before .before .args .book .now) p _ _ _ (n .before .before .pair .ensures .0)
+    (n .before .byte .ensures .0) (n .byte2 .ensures .0) l _ _
     (sym (ap stepOf (c .before .before .step2 .given .1)) ∙ c .before .before .before .before .tables .ensures) (c .if1 .left)
 
 pub check-spec : {M : Type 1} → statement M

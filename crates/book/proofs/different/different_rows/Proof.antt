@@ -12,7 +12,8 @@ use Rattle.book.proofs.different.different_rows.Statement.{statement}
 use Rattle.book.proofs.different.different_rows.Tie as tie
 
 abbrev Inv-loop : tie.InvT-loop
-Inv-loop book start arity count found₀ next₀ left₀ found next left = (next + left * arity ≤ length book) × (found + left ≤ count) × (found + different (rowsAt book arity next left) ≡ different (rowsAt book arity start count))
+Inv-loop book start arity count found₀ next₀ left₀ found next left = (next + left * arity ≤ length book) × (found + left ≤ count) ×
+    (found + different (rowsAt book arity next left) ≡ different (rowsAt book arity start count))
 
 abbrev μ-loop : tie.MeasureT-loop
 μ-loop book start arity count found₀ next₀ left₀ found next left = left
@@ -41,7 +42,8 @@ loop-again : tie.Need-loop-again Inv-loop μ-loop
 loop-again c =
     let l = c .before .before .before in
     let n = one-less (l .loop .left) (l .before .before .args .arity) (c .before .before .loop-test .taken) in
-    let d = different-new (l .before .before .args .book .now) (l .before .before .args .arity) (l .loop .next) (l .loop .left) (c .before .before .loop-test .taken) _ (c .before .is-repeated .ensures) (not-true _ (c .if1 .taken)) in
+    let d = different-new (l .before .before .args .book .now) (l .before .before .args .arity) (l .loop .next) (l .loop .left)
+    (c .before .before .loop-test .taken) _ (c .before .is-repeated .ensures) (not-true _ (c .if1 .taken)) in
     (omega arith, omega arith, omega arith)
 
 loop-less-2 : tie.Need-loop-less-2 Inv-loop μ-loop
@@ -51,13 +53,15 @@ loop-again-2 : tie.Need-loop-again-2 Inv-loop μ-loop
 loop-again-2 c =
     let l = c .before .before .before in
     let n = one-less (l .loop .left) (l .before .before .args .arity) (c .before .before .loop-test .taken) in
-    let d = different-old (l .before .before .args .book .now) (l .before .before .args .arity) (l .loop .next) (l .loop .left) (c .before .before .loop-test .taken) _ (c .before .is-repeated .ensures) (not-false _ (c .if1 .left)) in
+    let d = different-old (l .before .before .args .book .now) (l .before .before .args .arity) (l .loop .next) (l .loop .left)
+    (c .before .before .loop-test .taken) _ (c .before .is-repeated .ensures) (not-false _ (c .if1 .left)) in
     (omega arith, omega arith, omega arith)
 
 returns : tie.Need-returns Inv-loop μ-loop
 returns c =
     let l = c .before .before .before in
-    let d = different-end (l .args .book .now) (l .args .arity) (c .before .loop .next) (c .before .loop .left) (c .loop-test .left) in (omega arith, omega arith)
+    let d = different-end (l .args .book .now) (l .args .arity) (c .before .loop .next) (c .before .loop .left) (c .loop-test .left) in
+    (omega arith, omega arith)
 
 pub different-rows-spec : {M : Type 1} → statement M
 different-rows-spec =

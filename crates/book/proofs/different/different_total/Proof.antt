@@ -18,7 +18,13 @@ abbrev μ-loop : tie.MeasureT-loop
 μ-loop book tables at₀ total₀ i₀ at total i = tables - i
 
 loop-holds : tie.Need-loop-holds Inv-loop μ-loop
-loop-holds c = (search needs, place-start (c .before .args .book .now), search needs, total-start (c .before .args .book .now) (c .before .args .tables))
+loop-holds c = (
+  search needs,
+  place-start (c .before .args .book .now),
+  search needs,
+  total-start (c .before .args .book .now)
+      (c .before .args .tables),
+)
 
 byte-requires : tie.Need-byte-requires Inv-loop μ-loop
 byte-requires c κs =
@@ -52,18 +58,35 @@ add-start-2 c =
 
 different-rows-requires : tie.Need-different-rows-requires Inv-loop μ-loop
 different-rows-requires c κs = let l = c .before .before .before in
-    omega (arith, c .before .before .before .before .before .pre .1, table-within (c .before .before .before .before .before .args .book .now) _ _ _ _ _ (c .before .before .loop-test .taken) (c .before .byte .ensures .0) (c .pair .ensures .0) (l .loop .inv .1))
+    omega (
+      arith,
+      c .before .before .before .before .before .pre .1,
+      table-within (c .before .before .before .before .before .args .book .now) _
+          _ _ _ _ (c .before .before .loop-test .taken) (c .before .byte .ensures .0) (c .pair .ensures .0) (l .loop .inv .1),
+    )
 
 add-total : tie.Need-add-total Inv-loop μ-loop
 add-total c = omega arith
 
 mul-at : tie.Need-mul-at Inv-loop μ-loop
 mul-at c = let l = c .before .before .before .before in
-    omega (arith, c .before .before .before .before .before .before .pre .1, table-within (c .before .before .before .before .before .before .args .book .now) _ _ _ _ _ (c .before .before .before .loop-test .taken) (c .before .before .byte .ensures .0) (c .before .pair .ensures .0) (l .loop .inv .1))
+    omega (
+      arith,
+      c .before .before .before .before .before .before .pre .1,
+      table-within
+          (c .before .before .before .before .before .before .args .book .now) _ _ _ _ _ (c .before .before .before .loop-test .taken)
+          (c .before .before .byte .ensures .0) (c .before .pair .ensures .0) (l .loop .inv .1),
+    )
 
 add-at : tie.Need-add-at Inv-loop μ-loop
 add-at c = let l = c .before .before .before .before in
-    omega (arith, c .before .before .before .before .before .before .pre .1, table-within (c .before .before .before .before .before .before .args .book .now) _ _ _ _ _ (c .before .before .before .loop-test .taken) (c .before .before .byte .ensures .0) (c .before .pair .ensures .0) (l .loop .inv .1))
+    omega (
+      arith,
+      c .before .before .before .before .before .before .pre .1,
+      table-within
+          (c .before .before .before .before .before .before .args .book .now) _ _ _ _ _ (c .before .before .before .loop-test .taken)
+          (c .before .before .byte .ensures .0) (c .before .pair .ensures .0) (l .loop .inv .1),
+    )
 
 add-i : tie.Need-add-i Inv-loop μ-loop
 add-i c = search needs
@@ -74,8 +97,10 @@ loop-less c = search needs
 loop-again : tie.Need-loop-again Inv-loop μ-loop
 loop-again c = let l = c .before .before .before .before in
     let s = c .before .before .before .before .before .before .args .book .now in
-    let at = place-next s _ _ _ _ _ (c .before .before .before .loop-test .taken) (c .before .before .byte .ensures .0) (c .before .pair .ensures .0) (l .loop .inv .1) in
-    let sum = total-on s _ _ _ _ _ (c .before .before .before .loop-test .taken) (c .before .before .byte .ensures .0) (c .before .pair .ensures .0) in
+    let at = place-next s _ _ _ _ _ (c .before .before .before .loop-test .taken) (c .before .before .byte .ensures .0)
+    (c .before .pair .ensures .0) (l .loop .inv .1) in
+    let sum = total-on s _ _ _ _ _ (c .before .before .before .loop-test .taken) (c .before .before .byte .ensures .0)
+    (c .before .pair .ensures .0) in
     (search needs, at, omega arith, omega (arith, sum))
 
 returns : tie.Need-returns Inv-loop μ-loop

@@ -28,7 +28,8 @@ returns : tie.Need-returns Inv-loop μ-loop
 returns c =
     let l = c .before .before .before in
     let a = (l .before .before .args) in
-    repeat-yes (a .book .now) _ (a .arity) (l .loop .y) _ (c .before .before .loop-test .taken) _ (c .before .same-row .ensures) (c .if1 .taken) ∙ l .loop .inv .1
+    repeat-yes (a .book .now) _ (a .arity) (l .loop .y) _ (c .before .before .loop-test .taken) _ (c .before .same-row .ensures) (c .if1 .taken)
+    ∙ l .loop .inv .1
 
 add-y : tie.Need-add-y Inv-loop μ-loop
 add-y c =
@@ -47,7 +48,8 @@ loop-again c =
     let a = (l .before .before .args) in
     let n = one-less (l .loop .left) (a .arity) (c .before .before .loop-test .taken) in (
       omega arith,
-      repeat-on (a .book .now) _ (a .arity) (l .loop .y) _ (c .before .before .loop-test .taken) _ (c .before .same-row .ensures) (c .if1 .left) ∙ l .loop .inv .1,
+      repeat-on (a .book .now) _ (a .arity) (l .loop .y) _ (c .before .before .loop-test .taken) _ (c .before .same-row .ensures) (c .if1 .left)
+          ∙ l .loop .inv .1,
     )
 
 returns-2 : tie.Need-returns-2 Inv-loop μ-loop

@@ -27,7 +27,8 @@ shared-slice-read-if1-2 c = search needs
 
 returns : tie.Need-returns Inv-loop μ-loop
 returns c = let l = c .before .before .before .before .loop .inv in
-    same-no (c .before .before .before .before .before .args .book .now) _ _ _ (c .before .before .before .loop-test .taken) (l .0) (l .1) (c .if1 .taken) ∙ l .2
+    same-no (c .before .before .before .before .before .args .book .now) _ _ _ (c .before .before .before .loop-test .taken) (l .0) (l .1)
+    (c .if1 .taken) ∙ l .2
 
 add-x : tie.Need-add-x Inv-loop μ-loop
 add-x c = search needs
@@ -42,8 +43,12 @@ loop-less : tie.Need-loop-less Inv-loop μ-loop
 loop-less c = search needs
 
 loop-again : tie.Need-loop-again Inv-loop μ-loop
-loop-again c = let l = c .before .before .before .before .loop .inv in
-    (omega arith, omega arith, same-on (c .before .before .before .before .before .args .book .now) _ _ _ (c .before .before .before .loop-test .taken) (l .0) (l .1) (c .if1 .left) ∙ l .2)
+loop-again c = let l = c .before .before .before .before .loop .inv in (
+  omega arith,
+  omega arith,
+  same-on (c .before .before .before .before .before .args .book .now) _ _ _
+      (c .before .before .before .loop-test .taken) (l .0) (l .1) (c .if1 .left) ∙ l .2,
+)
 
 returns-2 : tie.Need-returns-2 Inv-loop μ-loop
 returns-2 c = same-end (c .before .before .args .book .now) (c .before .loop .x) (c .before .loop .y) _ (c .loop-test .left) ∙ c .before .loop .inv .2

@@ -41,7 +41,8 @@ shared-slice-read-if1-2 c = search needs
 returns : tie.Need-returns Inv-loop μ-loop
 returns c =
     let l = c .before .before .before .before in
-    let large = code-large (l .before .before .before .args .book .now) _ _ _ _ _ _ _ (l .before .loop .inv .3) (c .before .before .before .byte .ensures .0) (c .if1 .taken) in
+    let large = code-large (l .before .before .before .args .book .now) _ _ _ _ _ _ _ (l .before .loop .inv .3)
+    (c .before .before .before .byte .ensures .0) (c .if1 .taken) in
     bad-here _ _ _ (l .loop-test .taken) large ∙ l .before .loop .inv .4
 
 add-i : tie.Need-add-i Inv-loop μ-loop
@@ -55,16 +56,24 @@ loop-less c = search needs
 
 loop-again : tie.Need-loop-again Inv-loop μ-loop
 loop-again c = let l = c .before .before .before .before .before .before .loop .inv in
-    let good = code-good (c .before .before .before .before .before .before .before .before .args .book .now) _ _ _ _ _ _ _ (l .3) (c .before .before .before .before .byte .ensures .0) (c .before .if1 .left) in
-    let column = column-wrap _ _ _ _ (l .0) (l .3) (l .2) (c .if2 .taken) in
-    (search needs, search needs, c .before .before .before .before .before .before .before .before .pre .some, column, bad-on _ _ _ (c .before .before .before .before .before .loop-test .taken) good ∙ l .4)
+    let good = code-good (c .before .before .before .before .before .before .before .before .args .book .now) _ _ _ _ _ _ _ (l .3)
+    (c .before .before .before .before .byte .ensures .0) (c .before .if1 .left) in
+    let column = column-wrap _ _ _ _ (l .0) (l .3) (l .2) (c .if2 .taken) in (
+      search needs,
+      search needs,
+      c .before .before .before .before .before .before .before .before .pre .some,
+      column,
+      bad-on _ _ _
+          (c .before .before .before .before .before .loop-test .taken) good ∙ l .4,
+    )
 
 loop-less-2 : tie.Need-loop-less-2 Inv-loop μ-loop
 loop-less-2 c = search needs
 
 loop-again-2 : tie.Need-loop-again-2 Inv-loop μ-loop
 loop-again-2 c = let l = c .before .before .before .before .before .before .loop .inv in
-    let good = code-good (c .before .before .before .before .before .before .before .before .args .book .now) _ _ _ _ _ _ _ (l .3) (c .before .before .before .before .byte .ensures .0) (c .before .if1 .left) in
+    let good = code-good (c .before .before .before .before .before .before .before .before .args .book .now) _ _ _ _ _ _ _ (l .3)
+    (c .before .before .before .before .byte .ensures .0) (c .before .if1 .left) in
     let column = column-next _ _ _ _ (l .0) (l .3) (c .if2 .left) in
     (search needs, search needs, c .if2 .left, column, bad-on _ _ _ (c .before .before .before .before .before .loop-test .taken) good ∙ l .4)
 

@@ -32,7 +32,8 @@ shared-slice-read-if2 c = search needs
 returns-2 : tie.Need-returns-2 Inv-loop μ-loop
 returns-2 c =
     let l = c .before .before .before .before in
-    bad-here _ _ _ (l .loop-test .taken) (count-many (l .before .before .args .book .now) _ (c .before .before .if1 .left) (c .if2 .taken)) ∙ l .before .loop .inv .1
+    bad-here _ _ _ (l .loop-test .taken) (count-many (l .before .before .args .book .now) _ (c .before .before .if1 .left) (c .if2 .taken)) ∙
+    l .before .loop .inv .1
 
 add-i : tie.Need-add-i Inv-loop μ-loop
 add-i c = search needs
@@ -42,8 +43,11 @@ loop-less c = search needs
 
 loop-again : tie.Need-loop-again Inv-loop μ-loop
 loop-again c =
-    let l = c .before .before .before .before in
-    (search needs, bad-on _ _ _ (l .loop-test .taken) (count-good (l .before .before .args .book .now) _ (c .before .before .if1 .left) (c .if2 .left)) ∙ l .before .loop .inv .1)
+    let l = c .before .before .before .before in (
+      search needs,
+      bad-on _ _ _ (l .loop-test .taken)
+          (count-good (l .before .before .args .book .now) _ (c .before .before .if1 .left) (c .if2 .left)) ∙ l .before .loop .inv .1,
+    )
 
 returns-3 : tie.Need-returns-3 Inv-loop μ-loop
 returns-3 c = bad-none _ _ _ (c .loop-test .left) ∙ c .before .loop .inv .1

@@ -32,7 +32,8 @@ returns c =
 returns-2 : tie.Need-returns-2 Inv-loop μ-loop
 returns-2 c =
     let l = c .before .before .before .before in
-    let low = field-low (l .before .before .args .book .now) _ (l .before .before .args .first) _ _ (c .before .before .byte .ensures .0) (c .before .if1 .left) _ (l .loop .inv .2) (c .if2 .taken) in
+    let low = field-low (l .before .before .args .book .now) _ (l .before .before .args .first) _ _ (c .before .before .byte .ensures .0)
+    (c .before .if1 .left) _ (l .loop .inv .2) (c .if2 .taken) in
     bad-here _ _ _ (c .before .before .before .loop-test .taken) low ∙ l .loop .inv .3
 
 add-least : tie.Need-add-least Inv-loop μ-loop
@@ -48,7 +49,8 @@ loop-again : tie.Need-loop-again Inv-loop μ-loop
 loop-again c =
     let l = c .before .before .before .before in
     let least = least-next (l .before .before .args .book .now) _ _ _ (l .loop .inv .0) (c .before .before .byte .ensures .0) in
-    let good = field-good (l .before .before .args .book .now) _ (l .before .before .args .first) _ _ (c .before .before .byte .ensures .0) (c .before .if1 .left) _ (l .loop .inv .2) (c .if2 .left) in
+    let good = field-good (l .before .before .args .book .now) _ (l .before .before .args .first) _ _ (c .before .before .byte .ensures .0)
+    (c .before .if1 .left) _ (l .loop .inv .2) (c .if2 .left) in
     (search needs, search needs, least, bad-on _ _ _ (c .before .before .before .loop-test .taken) good ∙ l .loop .inv .3)
 
 returns-3 : tie.Need-returns-3 Inv-loop μ-loop

@@ -22,7 +22,8 @@ returns-2 c =
 returns-3 : tie.Need-returns-3
 returns-3 c =
     let l = c .before .before .before in
-    table-9-many (l .before .before .args .book .now) _ _ _ _ (l .if1 .left) _ (c .before .before .byte .ensures .0) (c .before .if2 .left) (c .if3 .taken)
+    table-9-many (l .before .before .args .book .now) _ _ _ _ (l .if1 .left) _ (c .before .before .byte .ensures .0) (c .before .if2 .left)
+    (c .if3 .taken)
 
 add-if4 : tie.Need-add-if4
 add-if4 c = search needs
@@ -33,7 +34,8 @@ add-if4-2 c = search needs
 returns-4 : tie.Need-returns-4
 returns-4 c =
     let l = c .before .before .before in
-    table-8-head (l .before .before .before .args .book .now) _ _ _ _ (l .before .if1 .left) _ (l .byte .ensures .0) (c .before .before .if2 .left) (c .before .if3 .left) (c .if4 .taken)
+    table-8-head (l .before .before .before .args .book .now) _ _ _ _ (l .before .if1 .left) _ (l .byte .ensures .0)
+    (c .before .before .if2 .left) (c .before .if3 .left) (c .if4 .taken)
 
 add-end : tie.Need-add-end
 add-end c = search needs
@@ -49,7 +51,9 @@ bad-field-requires c κs = search needs
 
 returns-5 : tie.Need-returns-5
 returns-5 c = let f = c .before .before in
-    table-10-field (c .before .before .before .before .before .before .before .before .args .book .now) _ _ _ _ (f .before .before .before .before .if1 .left) _ (f .before .before .before .byte .ensures .0) (f .before .before .if2 .left) (f .before .if3 .left)
+    table-10-field (c .before .before .before .before .before .before .before .before .args .book .now) _ _ _ _
+    (f .before .before .before .before .if1 .left) _ (f .before .before .before .byte .ensures .0) (f .before .before .if2 .left)
+    (f .before .if3 .left)
     (f .if4 .left) _ (c .before .bad-field .ensures) (c .if5 .taken)
 
 table-rows-requires : tie.Need-table-rows-requires
@@ -70,7 +74,9 @@ table-rows-requires c κs =
 returns-6 : tie.Need-returns-6
 returns-6 c = let f = c .before .before .before in
     c .table-rows .ensures
-    ∙ table-fields-pass (c .before .before .before .before .before .before .before .before .before .args .book .now) _ _ _ _ (f .before .before .before .before .if1 .left) _ (f .before .before .before .byte .ensures .0) (f .before .before .if2 .left) (f .before .if3 .left)
+    ∙ table-fields-pass (c .before .before .before .before .before .before .before .before .before .args .book .now) _ _ _ _
+    (f .before .before .before .before .if1 .left) _ (f .before .before .before .byte .ensures .0) (f .before .before .if2 .left)
+    (f .before .if3 .left)
     (f .if4 .left) _ (c .before .before .bad-field .ensures) (c .before .if5 .left)
 
 pub table-spec : {M : Type 1} → statement M

@@ -44,7 +44,8 @@ add-total c = search needs
 returns-2 : tie.Need-returns-2
 returns-2 c =
     let l = c .before .before .before in
-    rows-12-many (l .before .before .args .book .now) _ _ _ _ _ (l .byte .ensures .0) (c .before .before .pair .ensures .0) (c .before .if1 .left) (c .if2 .taken)
+    rows-12-many (l .before .before .args .book .now) _ _ _ _ _ (l .byte .ensures .0) (c .before .before .pair .ensures .0)
+    (c .before .if1 .left) (c .if2 .taken)
 
 add-bad-code : tie.Need-add-bad-code
 add-bad-code c = search needs
@@ -61,13 +62,15 @@ bad-code-requires c κs = record {
 returns-3 : tie.Need-returns-3
 returns-3 c =
     let l = c .before .before .before in
-    rows-11-code (l .before .before .before .before .args .book .now) _ _ _ _ _ (l .before .before .byte .ensures .0) (l .before .pair .ensures .0) (l .if1 .left) (c .before .before .if2 .left) _
+    rows-11-code (l .before .before .before .before .args .book .now) _ _ _ _ _ (l .before .before .byte .ensures .0)
+    (l .before .pair .ensures .0) (l .if1 .left) (c .before .before .if2 .left) _
     (c .before .bad-code .ensures) (c .if3 .taken)
 
 returns-4 : tie.Need-returns-4
 returns-4 c =
     let l = c .before .before .before in
-    rows-next (l .before .before .before .before .args .book .now) _ _ _ _ _ (l .before .before .byte .ensures .0) (l .before .pair .ensures .0) (l .if1 .left) (c .before .before .if2 .left) _
+    rows-next (l .before .before .before .before .args .book .now) _ _ _ _ _ (l .before .before .byte .ensures .0) (l .before .pair .ensures .0)
+    (l .if1 .left) (c .before .before .if2 .left) _
     (c .before .bad-code .ensures) (c .if3 .left)
 
 pub table-rows-spec : {M : Type 1} → statement M

@@ -11,7 +11,8 @@ use Rattle.book.proofs.tests.tables.Statement.{statement}
 use Rattle.book.proofs.tests.tables.Tie as tie
 
 abbrev Inv-loop : tie.InvT-loop
-Inv-loop book list fields count at₀ rows₀ left₀ at rows left = (rows ≤ rowLimit) × (tablesStep book list fields left at rows ≡ tablesStep book list fields count 0 0)
+Inv-loop book list fields count at₀ rows₀ left₀ at rows left = (rows ≤ rowLimit) ×
+    (tablesStep book list fields left at rows ≡ tablesStep book list fields count 0 0)
 
 abbrev μ-loop : tie.MeasureT-loop
 μ-loop book list fields count at₀ rows₀ left₀ at rows left = left
@@ -29,7 +30,8 @@ returns : tie.Need-returns Inv-loop μ-loop
 returns c =
     let l = c .before .before .before in
     let stopped = sym (ap stepOf (c .before .step .given .1)) ∙ l .table .ensures in
-    tables-stop (l .before .before .before .before .args .book .now) _ _ _ _ _ (l .before .loop-test .taken) _ _ stopped ∙ l .before .before .loop .inv .1
+    tables-stop (l .before .before .before .before .args .book .now) _ _ _ _ _ (l .before .loop-test .taken) _ _ stopped ∙
+    l .before .before .loop .inv .1
 
 enum-known-step-2 : tie.Need-enum-known-step-2 Inv-loop μ-loop
 enum-known-step-2 c = search needs
@@ -42,8 +44,11 @@ loop-less c = search needs
 
 loop-again : tie.Need-loop-again Inv-loop μ-loop
 loop-again c = let s = c .before .before .before .before .before .before .before .args .book .now in
-    let went = sym (ap stepOf (c .before .step2 .given .1)) ∙ c .before .before .before .table .ensures in
-    (step-few s _ _ _ _ _ _ ((c .before .before .before .before .before .before .before .pre)) went, tables-next s _ _ _ _ _ (c .before .before .before .before .loop-test .taken) _ _ went ∙ c .before .before .before .before .before .loop .inv .1)
+    let went = sym (ap stepOf (c .before .step2 .given .1)) ∙ c .before .before .before .table .ensures in (
+      step-few s _ _ _ _ _ _ ((c .before .before .before .before .before .before .before .pre)) went,
+      tables-next s _ _ _ _ _
+          (c .before .before .before .before .loop-test .taken) _ _ went ∙ c .before .before .before .before .before .loop .inv .1,
+    )
 
 returns-2 : tie.Need-returns-2 Inv-loop μ-loop
 returns-2 c = tables-none (c .before .before .before .args .book .now) _ _ _ _ _ (c .loop-test .left) ∙ c .before .loop .inv .1

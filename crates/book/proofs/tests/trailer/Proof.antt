@@ -78,7 +78,8 @@ add-if8-2 : tie.Need-add-if8-2
 add-if8-2 c = search needs
 
 returns-8 : tie.Need-returns-8
-returns-8 c = trailer-6-place _ _ _ _ _ _ (omega arith) (omega arith) (omega arith) (omega arith) (omega arith) (omega arith) (omega arith) (λ e. c .if8 .taken (omega arith))
+returns-8 c = trailer-6-place _ _ _ _ _ _ (omega arith) (omega arith) (omega arith) (omega arith) (omega arith) (omega arith) (omega arith)
+    (λ e. c .if8 .taken (omega arith))
 
 returns-9 : tie.Need-returns-9
 returns-9 c = trailer-pass _ _ _ _ _ _ (omega arith) (omega arith) (omega arith) (omega arith) (omega arith) (omega arith) (omega arith) (omega arith)
