@@ -71,10 +71,14 @@ pub record Standing (b : Book) (a : List ℕ) (f c : ℕ) : Type 0 where
   pub fits : Fits b a subdomain
   pub has : T (subdomain f c)
 
+-- every subdomain that fits is inside S
+abbrev pub HoldsAll : Book → List ℕ → Subdomain → Type 0
+HoldsAll b a S = (R : Subdomain) → Fits b a R → Inside R S
+
 -- S fits, and every subdomain that fits is inside S
 pub record IsLargest (b : Book) (a : List ℕ) (S : Subdomain) : Type 0 where
   pub fits : Fits b a S
-  pub has-all : (R : Subdomain) → Fits b a R → Inside R S
+  pub has-all : HoldsAll b a S
 
 -- "Lifting field f takes the same definition without f's answer"
 abbrev pub relax : List ℕ → ℕ → List ℕ

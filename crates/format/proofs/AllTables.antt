@@ -11,21 +11,23 @@ use Rattle.format.specs.Reading.{Step, next, stop, afterStep, tableStep,
 use Rattle.format.proofs.Places.{row-total}
 use Rattle.format.proofs.TableTests.{stop≢next, TableGood, table-good, good-table}
 
--- where two steps end, the first one did
+-- two steps: the first ended at at, with rows, and the second from there
 record Went (st : Step) (go : ℕ → ℕ → Step) (at′ rows′ : ℕ) : Type 0 where
   at : ℕ
   rows : ℕ
   first : st ≡ next at rows
   rest : go at rows ≡ next at′ rows′
 
+-- where two steps end, they went so
 went : (st : Step) (go : ℕ → ℕ → Step) (at′ rows′ : ℕ) → afterStep st go ≡ next at′ rows′ → Went st go at′ rows′
 went (next at rows) go at′ rows′ e = record { at = at; rows = rows; first = refl; rest = e }
 went (stop number place) go at′ rows′ e = absurd (stop≢next e)
 
+-- the same end
 same-next : {at rows at′ rows′ : ℕ} → at ≡ at′ → rows ≡ rows′ → next at rows ≡ next at′ rows′
 same-next e e′ = cc
 
--- what is known where the tests of n tables from table i on end at at′, with rows′
+-- n tables from table i on: each keeps the promise, they end at at′, and rows′ is the sum of rows, within the limit
 pub record TablesGood (s : List ℕ) (n i rows at′ rows′ : ℕ) : Type 0 where
   pub promises : (k : ℕ) → i ≤ k → k < i + n → TablePromise s (place s k)
   pub end : at′ ≡ place s (i + n)
@@ -52,6 +54,7 @@ module _ (s : List ℕ) where
       promised k (inl e) u = subst (λ (x : ℕ). TablePromise s (place s x)) e (t .promise)
       promised k (inr l) u = g .promises k l (omega arith)
 
+  -- so it is where their tests end at at′, with rows′
   pub tables-good : (n i rows at′ rows′ : ℕ) → tablesStep s (listPlace s) (fieldCount s) n (place s i) rows ≡ next at′ rows′
       → TablesGood s n i rows at′ rows′
   unfolding tablesStep tablesAt place
@@ -66,13 +69,13 @@ module _ (s : List ℕ) where
         within = λ h. omega arith;
       }
   tables-good (suc n) i rows at′ rows′ e =
-      let w =
-      went (tableStep s (listPlace s) (fieldCount s) (place s i) rows)
-      (λ at rows″. tablesStep s (listPlace s) (fieldCount s) n at rows″) at′ rows′ e in
+      let go : ℕ → ℕ → Step = λ at rows″. tablesStep s (listPlace s) (fieldCount s) n at rows″ in
+      let w = went (tableStep s (listPlace s) (fieldCount s) (place s i) rows) go at′ rows′ e in
       let t = table-good s (place s i) rows (w .at) (w .rows) (w .first) in
       one-more n i rows (w .at) (w .rows) at′ rows′ t
       (tables-good n (suc i) (w .rows) at′ rows′ (rw (t .end) at (w .rest)))
 
+  -- where each keeps the promise and the sum is within the limit, their tests end
   pub good-tables : (n i rows : ℕ) → ((k : ℕ) → i ≤ k → k < i + n → TablePromise s (place s k))
       → rows + rowTotal (tablesAt s (place s i) n) ≤ rowLimit
       → tablesStep s (listPlace s) (fieldCount s) n (place s i) rows
@@ -84,7 +87,5 @@ module _ (s : List ℕ) where
       let t = good-table s (place s i) rows (p i (omega arith) (omega arith)) (omega arith) in
       let r = good-tables n (suc i) (rows + rowsOf s (place s i)) (λ k l u. p k (omega arith) (omega arith)) (omega arith) in
       let d : suc i + n ≡ i + suc n = omega arith in
-      let sum : rows + rowsOf s (place s i) + rowTotal (tablesAt s (place s (suc i)) n) ≡ rows + rowTotal (tablesAt s (place s i) (suc n)) =
-      omega arith in
       ap (λ (st : Step). afterStep st (λ at′ rows′. tablesStep s (listPlace s) (fieldCount s) n at′ rows′)) t
-      ∙ (r ∙ same-next (ap (place s) d) sum)
+      ∙ (r ∙ same-next (ap (place s) d) (omega arith))

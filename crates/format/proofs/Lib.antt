@@ -1,8 +1,6 @@
 pub mod Scans
 pub mod Elements
 pub mod Views
-pub mod Conditions
-pub mod Tables
 pub mod Refusals
 pub mod Picks
 pub mod Trailer
@@ -10,4 +8,14 @@ pub mod Places
 pub mod TableTests
 pub mod AllTables
 pub mod Verdict
+pub mod Numbers
 pub mod Accepted
+pub mod Conditions
+pub mod Tables
+pub mod Drops
+pub mod Decode
+pub mod Encode
+pub mod Bytes
+pub mod Accepts
+pub mod Sizes
+pub mod Witness

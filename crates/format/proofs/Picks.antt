@@ -22,14 +22,17 @@ pub pick-second : {A : Type 0} (t : Bool) {a b c : A} → (a ≡ c → ⊥) → 
 pick-second true n e = absurd (n e)
 pick-second false n e = (refl, e)
 
+-- where both tests together pass, each does
 pub both-true : (s t : Bool) → s && t ≡ true → (s ≡ true) × (t ≡ true)
 both-true true t e = (refl, e)
 both-true false t e = let z : _≡_ {A = ℕ} 0 1 = cc in absurd (omega arith)
 
+-- a number between two is at least the one and at most the other
 pub between-true : (lo hi x : ℕ) → between lo hi x ≡ true → (lo ≤ x) × (x ≤ hi)
 between-true lo hi x e =
     let b = both-true (leb lo x) (leb x hi) e in
     (leb-true lo x (b .0), leb-true x hi (b .1))
 
+-- and the other way
 pub within-between : (lo hi x : ℕ) → lo ≤ x → x ≤ hi → between lo hi x ≡ true
 within-between lo hi x h h′ = simp le-leb

@@ -19,7 +19,7 @@ cell-column start a r j h =
     let d : start + r * a + j - start ≡ r * a + j = omega arith in
     rw d (mul-add-mod-self-right r a j ∙ mod-eq-of-lt h)
 
--- each place of the rows is that of a row and a column
+-- a place that is that of a row and a column
 pub record Cell (start a n i : ℕ) : Type 0 where
   pub row : ℕ
   pub column : ℕ
@@ -27,6 +27,7 @@ pub record Cell (start a n i : ℕ) : Type 0 where
   pub in-row : column < a
   pub here : start + row * a + column ≡ i
 
+-- each place of the rows is such a place
 pub cell-of : (start a n i : ℕ) → 1 ≤ a → start ≤ i → i < start + n * a → Cell start a n i
 cell-of start a n i h l u =
     record {
@@ -37,8 +38,9 @@ cell-of start a n i h l u =
       here = omega (arith, div-add-mod' (i - start) a);
     }
 
--- ---- the rows of tables: those of the first, and those of the rest
+-- ---- the rows of tables
 
+-- those of the first table, and those of the rest
 pub row-total : (s : List ℕ) (p n : ℕ) → rowTotal (tablesAt s p (suc n)) ≡ rowsOf s p + rowTotal (tablesAt s (tableEnd s p) n)
 unfolding tablesAt
 row-total s p n = ap (λ (k : ℕ). k + rowTotal (tablesAt s (tableEnd s p) n)) (table-rows s p)

@@ -25,6 +25,7 @@ module _ (s : List ℕ) (fields first : ℕ) where
       let b = both-true (ltb (byte s i) fields) (leb i first || ltb (byte s (i - 1)) (byte s i)) e in
       (ltb-true (byte s i) fields (b .0), λ h. ltb-true (byte s (i - 1)) (byte s i) (rw (lt-leb i first h) at (b .1)))
 
+  -- a field number that is known, and above the one before it, passes
   ok-field : (i : ℕ) → byte s i < fields → (first < i → byte s (i - 1) < byte s i) → fieldOk s fields first i ≡ true
   ok-field i h g = rw (lt-ltb (byte s i) fields h) (go (leb i first) refl)
     where
@@ -33,11 +34,13 @@ module _ (s : List ℕ) (fields first : ℕ) where
       go false e = lt-ltb (byte s (i - 1)) (byte s i) (g (leb-false i first e))
 
   module _ (a : ℕ) where
+    -- where the scan reaches their end, each is known
     pub fields-known : first + a ≤ firstBad (fieldOk s fields first) first (first + a)
         → (j : ℕ) → j < a → byte s (first + j) < fields
     fields-known e j h =
         field-ok (first + j) (all-pass (fieldOk s fields first) first (first + a) (omega arith) e (first + j) (omega arith) (omega arith)) .0
 
+    -- and they rise
     fields-rising : first + a ≤ firstBad (fieldOk s fields first) first (first + a)
         → (j : ℕ) → j + 1 < a → byte s (first + j) < byte s (first + (j + 1))
     fields-rising e j h =
@@ -47,6 +50,7 @@ module _ (s : List ℕ) (fields first : ℕ) where
         (all-pass (fieldOk s fields first) first (first + a) (omega arith) e (first + (j + 1)) (omega arith) (omega arith)) .1
         (omega arith))
 
+    -- known and rising, they pass
     fields-pass : ((j : ℕ) → j < a → byte s (first + j) < fields)
         → ((j : ℕ) → j + 1 < a → byte s (first + j) < byte s (first + (j + 1)))
         → firstBad (fieldOk s fields first) first (first + a) ≡ first + a
@@ -64,13 +68,16 @@ module _ (s : List ℕ) (fields first : ℕ) where
 -- ---- the codes: n rows of a codes from start on
 
 module _ (s : List ℕ) (list first a n start : ℕ) where
+  -- where the scan reaches their end, each is below its field's number of codes
   codes-known : start + n * a ≤ firstBad (codeOk s list first a start) start (start + n * a)
       → (r j : ℕ) → r < n → j < a → byte s (start + r * a + j) < byte s (list + byte s (first + j))
   codes-known e r j h k =
-      let c = all-pass (codeOk s list first a start) start (start + n * a) (omega arith) e (start + r * a + j) (omega arith)
-      (omega (arith, cell-within a n r j h k)) in
-      ltb-true (byte s (start + r * a + j)) (byte s (list + byte s (first + j))) (rw (cell-column start a r j k) at c)
+      let w = cell-within a n r j h k in
+      ltb-true (byte s (start + r * a + j)) (byte s (list + byte s (first + j)))
+      (rw (cell-column start a r j k) at
+      (all-pass (codeOk s list first a start) start (start + n * a) (omega arith) e (start + r * a + j) (omega arith) (omega arith)))
 
+  -- codes below their fields' numbers of codes pass
   codes-pass : 1 ≤ a
       → ((r j : ℕ) → r < n → j < a → byte s (start + r * a + j) < byte s (list + byte s (first + j)))
       → firstBad (codeOk s list first a start) start (start + n * a) ≡ start + n * a
@@ -87,10 +94,11 @@ module _ (s : List ℕ) (list first a n start : ℕ) where
 
 -- ---- the table at at, with rows so far
 
+-- a table that is refused does not end
 pub stop≢next : {number place at rows : ℕ} → stop number place ≡ next at rows → ⊥
 stop≢next e = let z : _≡_ {A = ℕ} 0 1 = cc in omega arith
 
--- what is known where its tests end at at′, with rows′
+-- it keeps the promise, ends at at′, and rows′ is the sum of rows, within the limit
 pub record TableGood (s : List ℕ) (at rows at′ rows′ : ℕ) : Type 0 where
   pub promise : TablePromise s at
   pub end : at′ ≡ tableEnd s at
@@ -98,6 +106,7 @@ pub record TableGood (s : List ℕ) (at rows at′ rows′ : ℕ) : Type 0 where
   pub few : rows′ ≤ rowLimit
 
 module _ (s : List ℕ) (at rows : ℕ) where
+  -- so it is where its tests end at at′, with rows′
   pub table-good : (at′ rows′ : ℕ) → tableStep s (listPlace s) (fieldCount s) at rows ≡ next at′ rows′ → TableGood s at rows at′ rows′
   unfolding tableStep rowsStep
   table-good at′ rows′ e =
@@ -129,6 +138,7 @@ module _ (s : List ℕ) (at rows : ℕ) where
         few = omega arith;
       }
 
+  -- where it keeps the promise and the sum is within the limit, its tests end
   pub good-table : TablePromise s at → rows + rowsOf s at ≤ rowLimit
       → tableStep s (listPlace s) (fieldCount s) at rows ≡ next (tableEnd s at) (rows + rowsOf s at)
   good-table t h =

@@ -13,11 +13,13 @@ use Rattle.format.proofs.Scans.{all-pass, pass-all}
 use Rattle.format.proofs.Picks.{pick-first, pick-second, between-true, within-between}
 use Rattle.format.proofs.Refusals.{trailer-pass, list-pass}
 
+-- a refusal is no pass
 pub fail≢pass : {number place : ℕ} → fail number place ≡ pass → ⊥
 fail≢pass e = let z : _≡_ {A = ℕ} 0 1 = cc in omega arith
 
 -- ---- the trailer of n bytes with these numbers in it
 
+-- the conditions of refusals 1 to 6
 pub record TrailerGood (n closing version fields tables list : ℕ) : Type 0 where
   pub long : 6 ≤ n
   pub short : n ≤ lengthLimit
@@ -28,6 +30,7 @@ pub record TrailerGood (n closing version fields tables list : ℕ) : Type 0 whe
   pub whole : list + fields + 6 ≡ n
 
 module _ (n closing version fields tables list : ℕ) where
+  -- a trailer that passes meets them
   pub trailer-good : trailerTest n closing version fields tables list ≡ pass → TrailerGood n closing version fields tables list
   unfolding trailerTest
   trailer-good e =
@@ -49,6 +52,7 @@ module _ (n closing version fields tables list : ℕ) where
         whole = eqb-true (list + fields + 6) n (e6 .0);
       }
 
+  -- a trailer that meets them passes
   pub good-trailer : TrailerGood n closing version fields tables list → trailerTest n closing version fields tables list ≡ pass
   good-trailer g =
       sym
@@ -58,6 +62,7 @@ module _ (n closing version fields tables list : ℕ) where
 -- ---- the field list from list on
 
 module _ (s : List ℕ) (list fields : ℕ) where
+  -- where the field list passes, each field has 1 to 32 codes
   pub list-sized : listTest s list fields ≡ pass → (f : ℕ) → f < fields
       → (1 ≤ byte s (list + f)) × (byte s (list + f) ≤ codeLimit)
   unfolding listTest
@@ -67,11 +72,11 @@ module _ (s : List ℕ) (list fields : ℕ) where
       between-true 1 codeLimit (byte s (list + f))
       (all-pass (countOk s) list (list + fields) (omega arith) end (list + f) (omega arith) (omega arith))
 
+  -- where each field has 1 to 32 codes, the field list passes
   pub sized-list : ((f : ℕ) → f < fields → (1 ≤ byte s (list + f)) × (byte s (list + f) ≤ codeLimit))
       → listTest s list fields ≡ pass
   sized-list g =
-      let end : firstBad (countOk s) list (list + fields) ≡ list + fields =
-      pass-all (countOk s) list (list + fields) (omega arith) ok in
+      let end = pass-all (countOk s) list (list + fields) (omega arith) ok in
       sym (list-pass s list fields (list + fields) (sym end) (omega arith))
     where
       ok : (k : ℕ) → list ≤ k → k < list + fields → countOk s k ≡ true
