@@ -10,7 +10,7 @@ use Rattle.book.specs.declared.Refusal.the-variants.{Length, Closing, Ve
 use Rattle.book.specs.declared.Reading.{Reading}
 use Rattle.book.specs.declared.Reading.the-variants.{Accepted, Refused}
 use Rattle.book.specs.declared.Checked.{Checked}
-use Rattle.book.specs.declared.Checked.the-variants.{Good, Bad}
+use Rattle.book.specs.declared.Checked.the-variants as checked
 use Rattle.book.specs.declared.tests.Test.{Test}
 use Rattle.book.specs.declared.tests.Test.the-variants.{Pass, Fail}
 use Rattle.book.specs.declared.tests.Step.{Step}
@@ -49,8 +49,8 @@ stepOf (Stop kind place) = stop (numberOf kind) place
 
 -- checking's answer: place of the field list, fields, tables, rows
 abbrev pub shownCheck : Checked → Outcome
-shownCheck (Good list fields tables rows) = accepted (list ∷ fields ∷ tables ∷ rows ∷ [])
-shownCheck (Bad kind place) = refused 4 (numberOf kind) place
+shownCheck (checked.Good list fields tables rows) = accepted (list ∷ fields ∷ tables ∷ rows ∷ [])
+shownCheck (checked.Refused kind place) = refused 4 (numberOf kind) place
 
 -- reading's answer: fields, tables, rows written, different rows
 abbrev pub shown : Reading → Outcome

@@ -5,19 +5,19 @@ ghost use lib.ListN.{length};
 ghost use Rattle.format.specs.Format as format;
 
 // The byte at i.
-pub fn byte(s: &[u8], i: usize) -> usize
-    requires { ⌜ i < length (now s) ⌝ }
-    ensures { λ r. ⌜ (r ≡ format.byte (now (s .entry)) i) × (r < 256) ⌝ }
+pub fn byte(book: &[u8], i: usize) -> usize
+    requires { ⌜ i < length (now book) ⌝ }
+    ensures { λ r. ⌜ (r ≡ format.byte (now (book .entry)) i) × (r < 256) ⌝ }
 {
-    s[i] as usize
+    book[i] as usize
 }
 
 // The two-byte number at i, low byte first.
-pub fn pair(s: &[u8], i: usize) -> usize
-    requires { ⌜ i + 1 < length (now s) ⌝ }
-    ensures { λ r. ⌜ (r ≡ format.le16 (now (s .entry)) i) × (r < 65536) ⌝ }
+pub fn pair(book: &[u8], i: usize) -> usize
+    requires { ⌜ i + 1 < length (now book) ⌝ }
+    ensures { λ r. ⌜ (r ≡ format.le16 (now (book .entry)) i) × (r < 65536) ⌝ }
 {
-    let low = byte(s, i);
-    let high = byte(s, i + 1);
+    let low = byte(book, i);
+    let high = byte(book, i + 1);
     low + 256 * high
 }
