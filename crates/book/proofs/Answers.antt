@@ -6,7 +6,7 @@ use native.Mathlib.Omega.{arith}
 use lib.ListN.{length}
 use Rattle.format.specs.Format.{rowLimit, tableLimit, listPlace, fieldCount, tableCount, rowTotal, differentTotal, tablesAt, bookOf}
 use Rattle.format.specs.Promise.{place}
-use Rattle.format.specs.Reading.{Outcome, accepted, refused, Verdict, pass, fail, next, stop, listTest, tableStep, tablesStep, lastTest, verdict, outcome, reading, checking}
+use Rattle.format.specs.Reading.{Outcome, accepted, refused, Verdict, pass, fail, next, stop, trailerVerdict, listTest, tableStep, tablesStep, lastTest, verdict, outcome, reading, checking}
 use Rattle.format.proofs.Views.{counts-count, tables-count}
 use Rattle.format.proofs.Refusals.{verdict-list, verdict-tables, last-13-left, last-pass, reading-pass, checking-pass, checking-fail}
 use Rattle.format.proofs.Trailer.{trailer-good}
@@ -15,7 +15,6 @@ use Rattle.format.proofs.AllTables.{tables-good}
 use Rattle.format.proofs.Verdict.{verdict-promise}
 use Rattle.format.proofs.Accepted.{checked-verdict}
 use Rattle.book.specs.Bounds.{BodyFits}
-use Rattle.book.specs.Shown.{trailerVerdict}
 
 module _ (s : List ℕ) where
   -- behind a table that passes, the rows so far are within the limit

@@ -1,9 +1,7 @@
 -- The reader's answers in document 01's terms: its number for each kind of refusal, and number, place and counts for each answer. Assumes nothing.
-use Prim.Native.Nat.{ℕ, _-_}
-use mathlib.Core.List.{List, [], _∷_}
-use lib.ListN.{length}
-use Rattle.format.specs.Format.{byte, listPlace, fieldCount, tableCount, versionOf}
-use Rattle.format.specs.Reading.{Outcome, accepted, refused, Verdict, pass, fail, next, stop, trailerTest}
+use Prim.Native.Nat.{ℕ}
+use mathlib.Core.List.{[], _∷_}
+use Rattle.format.specs.Reading.{Outcome, accepted, refused, Verdict, pass, fail, next, stop}
 use Rattle.format.specs.Reading as format
 use Rattle.book.specs.declared.Refusal.{Refusal}
 use Rattle.book.specs.declared.Refusal.the-variants.{Length, Closing, Version, FieldCount, TableCount, ListPlace, CodeCount, Short, Arity, FieldNumber, Code, RowCount, LeftOver}
@@ -36,11 +34,6 @@ numberOf LeftOver = 13
 abbrev pub verdictOf : Test → Verdict
 verdictOf Pass = pass
 verdictOf (Fail kind place) = fail (numberOf kind) place
-
--- 1 to 6, of the numbers in the trailer of these bytes
-abbrev pub trailerVerdict : List ℕ → Verdict
-trailerVerdict s =
-    trailerTest (length s) (byte s (length s - 1)) (versionOf s) (fieldCount s) (tableCount s) (listPlace s)
 
 -- a table's answer
 abbrev pub stepOf : Step → format.Step
