@@ -2,3 +2,5 @@ pub mod Words
 pub mod Cases
 pub mod Support
 pub mod Revise
+pub mod Asks
+pub mod Queue
