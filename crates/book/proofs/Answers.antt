@@ -94,10 +94,13 @@ module _ (s : List ℕ) where
     pub check-viewed : Viewed s list fields tables rows
     check-viewed =
         record {
-          promise = verdict-promise s passed;
-          list-is = cc counts-are;
-          fields-is = cc counts-are;
-          tables-is = cc counts-are;
+          numbers =
+              record {
+                promise = verdict-promise s passed;
+                list-is = cc counts-are;
+                fields-is = cc counts-are;
+                tables-is = cc counts-are;
+              };
           rows-is = cc counts-are;
         }
 

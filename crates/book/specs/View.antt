@@ -11,10 +11,14 @@ use Rattle.book.specs.declared.Book.{Book}
 abbrev pub viewOf : RefT (List ℕ) → ℕ → ℕ → ℕ → ℕ → Book
 viewOf s l f t r = record { bytes = s; list = l; fields = f; tables = t; rows = r }
 
--- the bytes keep the reader's promise, and these numbers are the book's
-pub record Viewed (s : List ℕ) (list fields tables rows : ℕ) : Type 0 where
+-- bytes that keep the reader's promise, and the numbers of their trailer
+pub record Numbered (s : List ℕ) (list fields tables : ℕ) : Type 0 where
   pub promise : Promise s
   pub list-is : list ≡ listPlace s
   pub fields-is : fields ≡ fieldCount s
   pub tables-is : tables ≡ tableCount s
+
+-- and the number of rows: what the layers above know of a view
+pub record Viewed (s : List ℕ) (list fields tables rows : ℕ) : Type 0 where
+  pub numbers : Numbered s list fields tables
   pub rows-is : rows ≡ rowTotal (bookOf s .tables)

@@ -16,16 +16,16 @@ use contract.Monad.{Fun}
 use contract.Running.{givenOf, tables, tablesOf}
 use types.Kit.{Given, ‵, raw, _⊛_, _$_, _∵_, !, qed, by, move, use1, split, fsplit, fjoin, suffices, frame}
 use types.Part.{agg}
-use types.Run.{look, init, forget, stop, from, load, and-then, no-more, assigns, returns, enter, alloc1, alloc0, params1, pass1, pass0, free1, free0}
+use types.Run.{look, init, stop, from, no-more, assigns, returns, enter, alloc1, alloc0, params1, pass1, pass0, free0}
 use sound.WpLaws.{WpFn-mono}
 use denote.RattleType.{owns}
 use denote.Laws.{Is}
-use denote.Plain.{uint-makes, uint-vals, uint-tells}
+use denote.Plain.{uint-vals, uint-tells}
 use denote.Builtin.{u8, usize}
 use denote.Ref.{RefT, NamedLft}
 use denote.Signature.{plain, namedLft}
 use denote.Slice.{sliceVal, ShrSlice, slice-vals, shr-slice-tells, shr-slice-lawful, shr-slice-copy}
-use denote.Steps.{nothing, owned}
+use denote.Steps.{nothing}
 use denote.Struct.Rest.{own-shut}
 use denote.Triple.Entry.{Vals, onEntry}
 use denote.Triple.Spec.{Meets, tripleOf}
@@ -34,6 +34,7 @@ use denote.Triple.Walked.{says, Stays, stay-none, stay-none-slice, walkOf, goes-
 use denote.Exit.{yes}
 use Rattle.book.specs.View.{viewOf}
 use Rattle.book.specs.declared.Book.{Book}
+use Rattle.book.proofs.Walking.{number, arg, leave}
 use Rattle.book.proofs.Book as T
 use Rattle.book.proofs.Book.Laws as T′
 use Rattle.book.proofs.view.Key.{name as #book·view}
@@ -77,8 +78,8 @@ module _ {M : Type 1} (𝓤 : URA M) (H : Heap 𝓤) (A : Atoms 𝓤) (W : Given
       suffices ! _ (ends-at 𝓤 H A view.ended stayed (view.clauses 𝓤 H A mem run) W (((κ, tt), (q, tt), tt, a, at), tt) (T′.lowered made) made (tt, (tt, (tt, (tt, (tt, tt))))) (tt, (tt, (tt, (tt, (tt, tt)))))) $ says ! refl $
       frame ! $ fsplit ! $ use1 W (‵ Own ⊛ ‵ Own) (shr-slice-copy 𝓤 H A W (named 0) κ u8 .twice s (v ∷ [])) $ split ! $ move ! (0 ∷ 2 ∷ []) $ fjoin ! $ frame ! $
       -- [what bytes owns]: what the fields own together, of it and of the numbers' facts, is what the struct owns
-      nothing ! $ owned ! usize (Is usize) (uint-makes 𝓤 H A W w64) r _ (refl, okr) $ fjoin ! $ owned ! usize (Is usize) (uint-makes 𝓤 H A W w64) t _ (refl, okt) $ fjoin ! $
-      owned ! usize (Is usize) (uint-makes 𝓤 H A W w64) f _ (refl, okf) $ fjoin ! $ owned ! usize (Is usize) (uint-makes 𝓤 H A W w64) l _ (refl, okl) $ fjoin ! $
+      nothing ! $ number ! r okr $ number ! t okt $
+      number ! f okf $ number ! l okl $
       move ! (1 ∷ 0 ∷ []) $ fjoin ! $ by ! (own-shut 𝓤 H A W (T.the-type α) (T′.the-laws α) a)
 
   module _ (C : Calls 𝓤 H) (Λ : Loops 𝓤 H) where
@@ -89,11 +90,10 @@ module _ {M : Type 1} (𝓤 : URA M) (H : Heap 𝓤) (A : Atoms 𝓤) (W : Given
         qed W (raw (onEntry 𝓤 H A view.signature (κ, tt) (q, tt) a at) ∷ []) ∵ enter ! C Λ code.function (v ∷ vint w64 l ∷ vint w64 f ∷ vint w64 t ∷ vint w64 r ∷ []) _ $
         alloc1 ! (λ l₀. alloc1 ! (λ l₁. alloc1 ! (λ l₂. alloc1 ! (λ l₃. alloc1 ! (λ l₄. alloc1 ! (λ l₅. alloc0 ! $ params1 ! $ pass1 ! (init ! 8 refl typed) $
         pass1 ! (init ! 6 refl (tt, record { fits = okl })) $ pass1 ! (init ! 4 refl (tt, record { fits = okf })) $ pass1 ! (init ! 2 refl (tt, record { fits = okt })) $ pass1 ! (init ! 0 refl (tt, record { fits = okr })) $ pass0 ! $
-        assigns ! (agg ! (and-then ! (load ! (from ! (stop !)) (look ! 8 refl)) (and-then ! (load ! (from ! (stop !)) (look ! 6 refl)) (and-then ! (load ! (from ! (stop !)) (look ! 4 refl))
-        (and-then ! (load ! (from ! (stop !)) (look ! 2 refl)) (and-then ! (load ! (from ! (stop !)) (look ! 0 refl)) (no-more !)))))))
+        assigns ! (agg ! (arg ! 8 refl (arg ! 6 refl (arg ! 4 refl
+        (arg ! 2 refl (arg ! 0 refl (no-more !)))))))
         (from ! (stop !)) (init ! 10 refl (tt, (typed .1, (record { fits = okl }, (record { fits = okf }, (record { fits = okt }, (record { fits = okr }, tt))))))) $
-        returns ! (look ! 10 refl) $ forget ! 0 refl $ forget ! 2 refl $ forget ! 4 refl $ forget ! 6 refl $ forget ! 8 refl $ forget ! 10 refl $
-        move ! (10 ∷ 11 ∷ []) $ free1 ! $ move ! (8 ∷ 9 ∷ []) $ free1 ! $ move ! (6 ∷ 7 ∷ []) $ free1 ! $ move ! (4 ∷ 5 ∷ []) $ free1 ! $ move ! (2 ∷ 3 ∷ []) $ free1 ! $ free1 ! $ free0 ! $ by ! exits))))))
+        returns ! (look ! 10 refl) $ leave ! 10 refl refl $ leave ! 8 refl refl $ leave ! 6 refl refl $ leave ! 4 refl refl $ leave ! 2 refl refl $ leave ! 0 refl refl $ free0 ! $ by ! exits))))))
 
 module _ {M : Type 1} (𝓤 : URA M) (H : Heap 𝓤) (A : Atoms 𝓤) (W : Given 𝓤 H A) (mem : Memory → SProp 𝓤) (run : Routine → Fun 𝓤) where
   view-walks : (C : Calls 𝓤 H) (Λ : Loops 𝓤 H) → Walks 𝓤 H A view.ended stayed (WpFn 𝓤 H C Λ code.function) (view.clauses 𝓤 H A mem run)
