@@ -7,16 +7,15 @@ use Prim.Native.Nat.{ℕ, _-_, _^_, _<_, zero-le}
 use native.Mathlib.Nat.{le-trans, le-suc}
 use native.Mathlib.Decide.{ℕ-discrete}
 use native.Mathlib.Omega.{arith}
-use borrow.Author.Tests.{eq-eqb, ne-eqb}
+use borrow.Author.Tests.{eq-eqb}
 use lib.Dec.{T, eqb, eqb→eq}
 use lib.ListN.{length, getD}
 use lib.Pow.{pow-pos}
 use Rattle.format.specs.Basics.{pick}
 use Rattle.format.specs.Format.{Table, codeLimit, tableAt}
-use Rattle.consistency.specs.Counting.{allBelow}
-use Rattle.consistency.specs.Consistency.{Subdomain, Support, fieldOf, codeOf}
+use Rattle.consistency.specs.Consistency.{Subdomain, Support, codeOf}
 use Rattle.consistency.specs.Largest.{rowSupports}
-use Rattle.consistency.proofs.Booleans.{T-ext, true-T, T-true, false-T, and-in, and-left, and-right, eq→eqb}
+use Rattle.consistency.proofs.Booleans.{T-ext, true-T, false-T, and-in, and-left, and-right, eq→eqb}
 use Rattle.consistency.proofs.Supports.{row-in, row-there, row-others}
 use Rattle.filter.specs.Words.{bit, domainOf}
 use Rattle.filter.specs.declared.support.Shape.{Shape}

@@ -6,8 +6,8 @@ use Prim.Native.Nat.{ℕ, _+_, _-_, _*_, _≤_, _<_}
 use native.Mathlib.Omega.{arith}
 use lib.Bits.{bitAnd}
 use lib.ListN.{length, getD}
-use Rattle.format.specs.Format.{codeLimit, byte, tableAt}
-use Rattle.consistency.specs.Consistency.{fieldOf, codeOf}
+use Rattle.format.specs.Format.{byte, tableAt}
+use Rattle.consistency.specs.Consistency.{codeOf}
 use Rattle.filter.specs.Words.{wordAt}
 use Rattle.filter.specs.declared.support.Shape.{Shape}
 use Rattle.filter.specs.declared.support.Found.{Found}

@@ -1,15 +1,15 @@
 -- The shape of a table of an accepted book: where its rows and fields stand in the bytes, and how large they are. Assumes nothing.
-use mathlib.Core.Path.{_≡_, refl, sym, ap, _∙_, subst}
+use mathlib.Core.Path.{_≡_, sym, ap, _∙_, subst}
 use mathlib.Core.Logic.{⊎-elim, _≢_}
 use mathlib.Core.List.{List, []}
-use Prim.Native.Nat.{ℕ, zero, suc, _+_, _-_, _*_, _≤_, _<_}
+use Prim.Native.Nat.{ℕ, zero, suc, _+_, _*_, _≤_, _<_}
 use native.Mathlib.Nat.{le-trans, not-suc-le-zero, mul-le-mul-right}
 use native.Mathlib.Numerals.{add-one}
 use native.Mathlib.Decide.{decLt}
 use native.Mathlib.Omega.{arith}
 use lib.ListN.{length}
-use Rattle.format.specs.Format.{Table, codeLimit, byte, listPlace, fieldCount, arityAt, rowsOf, firstRow, tableEnd, tableAt, bookOf}
-use Rattle.format.specs.Promise.{Promise, TablePromise, place, fieldAt, codeAt, countAt}
+use Rattle.format.specs.Format.{Table, codeLimit, byte, fieldCount, arityAt, rowsOf, firstRow, tableEnd, tableAt, bookOf}
+use Rattle.format.specs.Promise.{TablePromise, fieldAt, codeAt, countAt}
 use Rattle.format.proofs.Views.{tables-count, table-view, table-rows, table-code, table-field, table-arity}
 use Rattle.consistency.specs.Consistency.{places, fieldOf, codeOf, nth}
 use Rattle.consistency.proofs.Booleans.{below-suc}

@@ -1,24 +1,23 @@
 -- A table swept column by column: what holds behind each column, and each way on. Assumes nothing.
 use mathlib.Core.Path.{_≡_, refl, sym, ap, ap₂, _∙_, subst}
-use mathlib.Core.Logic.{_⊎_, inl, inr, _≢_, ⊎-elim}
+use mathlib.Core.Logic.{_⊎_, inl, inr, _≢_}
 use mathlib.Core.List.{List, []}
-use Prim.Native.Nat.{ℕ, suc, _+_, _-_, _*_, _%_, _^_, _≤_, _<_}
+use Prim.Native.Nat.{ℕ, suc, _+_, _*_, _%_, _^_, _≤_, _<_}
 use native.Mathlib.Nat.{not-suc-le-zero, mul-one, mul-le-mul-left}
-use native.Mathlib.Decide.{ℕ-discrete, decLt}
 use native.Mathlib.Omega.{arith}
 use lib.Bits.{bitOr, bitXor}
 use lib.Dec.{T}
 use lib.ListN.{length, getD}
 use Rattle.format.specs.Format.{Table, lengthLimit, byte, listPlace, fieldCount, arityAt, rowsOf, bookOf, tableAt}
-use Rattle.format.specs.Promise.{Promise, TablePromise, place, fieldAt}
-use Rattle.format.proofs.Views.{table-view, table-field, table-arity}
+use Rattle.format.specs.Promise.{TablePromise}
+use Rattle.format.proofs.Views.{table-view}
 use Rattle.consistency.specs.Consistency.{places, fieldOf, nth}
 use Rattle.consistency.proofs.Booleans.{below-suc}
 use Rattle.filter.specs.Words.{bit}
 use Rattle.filter.specs.declared.support.Shape.{Shape}
 use Rattle.filter.specs.Support.{InTable, shapeAt}
 use Rattle.filter.specs.Revise.{Removal, Revised, ColumnSupported, TableSupported, Queued, Swept}
-use Rattle.filter.specs.Asks.{Marks, ReviseAsks, SweepAsks}
+use Rattle.filter.specs.Asks.{ReviseAsks, SweepAsks}
 use Rattle.filter.proofs.Removals.{removal-none, removal-then, removal-room}
 use Rattle.filter.proofs.Shapes.{arity-is, arity-of, field-is, field-known, fields-apart}
 use Rattle.filter.proofs.Limits.{fields-few}
