@@ -36,7 +36,7 @@ pub record Unsupported (M : List ℕ) (t : Table) (j : ℕ) (need left : List �
 abbrev pub Room : Book → List ℕ → ℕ → Type 0
 Room b M s = standing b M + s ≤ 1000000
 
--- column j of table t, whose field is f, of k codes, revised
+-- column j of table t, whose field is f, revised
 pub record Revised (b : Book) (M N : List ℕ) (t : Table) (j f s u : ℕ) : Type 0 where
   pub removal : Removal b M N s u
   pub only : OnlyField f M N
