@@ -39,16 +39,19 @@ module _ {s : List ℕ} {t : Shape} (q : InTable s t) {j : ℕ} (jl : j < t .ari
 
   -- the answer of a question
   module _ {x : Found} (e : x ≡ firstFrom (t .rows - from) from (rowCases M left (tableAt s (t .at)) j)) where
+    answer : FirstIs (length (tableAt s (t .at) .rows)) from (rowCases M left (tableAt s (t .at)) j) x
+    answer = search-is s t q from (rowCases M left (tableAt s (t .at)) j) x (h .from-in) e
+
     -- no row supports anything that remains
     pub searching-ends : x ≡ Nothing → Unsupported M (tableAt s (t .at)) j need left
     searching-ends d =
         remaining-end M (tableAt s (t .at)) j (codes-small s t q) need left from (h .remaining)
-        (subst (FirstIs _ from (rowCases M left (tableAt s (t .at)) j)) d (search-is s t q from (rowCases M left (tableAt s (t .at)) j) x (h .from-in) e))
+        (subst (FirstIs (length (tableAt s (t .at) .rows)) from (rowCases M left (tableAt s (t .at)) j)) d answer)
 
     -- row r supports its own code in the cases v
     module _ {r v : ℕ} (d : x ≡ Row r v) where
       found : FirstAt (length (tableAt s (t .at) .rows)) from (rowCases M left (tableAt s (t .at)) j) r v
-      found = subst (FirstIs _ from (rowCases M left (tableAt s (t .at)) j)) d (search-is s t q from (rowCases M left (tableAt s (t .at)) j) x (h .from-in) e)
+      found = subst (FirstIs (length (tableAt s (t .at) .rows)) from (rowCases M left (tableAt s (t .at)) j)) d answer
 
       pub row-later : from ≤ r
       row-later = found .later

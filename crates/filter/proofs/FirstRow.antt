@@ -93,7 +93,8 @@ module _ (M : List ℕ) (t : Table) (j c k : ℕ) (need : List ℕ) (one : OneMa
         there i b =
             let a = asked need c k one own i (and-left (bit (getD need own 0) i) (rowSupports (domainOf M i) t j own r) b) in
             and-in (supports r) (eqb i k)
-            (subst T (ap₂ (λ (x y : ℕ). rowSupports (domainOf M x) t j y r) (a .1) (a .0)) (and-right (bit (getD need own 0) i) (rowSupports (domainOf M i) t j own r) b))
+            (subst T (ap₂ (λ (x y : ℕ). rowSupports (domainOf M x) t j y r) (a .1) (a .0))
+            (and-right (bit (getD need own 0) i) (rowSupports (domainOf M i) t j own r) b))
             (eq→eqb (a .1))
 
         back : (i : ℕ) → T (supports r && eqb i k) → T (bit (getD need own 0) i && rowSupports (domainOf M i) t j own r)
@@ -117,6 +118,7 @@ module _ (M : List ℕ) (t : Table) (j c k : ℕ) (need : List ℕ) (one : OneMa
 
 -- Document 01's question, of a table of an accepted book: need asks for one code in one case, and the search begins at row 0
 module _ (s : List ℕ) (t : Shape) (q : InTable s t) (M : List ℕ) (j c k : ℕ) (need : List ℕ) (one : OneMark need c k) where
-  pub first-row : (x : Found) → x ≡ firstFrom (t .rows - 0) 0 (rowCases M need (tableAt s (t .at)) j) → FirstRow (domainOf M k) (tableAt s (t .at)) j c k x
+  pub first-row : (x : Found) → x ≡ firstFrom (t .rows - 0) 0 (rowCases M need (tableAt s (t .at)) j)
+      → FirstRow (domainOf M k) (tableAt s (t .at)) j c k x
   first-row x e =
       answer M (tableAt s (t .at)) j c k need one (codes-small s t q) x (search-is s t q 0 (rowCases M need (tableAt s (t .at)) j) x zero-le e)

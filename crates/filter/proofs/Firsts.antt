@@ -84,7 +84,10 @@ is-from (suc m) from g = go (ℕ-discrete (g from) 0) (is-from m (from + 1) g)
 
     go : Dec (g from ≡ 0) → FirstIs (from + 1 + m) (from + 1) g (firstFrom m (from + 1) g)
         → FirstIs (from + suc m) from g (pick (eqb (g from) 0) (firstFrom m (from + 1) g) (Row from (g from)))
-    go (yes e) h = rw (eq-eqb (g from) 0 e) (is-next (from + suc m) from g (firstFrom m (from + 1) g) e (subst (λ (x : ℕ). FirstIs x (from + 1) g (firstFrom m (from + 1) g)) n h))
+    go (yes e) h =
+        rw (eq-eqb (g from) 0 e)
+        (is-next (from + suc m) from g (firstFrom m (from + 1) g) e
+        (subst (λ (x : ℕ). FirstIs x (from + 1) g (firstFrom m (from + 1) g)) n h))
     go (no e) h =
         rw (ne-eqb (g from) 0 e)
         (record { later = omega arith; below = omega arith; value = refl; some = e; none = λ q l k. absurd (omega arith) })

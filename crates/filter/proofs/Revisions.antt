@@ -106,7 +106,8 @@ module _ {s M N need left : List ℕ} {t : Shape} {j f k n u : ℕ} (a : ReviseA
           grows = omega (arith, h .counted);
           holds = holds;
           inside = inside (few a) lefts h;
-          counts = counts (few a) lefts h (bookOf s) (omega (arith, known a, counts-count s (a .table .promise .whole))) (codes-of a) (codes-few s (a .table .promise));
+          counts = counts (few a) lefts h (bookOf s) (omega (arith, known a, counts-count s (a .table .promise .whole))) (codes-of a)
+              (codes-few s (a .table .promise));
           still = still (few a) lefts h;
         };
         only = others (few a) lefts h;

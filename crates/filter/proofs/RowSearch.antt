@@ -58,7 +58,8 @@ module _ (s : List ℕ) (t : Shape) (q : InTable s t) where
       row-given-up i il = cases-none M (tableAt s (t .at)) j r need w (i + 1) asked (omega (arith, arity-of s t q))
 
       -- all columns passed
-      pub row-passed : (v i : ℕ) → v ≡ narrowed M (tableAt s (t .at)) j r w i → i ≤ t .arity → t .arity ≤ i → rowCases M need (tableAt s (t .at)) j r ≡ v
+      pub row-passed : (v i : ℕ) → v ≡ narrowed M (tableAt s (t .at)) j r w i → i ≤ t .arity → t .arity ≤ i
+          → rowCases M need (tableAt s (t .at)) j r ≡ v
       row-passed v i ve lo hi =
           cases-are M (tableAt s (t .at)) j r need w v asked
           (ve ∙ ap (narrowed M (tableAt s (t .at)) j r w) (let e : i ≡ length (tableAt s (t .at) .fields) = omega (arith, arity-of s t q) in e))

@@ -67,7 +67,8 @@ module _ {s W M : List ℕ} {i at list n : ℕ} (a : SweepAsks s W M i at list n
     -- a table has no more rows than the book has bytes
     pub rows-in : low + 256 * high ≤ lengthLimit
     rows-in =
-        go (rowsOf s at) (rowsOf s at * arityAt s at) rows (subst (_≤ rowsOf s at * arityAt s at) (mul-one (rowsOf s at)) (mul-le-mul-left (rowsOf s at) (promised-at .some)))
+        go (rowsOf s at) (rowsOf s at * arityAt s at) rows
+        (subst (_≤ rowsOf s at * arityAt s at) (mul-one (rowsOf s at)) (mul-le-mul-left (rowsOf s at) (promised-at .some)))
         (promised-at .ends)
       where
         go : (x y : ℕ) → low + 256 * high ≡ x → x ≤ y → at + 3 + arityAt s at + y ≤ listPlace s → low + 256 * high ≤ lengthLimit
@@ -153,6 +154,8 @@ module _ {s W M : List ℕ} {t : Shape} {i list n : ℕ} (a : SweepAsks s W M i 
           record {
             removal = subst (λ (v : ℕ). Removal (bookOf s) M P n v) (z ∙ sym xe) (removal-then (h .removal) (r .removal));
             supported = next;
-            queued = subst (λ (v : ℕ). Queued s W M P i d v) (sym ye) (subst (λ (v : List ℕ). Queued s W M v i d e) (sym (r .removal .still z)) (h .queued));
+            queued =
+                subst (λ (v : ℕ). Queued s W M P i d v) (sym ye)
+                (subst (λ (v : List ℕ). Queued s W M v i d e) (sym (r .removal .still z)) (h .queued));
             rest = λ v. ye ∙ h .rest (sym xe ∙ v);
           }
