@@ -53,6 +53,7 @@ module _ {s : List ℕ} {t : Shape} (q : InTable s t) {j : ℕ} (jl : j < t .ari
       found : FirstAt (length (tableAt s (t .at) .rows)) from (rowCases M left (tableAt s (t .at)) j) r v
       found = subst (FirstIs (length (tableAt s (t .at) .rows)) from (rowCases M left (tableAt s (t .at)) j)) d answer
 
+      -- it is one of the rows left
       pub row-later : from ≤ r
       row-later = found .later
 
@@ -60,6 +61,7 @@ module _ {s : List ℕ} {t : Shape} (q : InTable s t) {j : ℕ} (jl : j < t .ari
       row-below = subst (r <_) (rows-of s t q) (found .below)
 
       module _ {c : ℕ} (ce : c ≡ byte s (t .first + r * t .arity + j)) where
+        -- c is its code in column j
         pub code-below : c < codeLimit
         code-below = own-in s t q r j row-below jl c ce
 

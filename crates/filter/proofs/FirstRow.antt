@@ -118,6 +118,7 @@ module _ (M : List ℕ) (t : Table) (j c k : ℕ) (need : List ℕ) (one : OneMa
 
 -- Document 01's question, of a table of an accepted book: need asks for one code in one case, and the search begins at row 0
 module _ (s : List ℕ) (t : Shape) (q : InTable s t) (M : List ℕ) (j c k : ℕ) (need : List ℕ) (one : OneMark need c k) where
+  -- the answer is the first supporting row of the table, or nothing where it has none
   pub first-row : (x : Found) → x ≡ firstFrom (t .rows - 0) 0 (rowCases M need (tableAt s (t .at)) j)
       → FirstRow (domainOf M k) (tableAt s (t .at)) j c k x
   first-row x e =

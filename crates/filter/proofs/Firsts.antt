@@ -53,6 +53,7 @@ pub record FirstAt (n from : ℕ) (g : ℕ → ℕ) (r v : ℕ) : Type 0 where
   pub some : v ≡ 0 → ⊥
   pub none : (q : ℕ) → from ≤ q → q < r → g q ≡ 0
 
+-- what each answer says
 abbrev pub FirstIs : ℕ → ℕ → (ℕ → ℕ) → Found → Type 0
 FirstIs n from g (Row r v) = FirstAt n from g r v
 FirstIs n from g Nothing = (q : ℕ) → from ≤ q → q < n → g q ≡ 0

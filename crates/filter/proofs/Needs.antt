@@ -85,6 +85,7 @@ looks-none M f = record { words = Î» c l. absurd (not-suc-le-zero l); beyond = Î
     zeros (suc n) zero = refl
     zeros (suc n) (suc c) = zeros n c
 
+-- no code has a case yet
 pub counted-none : Counted (replicate codeLimit 0) 0
 unfolding needing
 counted-none = record { full = refl; are = refl }

@@ -32,7 +32,7 @@ other false y p e = absurd p
 
 module _ (M : List ℕ) (t : Table) (j : ℕ) where
   -- row r of t supports code c in column j in case k
-  abbrev pub Supports : ℕ → ℕ → ℕ → Type 0
+  abbrev Supports : ℕ → ℕ → ℕ → Type 0
   Supports c k r = T (rowSupports (domainOf M k) t j c r)
 
   -- of the cases of need, left has those in which no row below from supports the code, and all others are supported
@@ -108,7 +108,8 @@ module _ (M : List ℕ) (t : Table) (j : ℕ) where
           ap (λ (x : ℕ). bit x k) (sym (f .value)) ∙ row-has r k (f .below)
           ∙ ap (λ (x : ℕ). bit (getD left x 0) k && rowSupports (domainOf M k) t j x r) (sym ce)
 
-      pub taken-within : Within v (getD left c 0)
+      -- its cases are among those that remain
+      taken-within : Within v (getD left c 0)
       taken-within k b = and-left (bit (getD left c 0) k) (rowSupports (domainOf M k) t j c r) (subst T (v-bit k) b)
 
       -- so the code had a case
@@ -158,6 +159,7 @@ module _ (M : List ℕ) (t : Table) (j : ℕ) where
               (sym (here k) ∙ ap (λ (x : ℕ). bit (getD next x 0) k) (sym q) ∙ e))))
           go (no n) = absurd (false-T (ap (λ (x : ℕ). bit x k) (sym (elsewhere d n)) ∙ e) b)
 
+      -- the rows below r + 1 are passed
       pub remaining-next : Remaining need next (r + 1)
       remaining-next =
           record {

@@ -34,6 +34,7 @@ module _ {s M : List ℕ} {t : Shape} {j f k n : ℕ} (a : ReviseAsks s M t j f 
   codes-of : codes (bookOf s) f ≡ k
   codes-of = counts-view s f known ∙ sym (a .codes-are)
 
+  -- f and its codes have words among the marks
   pub few : k ≤ codeLimit
   few = omega (arith, codes-of, codes-few s (a .table .promise) f)
 

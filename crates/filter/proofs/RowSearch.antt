@@ -42,6 +42,7 @@ module _ (s : List ℕ) (t : Shape) (q : InTable s t) where
         ap₂ bitAnd ve (ap₂ (wordAt M) (fe ∙ field-is s t q i il) (ce ∙ code-is s t q r i rl il))
         ∙ sym (narrowed-and M (tableAt s (t .at)) j r w i ij)
 
+    -- column j itself is left out
     pub column-skip : (i v w : ℕ) → i ≡ j → v ≡ narrowed M (tableAt s (t .at)) j r w i → v ≡ narrowed M (tableAt s (t .at)) j r w (i + 1)
     column-skip i v w ij ve = ve ∙ sym (narrowed-skip M (tableAt s (t .at)) j r w i ij)
 

@@ -53,6 +53,7 @@ module _ {M N left : List ℕ} {f s : ℕ} (c : ℕ) {u : ℕ} (words : length M
       go : (u s x y : ℕ) → u ≡ s + x → u + y ≡ s + (x + y)
       go u s x y e = omega arith
 
+  -- the cases of code c are struck too
   pub struck-next : {r : ℕ} → r ≡ cases c → Struck M (set N (f * codeLimit + c) v) left f (c + 1) s (u + r)
   struck-next {r} e =
       record {

@@ -31,6 +31,7 @@ pub record SweptTo (s W M N : List ℕ) (i at j n m d e : ℕ) : Type 0 where
   pub queued : Queued s W M N i d e
   pub rest : m ≡ n → e ≡ d
 
+-- no column yet
 pub swept-none : {s W M : List ℕ} {i at n d : ℕ} → SweptTo s W M M i at 0 n n d d
 swept-none {s} {W} {M} {i} {at} {n} =
     record { removal = removal-none (bookOf s) M n; supported = λ l h. absurd (not-suc-le-zero h); queued = queued-none; rest = λ e. refl }
@@ -96,6 +97,7 @@ module _ {s W M : List ℕ} {t : Shape} {i list n : ℕ} (a : SweepAsks s W M i 
     pub field-below : f < fieldCount s
     field-below = subst (_< fieldCount s) (sym (fe ∙ field-is s t q j jl)) (field-known s t q j jl)
 
+    -- so it has a word of tables
     pub field-word : f < places
     field-word = omega (arith, field-below, fields-few s (a .promise))
 
