@@ -1,9 +1,10 @@
 -- What computed tests say: `&&`, `||`, `not`, equality of numbers, and a test at each number below n, or at some. Assumes nothing.
-use mathlib.Core.Path.{_≡_, refl, sym, ap, ap₂, subst}
+use mathlib.Core.Path.{_≡_, refl, sym, subst}
 use mathlib.Core.Logic.{_⊎_, inl, inr, ⊎-elim}
 use mathlib.Core.Bool.{Bool, true, false, not, _&&_, _||_}
-use Prim.Native.Nat.{ℕ, zero, suc, _<_}
+use Prim.Native.Nat.{ℕ, zero, suc, _+_, _<_}
 use native.Mathlib.Nat.{le-trans, le-suc, lt-suc-self, not-suc-le-zero, le-of-suc-le-suc, eq-or-lt-of-le}
+use native.Mathlib.Omega.{arith}
 use lib.Dec.{T, eqb, eqb-refl}
 use Rattle.consistency.specs.Counting.{allBelow, anyBelow}
 
@@ -70,6 +71,10 @@ eq→eqb {m} {n} e = subst (λ (k : ℕ). T (eqb m k)) e (eqb-refl m)
 pub below-suc : {k n : ℕ} → k < suc n → (k ≡ n) ⊎ (k < n)
 below-suc h = eq-or-lt-of-le (le-of-suc-le-suc h)
 
+-- one more on either side
+pub suc-shift : (i k : ℕ) → suc i + k ≡ i + suc k
+suc-shift i k = omega arith
+
 -- what holds of each number below suc n holds of each below n
 pub below-less : {n : ℕ} (P : ℕ → Type 0) → ((k : ℕ) → k < suc n → P k) → (k : ℕ) → k < n → P k
 below-less {n} P h k l = h k (le-trans l (le-suc n))
@@ -100,8 +105,8 @@ any-out (suc n) p t =
 -- tests that are equal at each number below n
 pub all-ext : (n : ℕ) (p q : ℕ → Bool) → ((k : ℕ) → k < n → p k ≡ q k) → allBelow n p ≡ allBelow n q
 all-ext zero p q h = refl
-all-ext (suc n) p q h = ap₂ _&&_ (all-ext n p q (below-less (λ k. p k ≡ q k) h)) (h n (lt-suc-self n))
+all-ext (suc n) p q h = rw (all-ext n p q (below-less (λ k. p k ≡ q k) h), h n (lt-suc-self n))
 
 pub any-ext : (n : ℕ) (p q : ℕ → Bool) → ((k : ℕ) → k < n → p k ≡ q k) → anyBelow n p ≡ anyBelow n q
 any-ext zero p q h = refl
-any-ext (suc n) p q h = ap₂ _||_ (any-ext n p q (below-less (λ k. p k ≡ q k) h)) (h n (lt-suc-self n))
+any-ext (suc n) p q h = rw (any-ext n p q (below-less (λ k. p k ≡ q k) h), h n (lt-suc-self n))

@@ -1,6 +1,6 @@
 -- The number of a field's codes in a subdomain, and of the book's codes outside it. Assumes nothing.
-use mathlib.Core.Path.{_≡_, ap, ap₂, subst}
-use mathlib.Core.Bool.{Bool, true, not}
+use mathlib.Core.Path.{_≡_, ap}
+use mathlib.Core.Bool.{true, not}
 use Prim.Native.Nat.{ℕ, suc, _+_, _<_}
 use native.Mathlib.Decide.{decLt}
 use native.Mathlib.Omega.{arith}
@@ -25,6 +25,17 @@ pub codes-in-and-out : (b : Book) (S : Subdomain) (f : ℕ) → codesIn b S f + 
 unfolding codesIn
 codes-in-and-out b S f = many-not (codes b f) (S f)
 
+-- removing one code adds one to the codes outside
+pub outside-without : (b : Book) (S S′ : Subdomain) (f c : ℕ) → c < codes b f → S f c ≡ true → Without S S′ f c
+    → outside b S′ ≡ suc (outside b S)
+unfolding outside
+outside-without b S S′ f c l t w =
+    sum-one (length (b .counts)) (λ g. howMany (codes b g) (λ d. not (S g d))) (λ g. howMany (codes b g) (λ d. not (S′ g d)))
+    f (field-in b f c l)
+    (many-one (codes b f) (λ d. not (S f d)) (λ d. not (S′ f d)) c l (ap not t) (ap not (w .gone)) (λ d n. ap not (w .rest f d (λ q. n (q .1)))))
+    (λ g n. many-ext (codes b g) (λ d. not (S′ g d)) (λ d. not (S g d)) (λ d k. ap not (w .rest g d (λ q. n (q .0)))))
+
+-- the counts turn on the book's codes alone
 module _ (b : Book) (R S : Subdomain) (same : (f c : ℕ) → c < codes b f → R f c ≡ S f c) where
   pub codes-in-ext : (f : ℕ) → codesIn b R f ≡ codesIn b S f
   unfolding codesIn
@@ -35,13 +46,3 @@ module _ (b : Book) (R S : Subdomain) (same : (f c : ℕ) → c < codes b f → 
   outside-ext =
       sum-ext (length (b .counts)) (λ f. howMany (codes b f) (λ c. not (R f c))) (λ f. howMany (codes b f) (λ c. not (S f c)))
       (λ f l. many-ext (codes b f) (λ c. not (R f c)) (λ c. not (S f c)) (λ c k. ap not (same f c k)))
-
--- removing one code adds one to the codes outside
-pub outside-without : (b : Book) (S S′ : Subdomain) (f c : ℕ) → c < codes b f → S f c ≡ true → Without S S′ f c
-    → outside b S′ ≡ suc (outside b S)
-unfolding outside
-outside-without b S S′ f c l t w =
-    sum-one (length (b .counts)) (λ g. howMany (codes b g) (λ d. not (S g d))) (λ g. howMany (codes b g) (λ d. not (S′ g d)))
-    f (field-in b f c l)
-    (many-one (codes b f) (λ d. not (S f d)) (λ d. not (S′ f d)) c l (ap not t) (ap not (w .gone)) (λ d n. ap not (w .rest f d (λ q. n (q .1)))))
-    (λ g n. many-ext (codes b g) (λ d. not (S′ g d)) (λ d. not (S g d)) (λ d k. ap not (w .rest g d (λ q. n (q .0)))))

@@ -16,6 +16,7 @@ use Rattle.consistency.specs.Largest.{Domains, start, count, largestDoma
 use Rattle.consistency.proofs.Booleans.{T-ext}
 use Rattle.consistency.proofs.Rounds.{start-of-book, start-within, start-holds-all, rounds-inside, rounds-hold-all, rounds-consistent}
 
+-- it fits, and has every subdomain that fits inside
 pub largest-is : (b : Book) (a : List ℕ) → IsLargest b a (largest b a)
 unfolding largestDomains
 largest-is b a =
@@ -57,6 +58,7 @@ fits-fewer {b} {a} {a′} {S} w h =
     within-fewer f c n t (inl e) = absurd (n e)
     within-fewer f c n t (inr e) = h .within f c (λ q. n (e ∙ q)) t ∙ sym e
 
+-- with fewer answers the largest subdomain is larger
 pub largest-grows : (b : Book) (a a′ : List ℕ) → Fewer a′ a → Inside (largest b a) (largest b a′)
 largest-grows b a a′ w = largest-is b a′ .has-all (largest b a) (fits-fewer w (largest-is b a .fits))
 
@@ -69,5 +71,6 @@ relax-fewer a f g = at (ℕ-discrete g f) (decLt f (length a))
     at (yes e) (yes l) = inl (ap (answer (relax a f)) e ∙ getD-set-same a f 255 255 l)
     at (yes e) (no n) = inr (ap (λ (x : List ℕ). answer x g) (set-out a f 255 (omega arith)))
 
+-- and so it is with a field relaxed
 pub relax-grows : (b : Book) (a : List ℕ) (f : ℕ) → Inside (largest b a) (largest b (relax a f))
 relax-grows b a f = largest-grows b a (relax a f) (relax-fewer a f)

@@ -7,3 +7,14 @@ pub mod Loops
 pub mod Members
 pub mod Sums
 pub mod CodeCounts
+pub mod Lines
+pub mod Masks
+pub mod SameLargest
+pub mod Positions
+pub mod Tables
+pub mod AlikeLaws
+pub mod CountsAlike
+pub mod AlikeExample
+pub mod Answers
+pub mod Chains
+pub mod ChainsExample

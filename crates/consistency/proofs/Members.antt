@@ -1,6 +1,6 @@
 -- Membership in lists that are mapped, joined or picked below a bound, and the order of such lists. Assumes nothing.
-use mathlib.Core.Path.{_≡_, refl, sym, ap₂, subst}
-use mathlib.Core.Logic.{_⊎_, inl, inr, ⊎-elim, _↔_}
+use mathlib.Core.Path.{_≡_, refl, sym, subst}
+use mathlib.Core.Logic.{⊎-elim}
 use mathlib.Core.Bool.{Bool, true, false}
 use mathlib.Core.List.{List, [], _∷_, _++_, map, List·Memᴰ·head, List·Memᴰ·tail, List·Memᴰ·not-nil, List·Memᴰ·cases-cons, List·Memᴰ·append-cases, List·Memᴰ·eq-of-singleton, Memᴰ·append-left, Memᴰ·append-right}
 use Prim.Native.Nat.{ℕ, zero, suc, _<_}
@@ -27,6 +27,7 @@ in-join {B} g (x ∷ xs) {y} m =
     ⊎-elim {C = (z : ℕ) × In z (x ∷ xs) × In y (g z)} (λ (n : In y (g x)). (x, List·Memᴰ·head refl, n))
     (λ (n : In y (joinOver xs g)). let r = in-join g xs n in (r .0, List·Memᴰ·tail (r .1), r .2)) (List·Memᴰ·append-cases (g x) m)
 
+-- an element of one of them is an element of the joined lists
 pub join-in : {B : Type 0} (g : ℕ → List B) (xs : List ℕ) {x : ℕ} {y : B} → In x xs → In y (g x) → In y (joinOver xs g)
 join-in g [] m n = absurd (List·Memᴰ·not-nil m)
 join-in {B} g (z ∷ xs) {x} {y} m n =
@@ -42,16 +43,17 @@ pick-in : (x : Bool) {n k : ℕ} → T x → k ≡ n → In k (pick x (n ∷ [])
 pick-in true t e = List·Memᴰ·head e
 pick-in false t e = absurd t
 
--- `those n p` has the numbers below n of which p holds, and no other
+-- `those n p` has only numbers below n of which p holds
 pub in-those : (n : ℕ) (p : ℕ → Bool) {k : ℕ} → In k (those n p) → (k < n) × T (p k)
 in-those zero p m = absurd (List·Memᴰ·not-nil m)
 in-those (suc n) p {k} m =
     ⊎-elim {C = (k < suc n) × T (p k)} (λ (h : In k (those n p)). let r = in-those n p h in (le-trans (r .0) (le-suc n), r .1))
     (λ (h : In k (pick (p n) (n ∷ []) [])).
-        let r = in-pick (p n) h in
-        (subst (λ (i : ℕ). i < suc n) (sym (r .1)) (lt-suc-self n), subst (λ (i : ℕ). T (p i)) (sym (r .1)) (r .0)))
+    let r = in-pick (p n) h in
+    (subst (λ (i : ℕ). i < suc n) (sym (r .1)) (lt-suc-self n), subst (λ (i : ℕ). T (p i)) (sym (r .1)) (r .0)))
     (List·Memᴰ·append-cases (those n p) m)
 
+-- a number below n of which p holds is in `those n p`
 pub those-in : (n : ℕ) (p : ℕ → Bool) {k : ℕ} → k < n → T (p k) → In k (those n p)
 those-in zero p l t = absurd (not-suc-le-zero l)
 those-in (suc n) p {k} l t =
@@ -76,7 +78,7 @@ module _ {A : Type 0} (R : A → A → Type 0) where
   append-in-order [] ys p q h = q
   append-in-order (x ∷ xs) ys p q h = (
     all-in-list (R x) (xs ++ ys)
-    (λ z m.
+        (λ z m.
         ⊎-elim (λ (n : In z xs). of-member (R x) xs (p .0) z n) (λ (n : In z ys). h x z (List·Memᴰ·head refl) n)
         (List·Memᴰ·append-cases xs m)),
     append-in-order xs ys (p .1) q (λ z y m k. h z y (List·Memᴰ·tail m) k),
@@ -87,7 +89,7 @@ module _ {A : Type 0} (R : A → A → Type 0) where
   map-in-order g h [] p = tt
   map-in-order g h (i ∷ is) p = (
     all-in-list (R (g i)) (map g is)
-    (λ y m.
+        (λ y m.
         let r = in-map g is m in
         subst (R (g i)) (sym (r .2)) (h i (r .0) (of-member (λ k. i < k) is (p .0) (r .0) (r .1)))),
     map-in-order g h is (p .1),
@@ -100,9 +102,10 @@ module _ {A : Type 0} (R : A → A → Type 0) where
   join-in-order g o h (i ∷ is) p =
       append-in-order (g i) (joinOver is g) (o i) (join-in-order g o h is (p .1))
       (λ x y m n.
-          let r = in-join g is n in
-          h i (r .0) (of-member (λ k. i < k) is (p .0) (r .0) (r .1)) x y m (r .2))
+      let r = in-join g is n in
+      h i (r .0) (of-member (λ k. i < k) is (p .0) (r .0) (r .1)) x y m (r .2))
 
+-- one number or none rises
 pick-rising : (x : Bool) (n : ℕ) → Pairwise _<_ (pick x (n ∷ []) [])
 pick-rising true n = (tt, tt)
 pick-rising false n = tt

@@ -1,5 +1,5 @@
 -- Where the rounds start, what each keeps, and that enough of them leave an arc-consistent subdomain. Assumes nothing.
-use mathlib.Core.Path.{_≡_, refl, sym, ap, ap₂, _∙_, subst}
+use mathlib.Core.Path.{_≡_, refl, sym, ap, _∙_, subst}
 use mathlib.Core.Logic.{⊎-elim, _≢_}
 use mathlib.Core.Bool.{true, _&&_}
 use mathlib.Core.List.{List, map}
@@ -10,7 +10,7 @@ use native.Mathlib.Omega.{arith}
 use lib.ListN.{replicate}
 use lib.Dec.{T, eqb, ltb, eqb→eq, ltb→lt, lt→ltb}
 use Rattle.format.specs.Format.{Book}
-use Rattle.consistency.specs.Consistency.{Subdomain, codes, nth, answer, ArcConsistent, OfBook, WithinAnswers, Inside, HoldsAll}
+use Rattle.consistency.specs.Consistency.{codes, nth, answer, ArcConsistent, OfBook, WithinAnswers, Inside, HoldsAll}
 use Rattle.consistency.specs.Largest.{Domains, has, remove, count, bookSupports, allowed, start, rounds, largestDomains}
 use Rattle.consistency.proofs.Booleans.{and-in, and-left, and-right, or-left, or-right, or-out, eq→eqb}
 use Rattle.consistency.proofs.Supports.{support-grows, book-in, book-out}
@@ -26,14 +26,17 @@ module _ (b : Book) (a : List ℕ) where
       remove-at (allowed a) (map (λ (n : ℕ). replicate n true) (b .counts)) f c
       ∙ ap (_&& allowed a f c) (every-at (b .counts) f c)
 
+  -- the start has codes of the book only
   pub start-of-book : OfBook b (has (start b a))
   start-of-book f c t = ltb→lt c (codes b f) (and-left (ltb c (codes b f)) (allowed a f c) (subst T (start-at f c) t))
 
+  -- the start has, of an answered field, at most the answered code
   pub start-within : WithinAnswers a (has (start b a))
   start-within f c n t =
       ⊎-elim (λ (q : T (eqb (answer a f) 255)). absurd (n (eqb→eq (answer a f) 255 q))) (λ (q : T (eqb c (answer a f))). eqb→eq c (answer a f) q)
       (or-out (eqb (answer a f) 255) (eqb c (answer a f)) (and-right (ltb c (codes b f)) (allowed a f c) (subst T (start-at f c) t)))
 
+  -- the answers allow a code that is the answered one where there is an answer
   allowed-in : (f c : ℕ) → (answer a f ≢ 255 → c ≡ answer a f) → Dec (answer a f ≡ 255) → T (allowed a f c)
   allowed-in f c h (yes e) = or-left (eqb (answer a f) 255) (eqb c (answer a f)) (eq→eqb e)
   allowed-in f c h (no n) = or-right (eqb (answer a f) 255) (eqb c (answer a f)) (eq→eqb (h n))
@@ -52,9 +55,11 @@ module _ (b : Book) where
   abbrev round : Domains → Domains
   round m = remove (bookSupports b (has m)) 0 m
 
+  -- a round adds nothing
   round-inside : (m : Domains) → Inside (has (round m)) (has m)
   round-inside m f c t = and-left (has m f c) (bookSupports b (has m) f c) (subst T (remove-at (bookSupports b (has m)) m f c) t)
 
+  -- rounds add nothing
   pub rounds-inside : (n : ℕ) (m : Domains) → Inside (has (rounds b n m)) (has m)
   unfolding rounds
   rounds-inside zero m f c t = t
@@ -67,6 +72,7 @@ module _ (b : Book) where
       (and-in (has m f c) (bookSupports b (has m) f c) (h R r f c t)
       (book-in b (has m) f c (λ i l j k e. support-grows (h R r) (nth b i) j c (r .consistent f c t i l j k e))))
 
+  -- rounds keep every subdomain that fits
   pub rounds-hold-all : (a : List ℕ) (n : ℕ) (m : Domains) → HoldsAll b a (has m) → HoldsAll b a (has (rounds b n m))
   unfolding rounds
   rounds-hold-all a zero m h = h
@@ -95,6 +101,7 @@ module _ (b : Book) where
       (and-right (has q f c) (bookSupports b (has q) f c)
       (subst T (remove-at (bookSupports b (has q)) q f c) (subst (λ (x : Domains). T (has x f c)) (sym (rounds-fixed n m l)) t)))
 
+  -- rounds, then more
   rounds-add : (n k : ℕ) (m : Domains) → rounds b (n + k) m ≡ rounds b k (rounds b n m)
   unfolding rounds
   rounds-add zero k m = ap (λ (i : ℕ). rounds b i m) (zero-add k)

@@ -3,38 +3,43 @@
 use mathlib.Core.Path.{_≡_, refl, sym, ap, ap₂, _∙_, subst}
 use mathlib.Core.Logic.{_⊎_, inl, inr, _≢_}
 use mathlib.Core.Bool.{Bool, true, false, not}
-use mathlib.Core.List.{List, [], _∷_, _++_, List·Memᴰ·head, List·Memᴰ·tail}
+use mathlib.Core.List.{List, [], _∷_, List·Memᴰ·head, List·Memᴰ·tail}
 use Prim.Native.Nat.{ℕ, zero, suc, _+_, _<_}
-use native.Mathlib.Nat.{lt-suc-self, not-suc-le-zero}
+use native.Mathlib.Nat.{lt-suc-self, not-suc-le-zero, le-of-suc-le-suc, add-zero}
 use native.Mathlib.Omega.{arith}
-use lib.ListN.{length, length-append}
+use lib.ListN.{length, getD, length-append}
 use Rattle.format.specs.Basics.{pick}
-use Rattle.consistency.specs.Counting.{howMany, those, sumBelow, sumOver, joinOver}
+use Rattle.consistency.specs.Counting.{howMany, those, sumBelow, sumOver, joinOver, tabulate}
 use Rattle.consistency.specs.Order.{In}
-use Rattle.consistency.proofs.Booleans.{below-suc, below-less}
+use Rattle.consistency.proofs.Booleans.{below-suc, below-less, suc-shift}
 
 -- ---- equal values
 
+-- tests equal below n hold equally often
 pub many-ext : (n : ℕ) (p q : ℕ → Bool) → ((k : ℕ) → k < n → p k ≡ q k) → howMany n p ≡ howMany n q
 many-ext zero p q h = refl
 many-ext (suc n) p q h =
-    ap₂ (λ (x : ℕ) (y : Bool). x + pick y 1 0) (many-ext n p q (below-less (λ k. p k ≡ q k) h)) (h n (lt-suc-self n))
+    rw (many-ext n p q (below-less (λ k. p k ≡ q k) h), h n (lt-suc-self n))
 
+-- tests equal below n hold of the same numbers
 pub those-ext : (n : ℕ) (p q : ℕ → Bool) → ((k : ℕ) → k < n → p k ≡ q k) → those n p ≡ those n q
 those-ext zero p q h = refl
 those-ext (suc n) p q h =
-    ap₂ (λ (x : List ℕ) (y : Bool). x ++ pick y (n ∷ []) []) (those-ext n p q (below-less (λ k. p k ≡ q k) h)) (h n (lt-suc-self n))
+    rw (those-ext n p q (below-less (λ k. p k ≡ q k) h), h n (lt-suc-self n))
 
+-- functions equal below n have the same sum
 pub sum-ext : (n : ℕ) (g h : ℕ → ℕ) → ((k : ℕ) → k < n → g k ≡ h k) → sumBelow n g ≡ sumBelow n h
 sum-ext zero g h e = refl
-sum-ext (suc n) g h e = ap₂ _+_ (sum-ext n g h (below-less (λ k. g k ≡ h k) e)) (e n (lt-suc-self n))
+sum-ext (suc n) g h e = rw (sum-ext n g h (below-less (λ k. g k ≡ h k) e), e n (lt-suc-self n))
 
+-- functions equal on a list have the same sum over it
 pub sum-over-ext : (xs : List ℕ) (g h : ℕ → ℕ) → ((x : ℕ) → In x xs → g x ≡ h x) → sumOver xs g ≡ sumOver xs h
 sum-over-ext [] g h e = refl
 sum-over-ext (x ∷ xs) g h e = ap₂ _+_ (e x (List·Memᴰ·head refl)) (sum-over-ext xs g h (λ y m. e y (List·Memᴰ·tail m)))
 
 -- ---- lengths
 
+-- one number where the test passes
 pick-length : (x : Bool) (n : ℕ) → length (pick x (n ∷ []) []) ≡ pick x 1 0
 pick-length true n = refl
 pick-length false n = refl
@@ -45,12 +50,29 @@ length-those zero p = refl
 length-those (suc n) p =
     length-append (those n p) (pick (p n) (n ∷ []) []) ∙ ap₂ _+_ (length-those n p) (pick-length (p n) n)
 
+-- joined lists are as long as all of them together
 pub length-join : {A : Type 0} (xs : List ℕ) (g : ℕ → List A) → length (joinOver xs g) ≡ sumOver xs (λ x. length (g x))
 length-join [] g = refl
 length-join (x ∷ xs) g = length-append (g x) (joinOver xs g) ∙ ap (λ (n : ℕ). length (g x) + n) (length-join xs g)
 
+-- n values
+pub length-tabulate : {A : Type 0} (g : ℕ → A) (n i : ℕ) → length (tabulate g n i) ≡ n
+unfolding tabulate
+length-tabulate g zero i = refl
+length-tabulate g (suc n) i = ap suc (length-tabulate g n (suc i))
+
+-- ---- elements
+
+-- value k from i on
+pub tabulate-at : {A : Type 0} (g : ℕ → A) (n i k : ℕ) (z : A) → k < n → getD (tabulate g n i) k z ≡ g (i + k)
+unfolding tabulate
+tabulate-at g zero i k z l = absurd (not-suc-le-zero l)
+tabulate-at g (suc n) i zero z l = ap g (sym (add-zero i))
+tabulate-at g (suc n) i (suc k) z l = tabulate-at g n (suc i) k z (le-of-suc-le-suc l) ∙ ap g (suc-shift i k)
+
 -- ---- a test and its negation
 
+-- a test or its negation passes, not both
 one-of-two : (x : Bool) → pick x 1 0 + pick (not x) 1 0 ≡ 1
 one-of-two true = refl
 one-of-two false = refl

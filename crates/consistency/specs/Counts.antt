@@ -1,6 +1,6 @@
 -- Document 01, "The sheet and its one pass": the cases, and what the pass counts and lists over them. Assumes nothing.
-use Prim.Native.Nat.{ℕ, zero, suc, _+_, _*_, _^_}
-use mathlib.Core.List.{List, [], _∷_, _++_, map}
+use Prim.Native.Nat.{ℕ, zero, suc, _+_, _/_, _%_, _^_}
+use mathlib.Core.List.{List, [], _∷_, map}
 use mathlib.Core.Bool.{Bool, not}
 use lib.ListN.{length}
 use lib.Dec.{eqb}
@@ -54,6 +54,10 @@ lines b a = joinOver (relaxable b a) (λ f. linesOf b (listed b a f) f)
 abbrev pub lineBytes : List Line → List ℕ
 lineBytes [] = []
 lineBytes (l ∷ ls) = l .field ∷ l .code ∷ lineBytes ls
+
+-- bit c of m is set
+abbrev pub bit : ℕ → ℕ → Bool
+bit m c = eqb (m / 2 ^ c % 2) 1
 
 -- the number whose bit c is set exactly when p holds of c, for c below n
 abbrev pub mask : ℕ → (ℕ → Bool) → ℕ

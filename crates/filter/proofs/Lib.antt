@@ -3,12 +3,20 @@ pub mod Bits
 pub mod Words
 pub mod Removals
 pub mod Limits
+pub mod Lists
+pub mod Stores
+pub mod Starts
+pub mod StartFields
+pub mod CaseWords
 pub mod Surveys
 pub mod Firsts
 pub mod Shapes
 pub mod Narrowing
 pub mod RowSearch
 pub mod FirstRow
+pub mod StartDomains
+pub mod CaseMarks
+pub mod Ends
 pub mod Needs
 pub mod Remaining
 pub mod ColumnSearch
@@ -20,3 +28,6 @@ pub mod Queueing
 pub mod Sweeps
 pub mod Propagation
 pub mod Totals
+pub mod Gathers
+pub mod Passes
+pub mod Agreement

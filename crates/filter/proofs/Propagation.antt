@@ -16,16 +16,17 @@ use Rattle.format.specs.Format.{Table, Book, codeLimit, tableCount, arityAt, ta
 use Rattle.format.specs.Promise.{Promise, place}
 use Rattle.format.proofs.Views.{tables-count, table-view, table-field, table-arity}
 use Rattle.consistency.specs.Counting.{howMany}
-use Rattle.consistency.specs.Consistency.{places, fieldOf, codeOf, nth, Support, ArcConsistent, OfBook}
+use Rattle.consistency.specs.Consistency.{fieldOf, codeOf, nth, Support, ArcConsistent}
 use Rattle.consistency.proofs.Booleans.{T-true, T-false, true-T, false-T, and-in, and-left}
-use Rattle.consistency.proofs.Sums.{many-not}
 use Rattle.consistency.proofs.Loops.{loop-ends}
 use Rattle.filter.specs.Words.{bit, wordAt, domainOf, standing}
-use Rattle.filter.specs.Revise.{Removal, Room, TableSupported, Watches, Swept}
+use Rattle.filter.specs.Revise.{Removal, TableSupported, Watches, Swept}
+use Rattle.filter.specs.Asks.{SweepAsks}
 use Rattle.filter.specs.Queue.{PropagateGiven, Propagated}
+use Rattle.filter.proofs.Tallies.{many-le}
 use Rattle.filter.proofs.Bits.{Within, bit-without, many-without, ones-many, ones-pos, zero-bit, one-bit, shl-one, lowest, bit-small, later-bit}
 use Rattle.filter.proofs.Words.{domain-small}
-use Rattle.filter.proofs.Removals.{removal-none, removal-then, removal-room}
+use Rattle.filter.proofs.Removals.{removal-none, removal-then, removal-marks}
 
 -- ---- the table taken next
 
@@ -109,10 +110,8 @@ pub record PropagatedTo (s M N : List ℕ) (n m d : ℕ) : Type 0 where
 unfoldable pub size : Book → List ℕ → ℕ → ℕ
 size b M d = standing b M * 65 + howMany 64 (bit d)
 
-many-le : (n : ℕ) (p : ℕ → Bool) → howMany n p ≤ n
-many-le n p = omega (arith, many-not n p)
-
 module _ {s M W P : List ℕ} {list n d₀ : ℕ} (q : PropagateGiven s M W P list n d₀) where
+  -- each table is queued
   pub propagated-none : d₀ < 2 ^ 64 → PropagatedTo s M M n n d₀
   propagated-none l =
       record {
@@ -123,17 +122,20 @@ module _ {s M W P : List ℕ} {list n d₀ : ℕ} (q : PropagateGiven s M W P li
       }
 
   module _ (N : List ℕ) (m d z : ℕ) (x : PropagatedTo s M N n m d) (there : T (bit d z)) where
-    pub table-in : z < tableCount s
+    table-in : z < tableCount s
     table-in = x .tables z there
 
-    pub place-is : getD P z 0 ≡ place s z
-    place-is = q .placed z table-in
-
-    pub room-left : Room (bookOf s) N m
-    room-left = removal-room (x .removal) (q .room)
-
-    pub words-left : length N ≡ places * codeLimit
-    words-left = x .removal .same-length ∙ q .words
+    -- what sweeping table z asks
+    pub sweep-asks : SweepAsks s W N z (getD P z 0) list m
+    sweep-asks =
+        record {
+          promise = q .promise;
+          index-in = table-in;
+          at-is = q .placed z table-in;
+          list-is = q .list-is;
+          watches = q .watches;
+          marks = removal-marks (x .removal) (q .marks);
+        }
 
     module _ (L : List ℕ) (u e : ℕ) (sweep : Swept s W N L z m u (bitXor d (1 * 2 ^ z % 2 ^ 64)) e) where
       y : Swept s W N L z m u (less d z (x .small) there) e
@@ -160,6 +162,7 @@ module _ {s M W P : List ℕ} {list n d₀ : ℕ} (q : PropagateGiven s M W P li
             supported = λ h hl v. supported-now h hl v (ℕ-discrete h z);
           }
 
+      -- fewer marks stand, or the same marks stand and fewer tables are queued
       pub propagated-less : size (bookOf s) L e < size (bookOf s) N d
       unfolding size
       propagated-less = go (ℕ-discrete u m)
@@ -182,21 +185,19 @@ module _ {s M W P : List ℕ} {list n d₀ : ℕ} (q : PropagateGiven s M W P li
   -- ---- the end
 
   module _ (N : List ℕ) (m d : ℕ) (x : PropagatedTo s M N n m d) (empty : d ≡ 0) where
-    of-book-left : (k : ℕ) → OfBook (bookOf s) (domainOf N k)
-    of-book-left k f c t = q .of-book k f c (x .removal .inside k f c t)
-
     consistent : (k : ℕ) → ArcConsistent (bookOf s) (domainOf N k)
     consistent k f c t i il j jl e =
         x .supported i (subst (λ (v : ℕ). i < v) (tables-count s) il) (ap (λ (v : ℕ). bit v i) empty ∙ zero-bit i) j jl k c
         (subst (λ (g : ℕ). T (domainOf N k g c)) (sym e) t)
 
+    -- no table is queued: each supports every mark that stands
     pub propagated-all : Propagated s M N n m
     propagated-all =
         record {
           same-length = x .removal .same-length;
           inside = x .removal .inside;
           is-largest = λ k a h w.
-              loop-ends (bookOf s) a (domainOf N k) (x .removal .holds k a h) (of-book-left k) (consistent k)
+              loop-ends (bookOf s) a (domainOf N k) (x .removal .holds k a h) (removal-marks (x .removal) (q .marks) .of-book k) (consistent k)
               (λ f c o t. w f c o (x .removal .inside k f c t));
           counts = x .removal .counts;
         }

@@ -1,11 +1,12 @@
--- Removals of marks follow one another, and the count keeps its room. Assumes nothing.
+-- Removals of marks follow one another, and what is left has what the marks had: it is the book's, and the count has room for it. Assumes nothing.
 use mathlib.Core.Path.{refl, sym, _∙_, subst}
 use mathlib.Core.List.{List}
 use Prim.Native.Nat.{ℕ, _≤_}
 use native.Mathlib.Nat.{le-refl}
 use native.Mathlib.Omega.{arith}
-use Rattle.format.specs.Format.{Book}
+use Rattle.format.specs.Format.{Book, bookOf}
 use Rattle.filter.specs.Revise.{Removal, Room}
+use Rattle.filter.specs.Asks.{Marks}
 
 -- nothing struck
 pub removal-none : (b : Book) (M : List ℕ) (s : ℕ) → Removal b M M s s
@@ -27,3 +28,12 @@ removal-then x y =
 -- what the count grows by, the marks that stand fall by
 pub removal-room : {b : Book} {M N : List ℕ} {s t : ℕ} → Removal b M N s t → Room b M s → Room b N t
 removal-room x l = subst (λ (z : ℕ). z ≤ 1000000) (sym (x .counts)) l
+
+-- the marks left are the book's, and the count has room for them
+pub removal-marks : {s M N : List ℕ} {n m : ℕ} → Removal (bookOf s) M N n m → Marks s M n → Marks s N m
+removal-marks x q =
+    record {
+      words = x .same-length ∙ q .words;
+      of-book = λ k f c t. q .of-book k f c (x .inside k f c t);
+      room = removal-room x (q .room);
+    }

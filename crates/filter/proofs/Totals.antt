@@ -19,6 +19,7 @@ use Rattle.consistency.proofs.Sums.{many-ext, many-sum, many-not, sum-ext}
 use Rattle.consistency.proofs.CodeCounts.{outside-ext}
 use Rattle.filter.specs.Cases.{outsideOver}
 use Rattle.filter.specs.Words.{bit, wordAt, domainOf, standing}
+use Rattle.filter.proofs.Tallies.{sum-add}
 use Rattle.filter.proofs.Words.{domain-bit}
 
 -- ---- sums and counts
@@ -26,10 +27,6 @@ use Rattle.filter.proofs.Words.{domain-bit}
 sum-zero : (n : ℕ) → sumBelow n (λ k. 0) ≡ 0
 sum-zero zero = refl
 sum-zero (suc n) = omega (arith, sum-zero n)
-
-sum-add : (n : ℕ) (g h : ℕ → ℕ) → sumBelow n g + sumBelow n h ≡ sumBelow n (λ k. g k + h k)
-sum-add zero g h = refl
-sum-add (suc n) g h = omega (arith, sum-add n g h)
 
 -- 0 apart, then the others
 sum-front : (n : ℕ) (g : ℕ → ℕ) → sumBelow (suc n) g ≡ g 0 + sumBelow n (λ k. g (suc k))
@@ -66,8 +63,7 @@ module _ (b : Book) (M : List ℕ) (few : (f : ℕ) → codes b f ≤ codeLimit)
   over-add : (g h : ℕ → ℕ → ℕ) → over g + over h ≡ over (λ f c. g f c + h f c)
   over-add g h =
       sum-add (length (b .counts)) (λ f. sumBelow (codes b f) (g f)) (λ f. sumBelow (codes b f) (h f))
-      ∙ sum-ext (length (b .counts)) (λ f. sumBelow (codes b f) (g f) + sumBelow (codes b f) (h f))
-      (λ f. sumBelow (codes b f) (λ c. g f c + h f c)) (λ f l. sum-add (codes b f) (g f) (h f))
+      (λ f. sumBelow (codes b f) (λ c. g f c + h f c)) (λ f l. sum-add (codes b f) (g f) (h f) (λ c. g f c + h f c) (λ c k. refl))
 
   -- case k has or lacks each code of field f
   one-field : (k f : ℕ) → sumBelow (codes b f) (λ c. pick (bit (wordAt M f c) k) 1 0) + howMany (codes b f) (λ c. not (domainOf M k f c)) ≡ codes b f
@@ -82,10 +78,7 @@ module _ (b : Book) (M : List ℕ) (few : (f : ℕ) → codes b f ≤ codeLimit)
   unfolding outside
   one-case k =
       sum-add (length (b .counts)) (λ f. sumBelow (codes b f) (λ c. pick (bit (wordAt M f c) k) 1 0))
-      (λ f. howMany (codes b f) (λ c. not (domainOf M k f c)))
-      ∙ sum-ext (length (b .counts))
-      (λ f. sumBelow (codes b f) (λ c. pick (bit (wordAt M f c) k) 1 0) + howMany (codes b f) (λ c. not (domainOf M k f c)))
-      (codes b) (λ f l. one-field k f)
+      (λ f. howMany (codes b f) (λ c. not (domainOf M k f c))) (codes b) (λ f l. one-field k f)
 
   -- the cases below n
   cases-below : (n : ℕ) → sumBelow n (λ k. outside b (domainOf M k)) + over (λ f c. howMany n (bit (wordAt M f c))) ≡ n * allCodes b

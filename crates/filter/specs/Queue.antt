@@ -1,16 +1,17 @@
 -- The tables' places, the tables of each field, and what emptying the queue of tables does. Assumes nothing.
-use Prim.Native.Nat.{ℕ, _+_, _*_, _<_}
+use Prim.Native.Nat.{ℕ, _+_, _<_}
 use mathlib.Core.Path.{_≡_}
 use mathlib.Core.Logic.{_⊎_}
 use mathlib.Core.List.{List}
 use lib.ListN.{length, getD}
 use lib.Dec.{T}
-use Rattle.format.specs.Format.{codeLimit, tableLimit, tableCount, arityAt, listPlace, bookOf}
+use Rattle.format.specs.Format.{tableLimit, tableCount, arityAt, listPlace, bookOf}
 use Rattle.format.specs.Promise.{Promise, place, fieldAt}
-use Rattle.consistency.specs.Consistency.{places, Inside, OfBook, WithinAnswers, HoldsAll}
+use Rattle.consistency.specs.Consistency.{places, Inside, WithinAnswers, HoldsAll}
 use Rattle.consistency.specs.Largest.{largest}
 use Rattle.filter.specs.Words.{bit, domainOf, standing}
-use Rattle.filter.specs.Revise.{Room, Watches}
+use Rattle.filter.specs.Revise.{Watches}
+use Rattle.filter.specs.Asks.{Marks}
 
 -- ---- the tables' places and fields
 
@@ -22,7 +23,7 @@ pub record WatchGiven (s W : List ℕ) (at arity i : ℕ) : Type 0 where
   pub arity-is : arity ≡ arityAt s at
   pub words : length W ≡ places
 
--- U became W: table i, at `at`, was added to the words of its first j fields, and nothing else
+-- U became W: table i, at `at`, was added to the words of its first j fields, and no other table to any word
 pub record Watched (s U W : List ℕ) (at i j : ℕ) : Type 0 where
   pub same-length : length W ≡ length U
   pub there : (k : ℕ) → k < j → T (bit (getD W (fieldAt s at k) 0) i)
@@ -41,24 +42,22 @@ pub record SurveyGiven (s W P : List ℕ) (tables : ℕ) : Type 0 where
   pub empty : (f : ℕ) → getD W f 0 ≡ 0
   pub room : length P ≡ tableLimit
 
+-- the places of all tables, and the tables of each field
 pub record Surveyed (s W P : List ℕ) : Type 0 where
   pub watches : Watches s W
   pub placed : Placed s P
 
 -- ---- the queue of tables, one bit each
 
--- an accepted book, its tables' places and fields, each table in the queue d and nothing else, room for the count n, and marks M of the
--- book's codes alone
+-- an accepted book with its field list at `list`, its tables' places and fields, and each table in the queue d and nothing else
 pub record PropagateGiven (s M W P : List ℕ) (list n d : ℕ) : Type 0 where
   pub promise : Promise s
   pub list-is : list ≡ listPlace s
-  pub words : length M ≡ places * codeLimit
   pub watches : Watches s W
   pub placed : Placed s P
   pub all : (i : ℕ) → i < tableCount s → T (bit d i)
   pub only : (i : ℕ) → T (bit d i) → i < tableCount s
-  pub room : Room (bookOf s) M n
-  pub of-book : (k : ℕ) → OfBook (bookOf s) (domainOf M k)
+  pub marks : Marks s M n
 
 -- Marks M became N and the count of strikes n became m, and no table is left in the queue
 pub record Propagated (s M N : List ℕ) (n m : ℕ) : Type 0 where

@@ -4,7 +4,8 @@ ghost use mathlib.Core.Logic.{_≢_};
 ghost use Prim.Native.Nat.{_-_, _^_, _≤_, _<_};
 ghost use lib.Dec.{T};
 ghost use Rattle.filter.specs.Words.{bit};
-ghost use Rattle.filter.specs.Queue.{WatchGiven, Watched, SurveyGiven, Surveyed};
+ghost use Rattle.filter.specs.Queue.{WatchGiven, Watched, SurveyGiven, Surveyed, PropagateGiven, Propagated};
+use super::revise::sweep;
 use super::support::wide;
 
 // Adds table i, which stands at `at`, to the words of its fields.
@@ -19,7 +20,7 @@ fn watch_table(book: &[u8], watch: &mut [u64; 32], at: usize, arity: usize, i: u
 }
 
 // The tables' places, and for each field the word of the tables that have it.
-pub fn survey(book: &[u8], watch: &mut [u64; 32], places: &mut [usize; 64], tables: usize)
+pub(crate) fn survey(book: &[u8], watch: &mut [u64; 32], places: &mut [usize; 64], tables: usize)
     requires { ⌜ SurveyGiven (now book) (now watch) (now places) tables ⌝ }
     ensures { λ r. ⌜ Surveyed (now (book .entry)) (now (watch .exit)) (now (places .exit)) ⌝ }
 {
@@ -36,7 +37,7 @@ pub fn survey(book: &[u8], watch: &mut [u64; 32], places: &mut [usize; 64], tabl
 }
 
 // A queue of the first n tables.
-pub fn first_tables(n: usize) -> u64
+pub(crate) fn first_tables(n: usize) -> u64
     requires { ⌜ n ≤ 64 ⌝ }
     ensures { λ r. ⌜ r ≡ 2 ^ n - 1 ⌝ }
 {
@@ -62,4 +63,32 @@ fn next_table(queue: u64, from: usize) -> usize
         return wide32(u64::trailing_zeros(queue));
     }
     from + wide32(u64::trailing_zeros(later))
+}
+
+// Takes tables out of the queue, round and round, until none is left: each strikes what it does not support, and queues the other
+// tables with a field that lost a mark.
+pub(crate) fn propagate(
+    book: &[u8],
+    marks: &mut [u64; 1024],
+    watch: &[u64; 32],
+    places: &[usize; 64],
+    list: usize,
+    s: u32,
+    queue: u64,
+) -> u32
+    requires { ⌜ PropagateGiven (now book) (now marks) (now watch) (now places) list s queue ⌝ }
+    ensures { λ r. ⌜ Propagated (now (book .entry)) (now (marks .entry)) (now (marks .exit)) s r ⌝ }
+{
+    let mut struck = s;
+    let mut tables = queue;
+    let mut from = 0;
+    while tables != 0 {
+        let i = next_table(tables, from);
+        let at = places[i];
+        let pass = sweep(book, marks, watch, list, i, at, struck, tables ^ (1 << i));
+        struck = pass.struck;
+        tables = pass.queue;
+        from = (i + 1) % 64;
+    }
+    struck
 }

@@ -14,15 +14,15 @@ use super::support::support;
 use super::support::wide;
 
 // The cases in which each code still looks for a row that supports it, and the number of codes that have such a case.
-pub struct Need {
-    pub cases: [u64; 32],
-    pub waiting: usize,
+struct Need {
+    cases: [u64; 32],
+    waiting: usize,
 }
 
 // The strikes so far, and the tables to look at again.
-pub struct Pass {
-    pub struck: u32,
-    pub queue: u64,
+pub(crate) struct Pass {
+    pub(crate) struck: u32,
+    pub(crate) queue: u64,
 }
 
 // The cases in which each of the k codes of field f stands.
@@ -124,7 +124,7 @@ fn revise(
 
 // Revises the columns of table i, which stands at `at`, one after another. The other tables with a field that lost a mark
 // join the queue; table i itself need not, since a row that supports a mark in one column keeps its marks in the others.
-pub fn sweep(
+pub(crate) fn sweep(
     book: &[u8],
     marks: &mut [u64; 1024],
     watch: &[u64; 32],

@@ -2,7 +2,7 @@
 use mathlib.Core.Path.{_≡_, refl}
 use mathlib.Core.Bool.{Bool, true, false}
 use mathlib.Core.List.{List, [], _∷_, _++_}
-use Prim.Native.Nat.{ℕ, zero, suc, _+_, _/_, _%_, _≤_, _<_}
+use Prim.Native.Nat.{ℕ, _≤_, _<_}
 use native.Mathlib.Omega.{arith}
 use lib.ListN.{length, getD}
 use lib.Dec.{eqb}
@@ -47,8 +47,8 @@ module _ (counts : List ℕ) (small : (f : ℕ) → getD counts f 0 < 256) where
     table-bytes t o h = (
       omega (arith, o .few),
       join (t .fields) (word (length (t .rows)) ++ flat (t .rows))
-      (all-of (λ x. x < 256) (t .fields) 0 (λ k l. omega (arith, all-at (λ f. f < length counts) (t .fields) 0 (o .known) k l)))
-      (join (word (length (t .rows))) (flat (t .rows)) (word-bytes (length (t .rows)) h) (rows-bytes (t .fields) (t .rows) (o .codes))),
+          (all-of (λ x. x < 256) (t .fields) 0 (λ k l. omega (arith, all-at (λ f. f < length counts) (t .fields) 0 (o .known) k l)))
+          (join (word (length (t .rows))) (flat (t .rows)) (word-bytes (length (t .rows)) h) (rows-bytes (t .fields) (t .rows) (o .codes))),
     )
 
     tables-bytes : (ts : List Table) → All (TableOk counts) ts → rowTotal ts < 65536 → Bytes (tablesBytes ts)
@@ -58,6 +58,7 @@ module _ (counts : List ℕ) (small : (f : ℕ) → getD counts f 0 < 256) where
         (table-bytes t (o .0) (omega arith))
         (tables-bytes ts (o .1) (omega arith))
 
+-- a well-formed book, written
 pub encode-bytes : (b : Book) → WellFormed b → Bytes (encode b)
 unfolding encode trailerBytes
 encode-bytes b w =
