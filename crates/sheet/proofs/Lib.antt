@@ -1,6 +1,14 @@
+pub mod Upward
+pub mod Fields
+pub mod FieldTurns
+pub mod OwnCases
+pub mod PlainMasks
+pub mod ListCases
+pub mod Replays
 pub mod Openings
 pub mod Places
 pub mod CallCases
 pub mod LoadCases
 pub mod Copying
 pub mod Injective
+pub mod Replayed
