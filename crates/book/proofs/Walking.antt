@@ -1,4 +1,4 @@
--- Steps that the walks by hand share, in the calculus of `Types/Kit.antt`. Assumes `Given`.
+-- Steps that the walks by hand share, in the logic's own calculus for them (`types.Kit`). Assumes nothing.
 use mathlib.Core.Path.{_≡_, refl, subst}
 use Prim.Native.Nat.{ℕ, zero, _<_, _^_}
 use mathlib.Core.List.{List, [], _∷_}
