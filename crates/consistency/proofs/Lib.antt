@@ -10,3 +10,11 @@ pub mod CodeCounts
 pub mod Lines
 pub mod Masks
 pub mod SameLargest
+pub mod Positions
+pub mod Tables
+pub mod AlikeLaws
+pub mod CountsAlike
+pub mod AlikeExample
+pub mod Answers
+pub mod Chains
+pub mod ChainsExample

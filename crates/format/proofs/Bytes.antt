@@ -2,7 +2,7 @@
 use mathlib.Core.Path.{_≡_, refl}
 use mathlib.Core.Bool.{Bool, true, false}
 use mathlib.Core.List.{List, [], _∷_, _++_}
-use Prim.Native.Nat.{ℕ, zero, suc, _+_, _/_, _%_, _≤_, _<_}
+use Prim.Native.Nat.{ℕ, _≤_, _<_}
 use native.Mathlib.Omega.{arith}
 use lib.ListN.{length, getD}
 use lib.Dec.{eqb}
@@ -58,6 +58,7 @@ module _ (counts : List ℕ) (small : (f : ℕ) → getD counts f 0 < 256) where
         (table-bytes t (o .0) (omega arith))
         (tables-bytes ts (o .1) (omega arith))
 
+-- a well-formed book, written
 pub encode-bytes : (b : Book) → WellFormed b → Bytes (encode b)
 unfolding encode trailerBytes
 encode-bytes b w =

@@ -1,18 +1,18 @@
 -- The book that bytes of the promise hold is well formed, and is written as these bytes. Assumes nothing.
-use mathlib.Core.Path.{_≡_, refl, sym, ap, subst, _∙_}
+use mathlib.Core.Path.{_≡_, refl, ap, _∙_}
 use mathlib.Core.List.{List, [], _∷_, _++_, append-assoc}
 use Prim.Native.Nat.{ℕ, zero, suc, _+_, _-_, _*_, _/_, _%_, _≤_, _<_}
 use native.Mathlib.Nat.{zero-add, add-zero, zero-mul, suc-mul}
 use native.Mathlib.Omega.{arith}
-use lib.ListN.{length, getD, drop, length-append, length-drop}
+use lib.ListN.{length, drop, length-append, length-drop}
 use lib.Seq.{drop-length}
 use Rattle.format.specs.Basics.{All}
-use Rattle.format.specs.Format.{Table, TableOk, WellFormed, codeLimit, closingByte, word, flat, tableBytes, tablesBytes, trailerBytes, encode, byte, le16, part, listPlace, fieldCount, tableCount, versionOf, arityAt, rowsOf, firstRow, tableEnd, rowsAt, tableAt, tablesAt, bookOf}
+use Rattle.format.specs.Format.{TableOk, WellFormed, codeLimit, closingByte, word, flat, tableBytes, tablesBytes, trailerBytes, encode, byte, le16, part, listPlace, fieldCount, tableCount, versionOf, arityAt, rowsOf, firstRow, tableEnd, rowsAt, tableAt, tablesAt, bookOf}
 use Rattle.format.specs.Promise.{place, Promise}
 use Rattle.format.specs.Layout.{Bytes}
 use Rattle.format.proofs.Elements.{all-or, all-of}
 use Rattle.format.proofs.Drops.{one-then, part-then}
-use Rattle.format.proofs.Views.{tables-count, table-view, counts-count, counts-view, places-rise, table-rows, table-arity}
+use Rattle.format.proofs.Views.{noTable, tables-count, table-view, counts-count, counts-view, places-rise, table-rows, table-arity}
 use Rattle.format.proofs.Tables.{table-ok}
 
 -- three lists, put together from behind
@@ -31,6 +31,7 @@ rows-then s a p (suc n) =
     rw (e, append-assoc, rows-then s a (p + a) n) (part-then s p a)
 
 module _ (s : List ℕ) (bytes : Bytes s) where
+  -- each place holds a byte, also behind the end
   small : (k : ℕ) → byte s k < 256
   small k = all-or (λ x. x < 256) s 0 (omega arith) bytes k
 
@@ -75,6 +76,7 @@ module _ (s : List ℕ) (bytes : Bytes s) where
         let e : place s (0 + tableCount s) ≡ listPlace s = rw zero-add (p .last) in
         rw e at (tables-then (tableCount s) 0 (omega arith))
 
+    -- so the tables are as long as the trailer says
     list-length : length (tablesBytes (bookOf s .tables)) ≡ listPlace s
     list-length =
         let w = p .whole in
@@ -102,11 +104,12 @@ module _ (s : List ℕ) (bytes : Bytes s) where
         let r : length s - 6 + 1 + 1 ≡ length s - 4 = omega arith in
         rw (list-length, counts-count s w, tables-count s, q, ← last-four) (rw r at (word-then (length s - 6) (omega arith)))
 
-    pub book-written : encode (bookOf s) ≡ s
+    -- the book, written
+    book-written : encode (bookOf s) ≡ s
     unfolding encode bookOf
     book-written = rw (trailer-then, part-then s (listPlace s) (fieldCount s)) list-then
 
-    -- each number of codes is from 1 to 32
+    -- each number of codes is as the layout says
     counts-ok : All (λ c. (1 ≤ c) × (c ≤ codeLimit)) (bookOf s .counts)
     counts-ok =
         all-of (λ c. (1 ≤ c) × (c ≤ codeLimit)) (bookOf s .counts) 0
@@ -117,12 +120,12 @@ module _ (s : List ℕ) (bytes : Bytes s) where
     -- each table is as the layout says
     tables-ok : All (TableOk (bookOf s .counts)) (bookOf s .tables)
     tables-ok =
-        let z : Table = record { fields = []; rows = [] } in
-        all-of (TableOk (bookOf s .counts)) (bookOf s .tables) z
+        all-of (TableOk (bookOf s .counts)) (bookOf s .tables) noTable
         (λ i h.
         let l : i < tableCount s = omega (arith, tables-count s) in
-        rw (table-view s z i l) (table-ok s (place s i) (p .whole) (p .tables i l .ends) (p .tables i l)))
+        rw (table-view s noTable i l) (table-ok s (place s i) (p .whole) (p .tables i l .ends) (p .tables i l)))
 
+    -- the book is well formed
     book-well : WellFormed (bookOf s)
     unfolding bookOf
     book-well =

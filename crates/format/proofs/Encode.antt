@@ -1,18 +1,18 @@
 -- A well-formed book, written: the bytes hold that book, and they are bytes of the promise. Assumes nothing.
-use mathlib.Core.Path.{_≡_, refl, sym, ap, subst, _∙_}
+use mathlib.Core.Path.{_≡_, refl, ap, _∙_}
 use mathlib.Core.List.{List, [], _∷_, _++_, append-assoc}
-use Prim.Native.Nat.{ℕ, zero, suc, _+_, _-_, _*_, _/_, _%_, _≤_, _<_}
+use Prim.Native.Nat.{ℕ, suc, _+_, _-_, _*_, _/_, _%_, _≤_, _<_}
 use native.Mathlib.Nat.{zero-add, add-zero, zero-mul, suc-mul}
 use native.Mathlib.Omega.{arith}
 use lib.ListN.{length, getD, drop, length-append, length-drop}
 use lib.Seq.{getD-drop, drop-append-seam}
 use Rattle.format.specs.Basics.{All}
-use Rattle.format.specs.Format.{Table, Book, TableOk, WellFormed, RowOk, codeLimit, lengthLimit, closingByte, word, flat, tableBytes, tablesBytes, trailerBytes, encode, byte, le16, part, listPlace, fieldCount, tableCount, versionOf, arityAt, rowsOf, firstRow, tableEnd, rowsAt, tableAt, tablesAt, bookOf}
+use Rattle.format.specs.Format.{Table, Book, TableOk, WellFormed, RowOk, codeLimit, lengthLimit, closingByte, word, flat, tableBytes, tablesBytes, trailerBytes, encode, byte, le16, part, listPlace, fieldCount, tableCount, versionOf, arityAt, rowsOf, tableEnd, rowsAt, tableAt, tablesAt, bookOf}
 use Rattle.format.specs.Promise.{place, countAt, TablePromise, Promise}
 use Rattle.format.proofs.Elements.{all-at}
 use Rattle.format.proofs.Conditions.{row-length}
 use Rattle.format.proofs.Drops.{byte-front, part-front, drop-behind}
-use Rattle.format.proofs.Views.{tables-count, table-view, counts-count, counts-view, places-rise}
+use Rattle.format.proofs.Views.{noTable, tables-count, table-view, counts-count, counts-view, places-rise}
 use Rattle.format.proofs.Tables.{table-promise}
 
 -- a two-byte number, read
@@ -36,7 +36,7 @@ rows-read s counts fs post (r ∷ rs) p o e =
     let m : p + suc (length rs) * length fs ≡ p + length fs + length rs * length fs = omega (arith, suc-mul (length rs) (length fs)) in
     (rw (f, i .0), rw m (i .1))
 
--- a table that stands at p, read
+-- a table that stands at p, read: its bytes in turn, its two numbers, and the table whole
 module _ (s counts post : List ℕ) (t : Table) (p : ℕ) (ok : TableOk counts t) (here : drop p s ≡ tableBytes t ++ post) where
   after-first : drop p s ≡ length (t .fields) ∷ (t .fields ++ (word (length (t .rows)) ++ (flat (t .rows) ++ post)))
   unfolding tableBytes
@@ -77,7 +77,7 @@ tables-read s counts post (t ∷ ts) k o e =
     let m : k + suc (length ts) ≡ suc k + length ts = omega arith in
     (rw (r .0, i .0), rw m (i .1))
 
--- bytes that the trailer divides rightly and whose book is well formed are bytes of the promise
+-- bytes that the trailer divides rightly, with the tables up to the field list, and whose book is well formed are bytes of the promise
 module _ (s : List ℕ) (short : length s ≤ lengthLimit) (closed : byte s (length s - 1) ≡ closingByte)
     (whole : listPlace s + fieldCount s + 6 ≡ length s) (last : place s (tableCount s) ≡ listPlace s) (well : WellFormed (bookOf s))
   where
@@ -88,10 +88,9 @@ module _ (s : List ℕ) (short : length s ≤ lengthLimit) (closed : byte s (len
 
     tables-promise : (i : ℕ) → i < tableCount s → TablePromise s (place s i)
     tables-promise i h =
-        let z : Table = record { fields = []; rows = [] } in
         let n = tables-count s in
         table-promise s (place s i) whole (rw (← last) (places-rise s i (tableCount s) h))
-        (rw (← table-view s z i h) (all-at (TableOk (bookOf s .counts)) (bookOf s .tables) z (well .each) i (omega arith)))
+        (rw (← table-view s noTable i h) (all-at (TableOk (bookOf s .counts)) (bookOf s .tables) noTable (well .each) i (omega arith)))
 
     promise-from : Promise s
     unfolding bookOf

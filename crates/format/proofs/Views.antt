@@ -1,7 +1,7 @@
 -- What the book that bytes hold says, by places in the bytes, and that its tables stand one behind another. Assumes nothing.
 use mathlib.Core.Path.{_≡_, refl, ap, _∙_}
 use mathlib.Core.Logic.{⊎-elim}
-use mathlib.Core.List.{List, [], _∷_}
+use mathlib.Core.List.{List, []}
 use Prim.Native.Nat.{ℕ, zero, suc, _+_, _*_, _≤_, _<_}
 use native.Mathlib.Nat.{zero-add, add-zero, suc-mul, zero-mul, le-refl, eq-or-lt-of-le}
 use native.Mathlib.Omega.{arith}
@@ -9,6 +9,10 @@ use lib.ListN.{length, getD, drop, length-drop}
 use lib.Seq.{getD-take, getD-drop, length-take-le}
 use Rattle.format.specs.Format.{Table, byte, part, listPlace, fieldCount, tableCount, arityAt, rowsOf, firstRow, tableEnd, rowsAt, tableAt, tablesAt, bookOf}
 use Rattle.format.specs.Promise.{place, fieldAt, codeAt, countAt, Promise}
+
+-- what stands behind the end of a list of tables
+abbrev pub noTable : Table
+noTable = record { fields = []; rows = [] }
 
 -- an element of a part
 pub part-at : (s : List ℕ) (i n j : ℕ) → j < n → getD (part s i n) j 0 ≡ byte s (i + j)

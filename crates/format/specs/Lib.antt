@@ -3,3 +3,4 @@ pub mod Format
 pub mod Reading
 pub mod Promise
 pub mod Layout
+pub mod Examples

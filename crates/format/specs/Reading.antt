@@ -1,12 +1,12 @@
 -- Document 01, "When a call is turned down": what an answer says, and what reading a book answers for any bytes. Assumes nothing.
-use Prim.Native.Nat.{ℕ, zero, suc, _+_, _-_, _*_, _%_}
+use Prim.Native.Nat.{ℕ, zero, suc, _+_, _-_, _%_}
 use mathlib.Core.Path.{_≡_}
 use mathlib.Core.List.{List, [], _∷_}
-use mathlib.Core.Bool.{Bool, true, false, _&&_, _||_}
-use lib.ListN.{length, getD, replicate}
+use mathlib.Core.Bool.{Bool, _&&_, _||_}
+use lib.ListN.{length, replicate}
 use lib.Dec.{ltb, leb, eqb}
 use Rattle.format.specs.Basics.{pick, between, firstBad}
-use Rattle.format.specs.Format.{Book, fieldLimit, codeLimit, arityLimit, tableLimit, rowLimit, lengthLimit, closingByte, rowTotal, bookCounts, byte, le16, listPlace, fieldCount, tableCount, versionOf, arityAt, rowsOf, firstRow, tableEnd, bookOf}
+use Rattle.format.specs.Format.{fieldLimit, codeLimit, arityLimit, tableLimit, rowLimit, lengthLimit, closingByte, rowTotal, bookCounts, byte, listPlace, fieldCount, tableCount, versionOf, arityAt, rowsOf, firstRow, tableEnd, bookOf}
 
 -- An answer in the paper's terms. number: 0 if accepted, else the refusal's. "All counts in it are 0" of a refusal
 pub record Outcome : Type 0 where
@@ -118,12 +118,19 @@ abbrev pub lastTest : ℕ → Step → Verdict
 lastTest list (next at rows) = pick (ltb at list) (fail 13 at) pass
 lastTest list (stop number place) = fail number place
 
--- "Reading a book, in this order": 1 to 6, 7, the tables, 13
+-- 1 to 6, of the trailer
+abbrev pub trailerVerdict : List ℕ → Verdict
+trailerVerdict s =
+    trailerTest (length s) (byte s (length s - 1)) (versionOf s) (fieldCount s) (tableCount s) (listPlace s)
+
+-- 7, the tables, 13: what stands before the trailer, by the trailer's numbers
+abbrev pub bodyVerdict : List ℕ → ℕ → ℕ → ℕ → Verdict
+bodyVerdict s list fields tables =
+    andThen (listTest s list fields) (lastTest list (tablesStep s list fields tables 0 0))
+
+-- "Reading a book, in this order"
 unfoldable pub verdict : List ℕ → Verdict
-verdict s =
-    andThen (trailerTest (length s) (byte s (length s - 1)) (versionOf s) (fieldCount s) (tableCount s) (listPlace s))
-    (andThen (listTest s (listPlace s) (fieldCount s))
-    (lastTest (listPlace s) (tablesStep s (listPlace s) (fieldCount s) (tableCount s) 0 0)))
+verdict s = andThen (trailerVerdict s) (bodyVerdict s (listPlace s) (fieldCount s) (tableCount s))
 
 abbrev pub outcome : Verdict → List ℕ → Outcome
 outcome pass counts = accepted counts

@@ -1,0 +1,13 @@
+-- `book::tests::field_limit` meets its contract: a test of the version. Assumes nothing.
+use borrow.Author.Tests.{eq-eqb, ne-eqb}
+use Rattle.book.proofs.tests.field_limit.Statement.{statement}
+use Rattle.book.proofs.tests.field_limit.Tie as tie
+
+returns : tie.Need-returns
+returns c = simp (eq-eqb _ _ (c .if1 .taken))
+
+returns-2 : tie.Need-returns-2
+returns-2 c = simp (ne-eqb _ _ (c .if1 .left))
+
+pub field-limit-spec : {M : Type 1} → statement M
+field-limit-spec = tie.close (tie.spec returns returns-2)

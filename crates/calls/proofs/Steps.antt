@@ -1,0 +1,100 @@
+-- One call with accepted bytes on the sheet that holds answers: its refusal is the one that the answers give, and its sheet holds the answers
+-- after it. Assumes nothing.
+use Prim.Native.Nat.{ℕ, _<_}
+use mathlib.Core.Path.{_≡_, refl, ap, _∙_}
+use mathlib.Core.Bool.{Bool, true, false}
+use mathlib.Core.List.{List, []}
+use native.Mathlib.Omega.{arith}
+use borrow.Author.Tests.{ltb-true, eqb-true}
+use lib.ListN.{length}
+use lib.Dec.{ltb, eqb}
+use Rattle.format.specs.Basics.{pick}
+use Rattle.format.specs.Format.{Book, bookOf}
+use Rattle.format.specs.Reading.{Accepted}
+use Rattle.format.proofs.Picks.{pick-first}
+use Rattle.format.proofs.Accepted.{accepted-verdict}
+use Rattle.consistency.specs.Consistency.{places, codes, answer}
+use Rattle.calls.specs.Calls.{Result, done, onSheet, entered, withdrawn}
+use Rattle.calls.specs.Histories.{Call, enter, withdraw, clear, Answer, none, is, Answers, put, refusalOf, after, sheetOf, called}
+use Rattle.calls.proofs.CallLaws.{sheet-go}
+use Rattle.calls.proofs.Sheets.{sheet-fresh, sheet-store, Within, accepted-within, Sound, sound-none, answered-given, no-fault}
+
+-- what the book and the answers before a call give for it: the number of its refusal, and the sheet that holds the answers after it
+abbrev pub stepOf : Book → Answers → Call → Result
+stepOf b a call =
+    record { outcome = record { number = refusalOf b a call; place = 0; counts = [] }; sheet = sheetOf (after b a call); buffer = [] }
+
+module _ (bytes : List ℕ) (ok : Accepted bytes) (a : Answers) (s : Sound (bookOf bytes) a) where
+  abbrev b : Book
+  b = bookOf bytes
+
+  within : Within b
+  within = accepted-within bytes ok
+
+  -- neither 1 to 13 nor 14
+  pub on-sheet : (k : ℕ) (o : List ℕ) (go : Book → Result) → onSheet k bytes (sheetOf a) o go ≡ go b
+  on-sheet k o go = sheet-go k bytes (sheetOf a) o go (accepted-verdict bytes ok) (omega (arith, no-fault b within a s))
+
+  -- a field of the book has a place
+  field-place : (f : ℕ) → ltb f (length (b .counts)) ≡ true → f < places
+  field-place f e = omega (arith, ltb-true f (length (b .counts)) e, within .few)
+
+  -- 15, 16, or another code
+  entered-step : (f c : ℕ) (x y : Bool) → ltb f (length (b .counts)) ≡ x → ltb c (codes b f) ≡ y
+      → entered bytes (sheetOf a) f c ≡ stepOf b a (enter f c)
+  unfolding entered
+  entered-step f c true true e d =
+      on-sheet 0 [] _ ∙ rw (e, d) (ap (λ (x : List ℕ). done [] x []) (sheet-store a f (is c) (field-place f e)))
+  entered-step f c true false e d = on-sheet 0 [] _ ∙ rw (e, d)
+  entered-step f c false y e d = on-sheet 0 [] _ ∙ rw e
+
+  -- 15, 17, or no answer
+  withdrawn-step : (f : ℕ) (x y : Bool) → ltb f (length (b .counts)) ≡ x → eqb (answer (sheetOf a) f) 255 ≡ y
+      → withdrawn bytes (sheetOf a) f ≡ stepOf b a (withdraw f)
+  unfolding withdrawn
+  withdrawn-step f true true e d = on-sheet 0 [] _ ∙ rw (← answered-given b within a s f, e, d)
+  withdrawn-step f true false e d =
+      on-sheet 0 [] _
+      ∙ rw (← answered-given b within a s f, e, d) (ap (λ (x : List ℕ). done [] x []) (sheet-store a f none (field-place f e)))
+  withdrawn-step f false y e d = on-sheet 0 [] _ ∙ rw e
+
+  -- one call
+  pub called-step : (call : Call) → called bytes (sheetOf a) call ≡ stepOf b a call
+  called-step (enter f c) = entered-step f c (ltb f (length (b .counts))) (ltb c (codes b f)) refl refl
+  called-step (withdraw f) = withdrawn-step f (ltb f (length (b .counts))) (eqb (answer (sheetOf a) f) 255) refl refl
+  called-step clear = ap (λ (x : List ℕ). done [] x []) sheet-fresh
+
+  -- ---- the answers after it are codes of their fields
+
+  -- with one answer put, if it is a code of its field
+  sound-put : (f : ℕ) (x : Answer) → ((c : ℕ) → x ≡ is c → c < codes b f) → Sound b (put a f x)
+  sound-put f x h g c e = at (eqb g f) refl e
+    where
+      at : (t : Bool) → eqb g f ≡ t → pick t x (a g) ≡ is c → c < codes b g
+      at true q e = rw (eqb-true g f q) (h c e)
+      at false q e = s g c e
+
+  -- whether the call is refused or not
+  sound-pick : (n : ℕ) (e : Answers) → (n ≡ 0 → Sound b e) → Sound b (pick (eqb n 0) e a)
+  sound-pick n e h = at (eqb n 0) refl
+    where
+      at : (t : Bool) → eqb n 0 ≡ t → Sound b (pick t e a)
+      at true q = h (eqb-true n 0 q)
+      at false q = s
+
+  -- an enter that is accepted gives a code of the field
+  enter-code : (f c : ℕ) → refusalOf b a (enter f c) ≡ 0 → c < codes b f
+  enter-code f c e =
+      let field = pick-first (ltb f (length (b .counts))) (λ q. omega arith) e in
+      let code = pick-first (ltb c (codes b f)) (λ q. omega arith) (field .1) in
+      ltb-true c (codes b f) (code .0)
+
+  -- after any call
+  pub sound-step : (call : Call) → Sound b (after b a call)
+  sound-step (enter f c) =
+      sound-pick (refusalOf b a (enter f c)) (put a f (is c))
+      (λ e. sound-put f (is c) (λ d q. let same : c ≡ d = cc in rw (← same) (enter-code f c e)))
+  sound-step (withdraw f) =
+      sound-pick (refusalOf b a (withdraw f)) (put a f none)
+      (λ e. sound-put f none (λ d q. let never : _≡_ {A = ℕ} 0 1 = cc in omega arith))
+  sound-step clear = sound-none b

@@ -1,0 +1,112 @@
+-- Document 01, "The sheet and its one pass" and "When a call is turned down": every call on a sheet as a function of its input. Assumes nothing.
+use Prim.Native.Nat.{ℕ, _-_, _*_}
+use mathlib.Core.List.{List, [], _∷_, _++_}
+use mathlib.Core.Bool.{Bool, _||_}
+use lib.ListN.{length, getD, take, drop, set, replicate}
+use lib.Dec.{ltb, eqb}
+use Rattle.format.specs.Basics.{pick, firstBad}
+use Rattle.format.specs.Format.{Book, bookOf}
+use Rattle.format.specs.Reading.{Outcome, refused, accepted, Verdict, pass, fail, verdict}
+use Rattle.consistency.specs.Consistency.{places, codes, answer, relax}
+use Rattle.consistency.specs.Counts.{total, struck, lines, lineBytes, masks}
+
+-- what a call leaves behind: its answer, "the sheet handed back", and the contents of the buffer lent (none lent: [])
+pub record Result : Type 0 where
+  pub outcome : Outcome
+  pub sheet : List ℕ
+  pub buffer : List ℕ
+
+-- "A fresh sheet is all 255"
+abbrev pub freshSheet : List ℕ
+freshSheet = replicate places 255
+
+-- A refusal of a call that counts k things: "each lent buffer keeps its bytes, and the sheet comes back as given"
+abbrev pub turned : ℕ → List ℕ → List ℕ → ℕ → ℕ → Result
+turned k s o number place = record { outcome = refused k number place; sheet = s; buffer = o }
+
+abbrev pub done : List ℕ → List ℕ → List ℕ → Result
+done counts s o = record { outcome = accepted counts; sheet = s; buffer = o }
+
+-- 14: a place holds 255 or a code of its field; "a later place" has no field, so no code
+abbrev pub placeOk : Book → List ℕ → ℕ → Bool
+placeOk b s p = eqb (getD s p 255) 255 || ltb (getD s p 255) (codes b p)
+
+-- "the first field at fault", or the number of places
+abbrev pub faultOf : Book → List ℕ → ℕ
+faultOf b s = firstBad (placeOk b s) 0 places
+
+-- 1 to 13, then the rest with the book that the bytes hold
+abbrev pub withBook : List ℕ → (ℕ → ℕ → Result) → Verdict → (Book → Result) → Result
+withBook bytes refuse pass go = go (bookOf bytes)
+withBook bytes refuse (fail number place) go = refuse number place
+
+-- 14, where fault is the first place at fault
+abbrev pub faultThen : (ℕ → ℕ → Result) → ℕ → Result → Result
+faultThen refuse fault r = pick (ltb fault places) (refuse 14 fault) r
+
+-- 1 to 13, 14, then the rest: the calls on sheet s that count k things, with o lent
+abbrev pub onSheet : ℕ → List ℕ → List ℕ → List ℕ → (Book → Result) → Result
+onSheet k bytes s o go = withBook bytes (turned k s o) (verdict bytes) (λ b. faultThen (turned k s o) (faultOf b s) (go b))
+
+-- ---- the calls
+
+-- "Enter sets the field's answer, replacing an older one". 15, no such field; 16, no such code
+unfoldable pub entered : List ℕ → List ℕ → ℕ → ℕ → Result
+entered bytes s f c =
+    onSheet 0 bytes s [] (λ b.
+    pick (ltb f (length (b .counts)))
+    (pick (ltb c (codes b f)) (done [] (set s f c) []) (turned 0 s [] 16 0))
+    (turned 0 s [] 15 0))
+
+-- "Withdraw sets 255". 15; 17, the field has no answer
+unfoldable pub withdrawn : List ℕ → List ℕ → ℕ → Result
+withdrawn bytes s f =
+    onSheet 0 bytes s [] (λ b.
+    pick (ltb f (length (b .counts)))
+    (pick (eqb (answer s f) 255) (turned 0 s [] 17 0) (done [] (relax s f) []))
+    (turned 0 s [] 15 0))
+
+-- "Clear sets all 255"; "Fresh and clear: none"
+abbrev pub cleared : List ℕ → Result
+cleared s = done [] freshSheet []
+
+-- 18, "fewer numbers lent than fields"; "Numbers behind the last field keep their contents"
+abbrev pub masksInto : Book → List ℕ → List ℕ → List ℕ → Result
+masksInto b s a o =
+    pick (ltb (length o) (length (b .counts))) (turned 0 s o 18 0) (done [] s (masks b a ++ drop (length (b .counts)) o))
+
+-- Plain filtering: "The lifted field is a number, or 255 for none: 1 to 13, 14, 15, 17, then 18"
+unfoldable pub filtered : List ℕ → List ℕ → ℕ → List ℕ → Result
+filtered bytes s f o =
+    onSheet 0 bytes s o (λ b.
+    pick (eqb f 255) (masksInto b s s o)
+    (pick (ltb f (length (b .counts)))
+    (pick (eqb (answer s f) 255) (turned 0 s o 17 0) (masksInto b s (relax s f) o))
+    (turned 0 s o 15 0)))
+
+-- "Alternatives: 1 to 13, 14, then 18, exactly when fewer than 2 × total bytes are lent. Bytes behind the pairs keep their contents";
+-- "The result carries the total of alternatives and the number struck"
+unfoldable pub alternatives : List ℕ → List ℕ → List ℕ → Result
+alternatives bytes s o =
+    onSheet 2 bytes s o (λ b.
+    pick (ltb (length o) (2 * total b s)) (turned 2 s o 18 0)
+    (done (total b s ∷ struck b s ∷ []) s (lineBytes (lines b s) ++ drop (2 * total b s) o)))
+
+-- "an accepted load has 255 in the later places"
+abbrev pub sheetFrom : List ℕ → List ℕ
+sheetFrom form = form ++ replicate (places - length form) 255
+
+-- "Loading a stored sheet (one byte a field): 1 to 13, 19 if its length isn't the number of fields, 14": "a refused load hands back a fresh one"
+unfoldable pub loaded : List ℕ → List ℕ → Result
+loaded bytes form =
+    withBook bytes (turned 0 freshSheet []) (verdict bytes) (λ b.
+    pick (eqb (length form) (length (b .counts)))
+    (faultThen (turned 0 freshSheet []) (faultOf b (sheetFrom form)) (done [] (sheetFrom form) []))
+    (turned 0 freshSheet [] 19 0))
+
+-- "Storing: 1 to 13, 14, 18 if fewer bytes are lent than fields. Lent bytes behind those written keep their contents"
+unfoldable pub stored : List ℕ → List ℕ → List ℕ → Result
+stored bytes s o =
+    onSheet 0 bytes s o (λ b.
+    pick (ltb (length o) (length (b .counts))) (turned 0 s o 18 0)
+    (done [] s (take (length (b .counts)) s ++ drop (length (b .counts)) o)))

@@ -1,0 +1,197 @@
+-- Conditions 1 to 3, and what else document 01 says of two calls together. Each is a type; its proof is a value of it (proofs/Condition1.antt,
+-- Condition2.antt, Agreement.antt, Stored.antt, Condition3.antt). Assumes nothing.
+use Prim.Native.Nat.{ℕ, _+_, _*_, _/_, _%_, _^_, _≤_, _<_}
+use mathlib.Core.Path.{_≡_}
+use mathlib.Core.Logic.{_≢_, _↔_}
+use mathlib.Core.List.{List, [], _∷_, _++_}
+use mathlib.Core.Bool.{not}
+use lib.ListN.{length, getD, take, drop, replicate}
+use lib.Dec.{T, eqb}
+use Rattle.format.specs.Basics.{pick}
+use Rattle.format.specs.Format.{Book, bookOf}
+use Rattle.format.specs.Reading.{accepted, Accepted}
+use Rattle.consistency.specs.Counting.{sumOver, those}
+use Rattle.consistency.specs.Consistency.{places, Subdomain, codes, relax, IsLargest}
+use Rattle.consistency.specs.Counts.{codesIn, outside, answered, Line, lineBytes}
+use Rattle.consistency.specs.Order.{InOrder, In}
+use Rattle.consistency.specs.Alike.{Alike}
+use Rattle.calls.specs.Calls.{Result, freshSheet, done, entered, withdrawn, cleared, filtered, alternatives, loaded, stored}
+use Rattle.calls.specs.Histories.{Call, Answer, none, is, Answers, given, noAnswers, answersAfter, refusalsFrom, sheetOf, results, sheetAfter}
+
+-- ---- Condition 1: "The answer to any bytes, sheet and call is the one that document 01 defines" is the contracts of the calls;
+-- "or a refusal with its number and place, on its condition only, each lent buffer left as stated": over all calls at once
+
+-- a call with its arguments, and the buffer lent where it takes one
+pub data Request : Type 0 where
+  to-enter : ℕ → ℕ → Request
+  to-withdraw : ℕ → Request
+  to-clear : Request
+  to-filter : ℕ → List ℕ → Request
+  to-list : List ℕ → Request
+  to-store : List ℕ → Request
+  to-load : List ℕ → Request
+
+abbrev pub resultOf : List ℕ → List ℕ → Request → Result
+resultOf bytes s (to-enter f c) = entered bytes s f c
+resultOf bytes s (to-withdraw f) = withdrawn bytes s f
+resultOf bytes s to-clear = cleared s
+resultOf bytes s (to-filter f o) = filtered bytes s f o
+resultOf bytes s (to-list o) = alternatives bytes s o
+resultOf bytes s (to-store o) = stored bytes s o
+resultOf bytes s (to-load form) = loaded bytes form
+
+-- the sheet given; "It is given no sheet: a refused load hands back a fresh one"
+abbrev pub sheetGiven : List ℕ → Request → List ℕ
+sheetGiven s (to-enter f c) = s
+sheetGiven s (to-withdraw f) = s
+sheetGiven s to-clear = s
+sheetGiven s (to-filter f o) = s
+sheetGiven s (to-list o) = s
+sheetGiven s (to-store o) = s
+sheetGiven s (to-load form) = freshSheet
+
+abbrev pub lentTo : Request → List ℕ
+lentTo (to-enter f c) = []
+lentTo (to-withdraw f) = []
+lentTo to-clear = []
+lentTo (to-filter f o) = o
+lentTo (to-list o) = o
+lentTo (to-store o) = o
+lentTo (to-load form) = []
+
+-- how many things the call counts
+abbrev pub countsOf : Request → ℕ
+countsOf (to-enter f c) = 0
+countsOf (to-withdraw f) = 0
+countsOf to-clear = 0
+countsOf (to-filter f o) = 0
+countsOf (to-list o) = 2
+countsOf (to-store o) = 0
+countsOf (to-load form) = 0
+
+-- "All counts in it are 0, each lent buffer keeps its bytes, and the sheet comes back as given"; "a byte of the book for 1 to 13, the
+-- first field at fault for 14, else 0"
+pub record ChangesNothing (s : List ℕ) (q : Request) (r : Result) : Type 0 where
+  pub counts : r .outcome .counts ≡ replicate (countsOf q) 0
+  pub sheet : r .sheet ≡ sheetGiven s q
+  pub buffer : r .buffer ≡ lentTo q
+  pub place : 14 < r .outcome .number → r .outcome .place ≡ 0
+
+abbrev pub Condition1 : Type 0
+Condition1 = (bytes s : List ℕ) (q : Request) → resultOf bytes s q .outcome .number ≢ 0 → ChangesNothing s q (resultOf bytes s q)
+
+-- ---- Condition 2: "Open codes are exactly the unanswered fields' codes in the largest arc-consistent subdomain under the answers".
+-- ("a book is accepted exactly when it has document 01's layout" is Condition2-layout of crate `format`.)
+
+-- bit c of the number that plain filtering writes for field f
+abbrev pub Shows : List ℕ → ℕ → ℕ → Type 0
+Shows o f c = T (eqb (getD o f 0 / 2 ^ c % 2) 1)
+
+abbrev pub Condition2-open : Type 0
+Condition2-open =
+    (bytes s o : List ℕ) → filtered bytes s 255 o .outcome .number ≡ 0
+    → (S : Subdomain) → IsLargest (bookOf bytes) s S
+    → (f c : ℕ) → f < length (bookOf bytes .counts) → T (not (answered s f))
+    → Shows (filtered bytes s 255 o .buffer) f c ↔ T (S f c)
+
+-- the answers under which plain filtering filters: "The lifted field is a number, or 255 for none"
+abbrev pub filterAnswers : List ℕ → ℕ → List ℕ
+filterAnswers s g = pick (eqb g 255) s (relax s g)
+
+-- "Plain filtering writes one 32-bit number a field, bit c set exactly when code c is in the field's part of the largest subdomain of that
+-- case, all other bits 0"; "Numbers behind the last field keep their contents": o before, o′ after, under answers a
+pub record Filtered (b : Book) (a o o′ : List ℕ) : Type 0 where
+  pub bits : (S : Subdomain) → IsLargest b a S → (f c : ℕ) → f < length (b .counts) → Shows o′ f c ↔ T (S f c)
+  -- no bit is set at the field's number of codes or above
+  pub small : (f : ℕ) → f < length (b .counts) → getD o′ f 0 < 2 ^ codes b f
+  pub behind : drop (length (b .counts)) o′ ≡ drop (length (b .counts)) o
+  pub as-many : length o′ ≡ length o
+
+-- of every field, answered or not, whatever field is relaxed
+abbrev pub Condition2-filter : Type 0
+Condition2-filter =
+    (bytes s : List ℕ) (g : ℕ) (o : List ℕ) → filtered bytes s g o .outcome .number ≡ 0
+    → Filtered (bookOf bytes) (filterAnswers s g) o (filtered bytes s g o .buffer)
+
+-- "A plain filtering with one chosen field lifted is offered beside it and must agree with it": what plain filtering with f relaxed answers,
+-- plain, and what alternatives answers with o lent, whole
+pub record Agrees (f : ℕ) (o : List ℕ) (plain whole : Result) : Type 0 where
+  pub accepts : plain .outcome .number ≡ 0
+  pub list : List Line
+  pub total : getD (whole .outcome .counts) 0 0 ≡ length list
+  pub written : whole .buffer ≡ lineBytes list ++ drop (2 * length list) o
+  -- the lines of f are the codes that its number shows
+  pub same : (c : ℕ) → In (record { field = f; code = c }) list ↔ Shows (plain .buffer) f c
+
+-- for each answered field, wherever alternatives accepts and numbers enough are lent
+abbrev pub Agreement : Type 0
+Agreement =
+    (bytes s o o′ : List ℕ) → alternatives bytes s o .outcome .number ≡ 0 → length (bookOf bytes .counts) ≤ length o′
+    → (f : ℕ) → f < length (bookOf bytes .counts) → T (answered s f)
+    → Agrees f o (filtered bytes s f o′) (alternatives bytes s o)
+
+-- "Loading a stored sheet": an accepted load, stored where bytes enough are lent, gives the bytes loaded; an accepted store, loaded, gives the
+-- sheet stored
+pub record StoreAndLoad : Type 0 where
+  pub load-then-store : (bytes form o : List ℕ) → loaded bytes form .outcome .number ≡ 0 → length form ≤ length o
+      → stored bytes (loaded bytes form .sheet) o ≡ done [] (loaded bytes form .sheet) (form ++ drop (length form) o)
+  pub store-then-load : (bytes s o : List ℕ) → length s ≡ places → stored bytes s o .outcome .number ≡ 0
+      → loaded bytes (take (length (bookOf bytes .counts)) (stored bytes s o .buffer)) ≡ done [] s []
+
+-- ---- Condition 3: "One claim about every list of enter, withdraw and clear calls from a fresh sheet"
+
+abbrev pub numbers : List Result → List ℕ
+numbers [] = []
+numbers (r ∷ rs) = r .outcome .number ∷ numbers rs
+
+-- the answered fields of the book under answers a, rising
+abbrev pub answeredFields : Book → Answers → List ℕ
+answeredFields b a = those (length (b .counts)) (λ f. given (a f))
+
+-- S none is the largest with nothing relaxed, S (is f) with f alone relaxed
+pub record Cases (b : Book) (a : Answers) (S : Answer → Subdomain) : Type 0 where
+  pub nothing : IsLargest b (sheetOf a) (S none)
+  pub alone : (f : ℕ) → T (given (a f)) → IsLargest b (relax (sheetOf a) f) (S (is f))
+
+-- the sum over answered fields of that field's codes in the largest subdomain with that one answer relaxed
+abbrev pub theSum : Book → Answers → (Answer → Subdomain) → ℕ
+theSum b a S = sumOver (answeredFields b a) (λ f. codesIn b (S (is f)) f)
+
+-- the sum, over nothing relaxed and each one answer relaxed, of the codes outside
+abbrev pub theStruck : Book → Answers → (Answer → Subdomain) → ℕ
+theStruck b a S = outside b (S none) + sumOver (answeredFields b a) (λ f. outside b (S (is f)))
+
+-- what alternatives answers, r, with buffer o lent, under answers a: "total, lines and struck count are what the definitions give"
+pub record Lists (b : Book) (a : Answers) (S : Answer → Subdomain) (o : List ℕ) (r : Result) : Type 0 where
+  pub list : List Line
+  pub in-order : InOrder list
+  pub exactly : (l : Line) → In l list ↔ ((l .field < length (b .counts)) × (T (given (a (l .field))) × T (S (is (l .field)) (l .field) (l .code))))
+  pub header : r .outcome ≡ accepted (length list ∷ theStruck b a S ∷ [])
+  pub sum : length list ≡ theSum b a S
+  pub written : r .buffer ≡ lineBytes list ++ drop (2 * length list) o
+  pub sheet : r .sheet ≡ sheetOf a
+
+pub record AfterCalls (bytes : List ℕ) (calls : List Call) (o : List ℕ) : Type 0 where
+  -- each call is accepted, or refused by 15, 16 or 17, as the answers after the calls before it say
+  pub verdicts : numbers (results bytes freshSheet calls) ≡ refusalsFrom (bookOf bytes) noAnswers calls
+  pub sheet : sheetAfter bytes calls ≡ sheetOf (answersAfter (bookOf bytes) calls)
+  -- the open codes are those of the answers
+  pub open-are : (S : Subdomain) → IsLargest (bookOf bytes) (sheetOf (answersAfter (bookOf bytes) calls)) S
+      → (f c : ℕ) → f < length (bookOf bytes .counts) → T (not (given (answersAfter (bookOf bytes) calls f)))
+      → Shows (filtered bytes (sheetAfter bytes calls) 255 (replicate (length (bookOf bytes .counts)) 0) .buffer) f c ↔ T (S f c)
+  -- "Bytes enough are 2 × the sum in condition 3, or more"
+  pub alternatives-are : (S : Answer → Subdomain) → Cases (bookOf bytes) (answersAfter (bookOf bytes) calls) S
+      → 2 * theSum (bookOf bytes) (answersAfter (bookOf bytes) calls) S ≤ length o
+      → Lists (bookOf bytes) (answersAfter (bookOf bytes) calls) S o (alternatives bytes (sheetAfter bytes calls) o)
+
+-- "alike books give the same": for each call of the list number, place, counts and sheet; then total, lines, struck count and buffer
+pub record SameResults (bytes bytes′ : List ℕ) (calls : List Call) (o : List ℕ) : Type 0 where
+  pub calls-same : results bytes freshSheet calls ≡ results bytes′ freshSheet calls
+  pub alternatives-same : alternatives bytes (sheetAfter bytes calls) o ≡ alternatives bytes′ (sheetAfter bytes′ calls) o
+
+pub record Condition3 : Type 0 where
+  pub after-calls : (bytes : List ℕ) → Accepted bytes → (calls : List Call) (o : List ℕ) → AfterCalls bytes calls o
+  -- the cases that it speaks of are there
+  pub cases : (b : Book) (a : Answers) → (S : Answer → Subdomain) × Cases b a S
+  pub alike : (bytes bytes′ : List ℕ) → Accepted bytes → Accepted bytes′ → Alike (bookOf bytes) (bookOf bytes′)
+      → (calls : List Call) (o : List ℕ) → SameResults bytes bytes′ calls o

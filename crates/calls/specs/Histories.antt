@@ -1,0 +1,111 @@
+-- Document 01: "The answers after a list of enter, withdraw and clear calls", and the calls themselves one after another. Assumes nothing.
+use Prim.Native.Nat.{ℕ, _<_}
+use mathlib.Core.List.{List, [], _∷_}
+use mathlib.Core.Bool.{Bool, true, false}
+use lib.ListN.{length}
+use lib.Dec.{ltb, eqb}
+use Rattle.format.specs.Basics.{pick}
+use Rattle.format.specs.Format.{Book}
+use Rattle.consistency.specs.Counting.{tabulate}
+use Rattle.consistency.specs.Consistency.{places, codes}
+use Rattle.calls.specs.Calls.{Result, freshSheet, entered, withdrawn, cleared}
+
+-- field and code; field; nothing
+pub data Call : Type 0 where
+  enter : ℕ → ℕ → Call
+  withdraw : ℕ → Call
+  clear : Call
+
+-- ---- the answers, "from the book and the calls' arguments other than the sheet, never from a sheet that the desk handed back"
+
+pub data Answer : Type 0 where
+  none : Answer
+  is : ℕ → Answer
+
+abbrev pub Answers : Type 0
+Answers = ℕ → Answer
+
+abbrev pub given : Answer → Bool
+given none = false
+given (is c) = true
+
+abbrev pub put : Answers → ℕ → Answer → Answers
+put a f x g = pick (eqb g f) x (a g)
+
+-- the refusal's number of a call by the book and the answers before it; 0: accepted
+abbrev pub refusalOf : Book → Answers → Call → ℕ
+refusalOf b a (enter f c) = pick (ltb f (length (b .counts))) (pick (ltb c (codes b f)) 0 16) 15
+refusalOf b a (withdraw f) = pick (ltb f (length (b .counts))) (pick (given (a f)) 0 17) 15
+refusalOf b a clear = 0
+
+-- "gives the field that code", "takes it away", "takes all answers away"
+abbrev pub change : Answers → Call → Answers
+change a (enter f c) = put a f (is c)
+change a (withdraw f) = put a f none
+change a clear = λ g. none
+
+-- "any other .. is refused and changes nothing"
+abbrev pub after : Book → Answers → Call → Answers
+after b a call = pick (eqb (refusalOf b a call) 0) (change a call) a
+
+unfoldable pub answersFrom : Book → Answers → List Call → Answers
+answersFrom b a [] = a
+answersFrom b a (call ∷ calls) = answersFrom b (after b a call) calls
+
+-- "At first no field of the book has an answer"
+abbrev pub noAnswers : Answers
+noAnswers f = none
+
+abbrev pub answersAfter : Book → List Call → Answers
+answersAfter b calls = answersFrom b noAnswers calls
+
+-- each call's refusal by the answers before it
+unfoldable pub refusalsFrom : Book → Answers → List Call → List ℕ
+refusalsFrom b a [] = []
+refusalsFrom b a (call ∷ calls) = refusalOf b a call ∷ refusalsFrom b (after b a call) calls
+
+-- "The sheet so reached holds the answers after the list and 255 in every other place"
+abbrev pub byteOf : Answer → ℕ
+byteOf none = 255
+byteOf (is c) = c
+
+abbrev pub sheetOf : Answers → List ℕ
+sheetOf a = tabulate (λ f. byteOf (a f)) places 0
+
+-- ---- the calls themselves: "Each call .. gets the sheet that the call before it handed back, accepted or refused"
+
+abbrev pub called : List ℕ → List ℕ → Call → Result
+called bytes s (enter f c) = entered bytes s f c
+called bytes s (withdraw f) = withdrawn bytes s f
+called bytes s clear = cleared s
+
+unfoldable pub results : List ℕ → List ℕ → List Call → List Result
+results bytes s [] = []
+results bytes s (call ∷ calls) = called bytes s call ∷ results bytes (called bytes s call .sheet) calls
+
+unfoldable pub sheetThrough : List ℕ → List ℕ → List Call → List ℕ
+sheetThrough bytes s [] = s
+sheetThrough bytes s (call ∷ calls) = sheetThrough bytes (called bytes s call .sheet) calls
+
+-- "the first gets the fresh sheet"
+abbrev pub sheetAfter : List ℕ → List Call → List ℕ
+sheetAfter bytes calls = sheetThrough bytes freshSheet calls
+
+-- ---- a list of calls as bytes, three a call: kind (0 enter, 1 withdraw, 2 clear, any other is no call), field, code
+
+abbrev pub addCall : ℕ → ℕ → ℕ → List Call → List Call
+addCall kind f c calls =
+    pick (eqb kind 0) (enter f c ∷ calls) (pick (eqb kind 1) (withdraw f ∷ calls) (pick (eqb kind 2) (clear ∷ calls) calls))
+
+-- an incomplete last call is none
+unfoldable pub callsIn : List ℕ → List Call
+callsIn [] = []
+callsIn (kind ∷ []) = []
+callsIn (kind ∷ f ∷ []) = []
+callsIn (kind ∷ f ∷ c ∷ rest) = addCall kind f c (callsIn rest)
+
+-- the arguments of a call are bytes
+abbrev pub Small : Call → Type 0
+Small (enter f c) = (f < 256) × (c < 256)
+Small (withdraw f) = f < 256
+Small clear = Unit {0}
