@@ -1,4 +1,4 @@
--- Alike books have the same largest subdomain, and so the same counts, lines and masks. Assumes nothing.
+-- Alike books have the same largest subdomain. Assumes nothing.
 use Prim.Native.Nat.{ℕ, _<_}
 use mathlib.Core.Path.{_≡_, sym, subst}
 use mathlib.Core.List.{List}
@@ -6,10 +6,8 @@ use lib.ListN.{length, getD}
 use Rattle.format.specs.Format.{Table, Book}
 use Rattle.consistency.specs.Consistency.{Subdomain, Fits, nth}
 use Rattle.consistency.specs.Largest.{largest}
-use Rattle.consistency.specs.Counts.{total, struck, lines, masks}
 use Rattle.consistency.specs.Alike.{AlikeTables, Alike}
 use Rattle.consistency.proofs.Largest.{largest-is, largest-unique}
-use Rattle.consistency.proofs.SameLargest.{same-total, same-struck, same-lines, same-masks}
 use Rattle.consistency.proofs.Tables.{supported-moves}
 
 -- alike either way round: tables, then books
@@ -52,17 +50,3 @@ alike-largest {b} {d} p a =
       has-all = λ R r. largest-is b a .has-all R (alike-fits (alike-sym p) r);
     })
     (largest-is d a)
-
--- and so all that the pass counts and lists, and what plain filtering writes
-module _ {b d : Book} (p : Alike b d) (a : List ℕ) where
-  pub alike-total : total b a ≡ total d a
-  alike-total = same-total b d (p .same-counts) (alike-largest p) a
-
-  pub alike-struck : struck b a ≡ struck d a
-  alike-struck = same-struck b d (p .same-counts) (alike-largest p) a
-
-  pub alike-lines : lines b a ≡ lines d a
-  alike-lines = same-lines b d (p .same-counts) (alike-largest p) a
-
-  pub alike-masks : masks b a ≡ masks d a
-  alike-masks = same-masks b d (p .same-counts) (alike-largest p) a

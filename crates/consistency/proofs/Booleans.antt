@@ -2,8 +2,9 @@
 use mathlib.Core.Path.{_≡_, refl, sym, subst}
 use mathlib.Core.Logic.{_⊎_, inl, inr, ⊎-elim}
 use mathlib.Core.Bool.{Bool, true, false, not, _&&_, _||_}
-use Prim.Native.Nat.{ℕ, zero, suc, _<_}
+use Prim.Native.Nat.{ℕ, zero, suc, _+_, _<_}
 use native.Mathlib.Nat.{le-trans, le-suc, lt-suc-self, not-suc-le-zero, le-of-suc-le-suc, eq-or-lt-of-le}
+use native.Mathlib.Omega.{arith}
 use lib.Dec.{T, eqb, eqb-refl}
 use Rattle.consistency.specs.Counting.{allBelow, anyBelow}
 
@@ -69,6 +70,10 @@ eq→eqb {m} {n} e = subst (λ (k : ℕ). T (eqb m k)) e (eqb-refl m)
 -- a number below suc n is n, or below n
 pub below-suc : {k n : ℕ} → k < suc n → (k ≡ n) ⊎ (k < n)
 below-suc h = eq-or-lt-of-le (le-of-suc-le-suc h)
+
+-- one more on either side
+pub suc-shift : (i k : ℕ) → suc i + k ≡ i + suc k
+suc-shift i k = omega arith
 
 -- what holds of each number below suc n holds of each below n
 pub below-less : {n : ℕ} (P : ℕ → Type 0) → ((k : ℕ) → k < suc n → P k) → (k : ℕ) → k < n → P k

@@ -13,6 +13,7 @@ pub mod SameLargest
 pub mod Positions
 pub mod Tables
 pub mod AlikeLaws
+pub mod CountsAlike
 pub mod AlikeExample
 pub mod Answers
 pub mod Chains

@@ -4,24 +4,21 @@ use mathlib.Core.Logic.{_⊎_, inl, inr}
 use mathlib.Core.Bool.{Bool, true, false, _&&_}
 use mathlib.Core.List.{List, [], _∷_, map}
 use Prim.Native.Nat.{ℕ, zero, suc, _+_, _≤_, _<_}
-use native.Mathlib.Nat.{le-refl, add-zero, zero-add, add-suc, suc-add}
+use native.Mathlib.Nat.{le-refl, add-zero, zero-add}
 use native.Mathlib.Omega.{arith}
 use lib.ListN.{getD, replicate}
 use lib.Dec.{ltb, leb·zero, leb·suc-zero, leb·suc-suc}
 use Rattle.consistency.specs.Largest.{Domains, has, removeFrom, remove, countOf, count}
+use Rattle.consistency.proofs.Booleans.{suc-shift}
 
 -- ---- what is left
-
--- an index that goes on from the next one
-next : (i k : ℕ) → suc i + k ≡ i + suc k
-next i k = suc-add i k ∙ sym (add-suc i k)
 
 -- in one field
 remove-from-at : (p : ℕ → Bool) (c : ℕ) (r : List Bool) (k : ℕ) → getD (removeFrom p c r) k false ≡ (getD r k false && p (c + k))
 unfolding removeFrom
 remove-from-at p c [] k = refl
 remove-from-at p c (x ∷ r) zero = ap (λ (i : ℕ). x && p i) (sym (add-zero c))
-remove-from-at p c (x ∷ r) (suc k) = remove-from-at p (suc c) r k ∙ ap (λ (i : ℕ). getD r k false && p i) (next c k)
+remove-from-at p c (x ∷ r) (suc k) = remove-from-at p (suc c) r k ∙ ap (λ (i : ℕ). getD r k false && p i) (suc-shift c k)
 
 -- in the fields from f on
 remove-at-from : (p : ℕ → ℕ → Bool) (f : ℕ) (m : Domains) (g c : ℕ) → has (remove p f m) g c ≡ (has m g c && p (f + g) c)
@@ -29,7 +26,7 @@ unfolding remove
 remove-at-from p f [] g c = refl
 remove-at-from p f (r ∷ m) zero c =
     remove-from-at (p f) zero r c ∙ ap₂ (λ (g i : ℕ). getD r c false && p g i) (sym (add-zero f)) (zero-add c)
-remove-at-from p f (r ∷ m) (suc g) c = remove-at-from p (suc f) m g c ∙ ap (λ (i : ℕ). has m g c && p i c) (next f g)
+remove-at-from p f (r ∷ m) (suc g) c = remove-at-from p (suc f) m g c ∙ ap (λ (i : ℕ). has m g c && p i c) (suc-shift f g)
 
 -- the codes that were there and at which p holds
 pub remove-at : (p : ℕ → ℕ → Bool) (m : Domains) (f c : ℕ) → has (remove p 0 m) f c ≡ (has m f c && p f c)

@@ -5,13 +5,13 @@ use mathlib.Core.Logic.{_⊎_, inl, inr, _≢_}
 use mathlib.Core.Bool.{Bool, true, false, not}
 use mathlib.Core.List.{List, [], _∷_, List·Memᴰ·head, List·Memᴰ·tail}
 use Prim.Native.Nat.{ℕ, zero, suc, _+_, _<_}
-use native.Mathlib.Nat.{lt-suc-self, not-suc-le-zero, le-of-suc-le-suc, add-zero, add-suc, suc-add}
+use native.Mathlib.Nat.{lt-suc-self, not-suc-le-zero, le-of-suc-le-suc, add-zero}
 use native.Mathlib.Omega.{arith}
 use lib.ListN.{length, getD, length-append}
 use Rattle.format.specs.Basics.{pick}
 use Rattle.consistency.specs.Counting.{howMany, those, sumBelow, sumOver, joinOver, tabulate}
 use Rattle.consistency.specs.Order.{In}
-use Rattle.consistency.proofs.Booleans.{below-suc, below-less}
+use Rattle.consistency.proofs.Booleans.{below-suc, below-less, suc-shift}
 
 -- ---- equal values
 
@@ -68,7 +68,7 @@ pub tabulate-at : {A : Type 0} (g : ℕ → A) (n i k : ℕ) (z : A) → k < n �
 unfolding tabulate
 tabulate-at g zero i k z l = absurd (not-suc-le-zero l)
 tabulate-at g (suc n) i zero z l = ap g (sym (add-zero i))
-tabulate-at g (suc n) i (suc k) z l = tabulate-at g n (suc i) k z (le-of-suc-le-suc l) ∙ ap g (suc-add i k ∙ sym (add-suc i k))
+tabulate-at g (suc n) i (suc k) z l = tabulate-at g n (suc i) k z (le-of-suc-le-suc l) ∙ ap g (suc-shift i k)
 
 -- ---- a test and its negation
 

@@ -118,12 +118,19 @@ abbrev pub lastTest : ℕ → Step → Verdict
 lastTest list (next at rows) = pick (ltb at list) (fail 13 at) pass
 lastTest list (stop number place) = fail number place
 
--- "Reading a book, in this order": 1 to 6, 7, the tables, 13
+-- 1 to 6, of the trailer
+abbrev pub trailerVerdict : List ℕ → Verdict
+trailerVerdict s =
+    trailerTest (length s) (byte s (length s - 1)) (versionOf s) (fieldCount s) (tableCount s) (listPlace s)
+
+-- 7, the tables, 13: what stands before the trailer, by the trailer's numbers
+abbrev pub bodyVerdict : List ℕ → ℕ → ℕ → ℕ → Verdict
+bodyVerdict s list fields tables =
+    andThen (listTest s list fields) (lastTest list (tablesStep s list fields tables 0 0))
+
+-- "Reading a book, in this order"
 unfoldable pub verdict : List ℕ → Verdict
-verdict s =
-    andThen (trailerTest (length s) (byte s (length s - 1)) (versionOf s) (fieldCount s) (tableCount s) (listPlace s))
-    (andThen (listTest s (listPlace s) (fieldCount s))
-    (lastTest (listPlace s) (tablesStep s (listPlace s) (fieldCount s) (tableCount s) 0 0)))
+verdict s = andThen (trailerVerdict s) (bodyVerdict s (listPlace s) (fieldCount s) (tableCount s))
 
 abbrev pub outcome : Verdict → List ℕ → Outcome
 outcome pass counts = accepted counts

@@ -1,0 +1,66 @@
+-- An answer is told by what is shown of it: no two answers show the same number, place and counts. Assumes nothing.
+use mathlib.Core.Path.{_≡_, refl, sym, ap, _∙_}
+use mathlib.Core.List.{List, [], _∷_}
+use Prim.Native.Nat.{ℕ, _≤_}
+use native.Mathlib.Omega.{arith}
+use lib.ListN.{getD}
+use Rattle.format.specs.Reading.{Outcome}
+use Rattle.book.specs.Shown.{numberOf, shown, shownCheck}
+use Rattle.book.specs.declared.Refusal.{Refusal}
+use Rattle.book.specs.declared.Refusal.the-variants.{Length, Closing, Version, FieldCount, TableCount, ListPlace, CodeCount, Short, Arity, FieldNumber, Code, RowCount, LeftOver}
+use Rattle.book.specs.declared.Reading.{Reading}
+use Rattle.book.specs.declared.Reading.the-variants.{Accepted, Refused}
+use Rattle.book.specs.declared.Checked.{Checked}
+use Rattle.book.specs.declared.Checked.the-variants.{Good, Bad}
+
+-- the kind of a number from 1 to 13
+kindOf : ℕ → Refusal
+kindOf n =
+    getD
+    (Length ∷ Length ∷ Closing ∷ Version ∷ FieldCount ∷ TableCount ∷ ListPlace ∷ CodeCount ∷ Short ∷ Arity ∷ FieldNumber ∷ Code ∷ RowCount ∷ LeftOver ∷ []) n
+    Length
+
+-- a kind's number is not 0, and tells the kind
+numbered : (k : Refusal) → (1 ≤ numberOf k) × (kindOf (numberOf k) ≡ k)
+unfolding kindOf
+numbered Length = (omega arith, refl)
+numbered Closing = (omega arith, refl)
+numbered Version = (omega arith, refl)
+numbered FieldCount = (omega arith, refl)
+numbered TableCount = (omega arith, refl)
+numbered ListPlace = (omega arith, refl)
+numbered CodeCount = (omega arith, refl)
+numbered Short = (omega arith, refl)
+numbered Arity = (omega arith, refl)
+numbered FieldNumber = (omega arith, refl)
+numbered Code = (omega arith, refl)
+numbered RowCount = (omega arith, refl)
+numbered LeftOver = (omega arith, refl)
+
+pub number-some : (k : Refusal) → 1 ≤ numberOf k
+number-some k = numbered k .0
+
+pub number-injective : (j k : Refusal) → numberOf j ≡ numberOf k → j ≡ k
+number-injective j k e = sym (numbered j .1) ∙ ap kindOf e ∙ numbered k .1
+
+-- the parts of what is shown
+numbers : {x y : Outcome} → x ≡ y → x .number ≡ y .number
+numbers e = ap (λ (o : Outcome). o .number) e
+
+places : {x y : Outcome} → x ≡ y → x .place ≡ y .place
+places e = ap (λ (o : Outcome). o .place) e
+
+lists : {x y : Outcome} → x ≡ y → x .counts ≡ y .counts
+lists e = ap (λ (o : Outcome). o .counts) e
+
+pub shown-injective : (x y : Reading) → shown x ≡ shown y → x ≡ y
+shown-injective (Accepted f t r d) (Accepted f′ t′ r′ d′) e = cc (lists e)
+shown-injective (Accepted f t r d) (Refused k p) e = absurd (omega (arith, numbers e, number-some k))
+shown-injective (Refused k p) (Accepted f t r d) e = absurd (omega (arith, numbers e, number-some k))
+shown-injective (Refused k p) (Refused k′ p′) e = cc (number-injective k k′ (numbers e), places e)
+
+pub shownCheck-injective : (x y : Checked) → shownCheck x ≡ shownCheck y → x ≡ y
+shownCheck-injective (Good l f t r) (Good l′ f′ t′ r′) e = cc (lists e)
+shownCheck-injective (Good l f t r) (Bad k p) e = absurd (omega (arith, numbers e, number-some k))
+shownCheck-injective (Bad k p) (Good l f t r) e = absurd (omega (arith, numbers e, number-some k))
+shownCheck-injective (Bad k p) (Bad k′ p′) e = cc (number-injective k k′ (numbers e), places e)

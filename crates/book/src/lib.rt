@@ -1,0 +1,105 @@
+// The reader: whether bytes are a book, and what is counted in it. Document 01, "The book's bytes" and "When a call is turned down".
+ghost use mathlib.Core.Path.{_≡_};
+ghost use Rattle.format.specs.Reading.{reading, checking};
+ghost use Rattle.book.specs.Shown.{shown, shownCheck};
+
+mod bytes;
+mod different;
+mod scans;
+mod tests;
+
+// Why bytes are no book. numberOf (specs) gives each kind document 01's number.
+pub enum Refusal {
+    Length,
+    Closing,
+    Version,
+    FieldCount,
+    TableCount,
+    ListPlace,
+    CodeCount,
+    Short,
+    Arity,
+    FieldNumber,
+    Code,
+    RowCount,
+    LeftOver,
+}
+
+// What reading answers: the counts of an accepted book, or the first refusal and its place.
+pub enum Reading {
+    Accepted {
+        fields: usize,
+        tables: usize,
+        rows: usize,
+        different: usize,
+    },
+    Refused(Refusal, usize),
+}
+
+// What checking answers: the numbers of an accepted book that calls on it start from, or the first refusal and its place.
+pub enum Checked {
+    Good {
+        list: usize,
+        fields: usize,
+        tables: usize,
+        rows: usize,
+    },
+    Bad(Refusal, usize),
+}
+
+// Makes every test. Different rows are counted apart, since only `read` answers their number.
+pub fn check(book: &[u8]) -> Checked
+    ensures { λ r. ⌜ shownCheck r ≡ checking (now (book .entry)) ⌝ }
+{
+    let trailer = tests::trailer(book);
+    if let tests::Test::Fail(kind, place) = trailer {
+        return Checked::Bad(kind, place);
+    }
+    let n = book.len();
+    let list = bytes::pair(book, n - 6);
+    let fields = bytes::byte(book, n - 4);
+    let tables = bytes::byte(book, n - 3);
+    let counts = tests::field_list(book, list, fields);
+    if let tests::Test::Fail(kind, place) = counts {
+        return Checked::Bad(kind, place);
+    }
+    let step = tests::tables(book, list, fields, tables);
+    match step {
+        tests::Step::Stop(kind, place) => Checked::Bad(kind, place),
+        tests::Step::Next { at, rows } => {
+            if at < list {
+                return Checked::Bad(Refusal::LeftOver, at);
+            }
+            Checked::Good {
+                list: list,
+                fields: fields,
+                tables: tables,
+                rows: rows,
+            }
+        }
+    }
+}
+
+// Checks the book, then counts its different rows.
+pub fn read(book: &[u8]) -> Reading
+    ensures { λ r. ⌜ shown r ≡ reading (now (book .entry)) ⌝ }
+{
+    let checked = check(book);
+    match checked {
+        Checked::Bad(kind, place) => Reading::Refused(kind, place),
+        Checked::Good {
+            list: _,
+            fields,
+            tables,
+            rows,
+        } => {
+            let count = different::different_total(book, tables);
+            Reading::Accepted {
+                fields: fields,
+                tables: tables,
+                rows: rows,
+                different: count,
+            }
+        }
+    }
+}
