@@ -3,3 +3,4 @@ pub mod Steps
 pub mod CallLists
 pub mod Cases
 pub mod AlikeCalls
+pub mod Examples

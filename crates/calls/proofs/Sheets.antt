@@ -52,6 +52,7 @@ sheet-store a f x l =
   where
     long : length (set (sheetOf a) f (byteOf x)) ≡ places
     long = length-set (sheetOf a) f (byteOf x) ∙ length-sheet a
+
     at : (g : ℕ) → g < places → Dec (g ≡ f) → answer (set (sheetOf a) f (byteOf x)) g ≡ byteOf (put a f x g)
     at g k (yes e) =
         ap (answer (set (sheetOf a) f (byteOf x))) e
@@ -71,10 +72,13 @@ accepted-within bytes ok = record { few = omega (arith, many, p .few, limit); sm
   where
     p : Promise bytes
     p = accepted-promise bytes ok
+
     many : length (bookOf bytes .counts) ≡ fieldCount bytes
     many = counts-count bytes (p .whole)
+
     limit : fieldLimit (versionOf bytes) ≤ places
     limit = pick-holds (λ n. n ≤ places) (eqb (versionOf bytes) 1) (omega arith) (omega arith)
+
     at : (f : ℕ) → Dec (f < fieldCount bytes) → codes (bookOf bytes) f ≤ codeLimit
     at f (yes l) = omega (arith, counts-view bytes f l, p .sized f l .1)
     at f (no n) =

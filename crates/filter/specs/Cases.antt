@@ -24,5 +24,3 @@ marksOf b cases = tabulate (λ i. caseWord b cases (i / codeLimit) (i % codeLimi
 abbrev pub outsideOver : Book → List (List ℕ) → ℕ
 outsideOver b [] = 0
 outsideOver b (a ∷ cases) = outside b (largest b a) + outsideOver b cases
-
-

@@ -1,3 +1,3 @@
 // The filter over an accepted book: the one pass for all cases, and plain filtering by the same engine with one case.
-mod support;
 mod revise;
+mod support;
