@@ -1,0 +1,1 @@
+// The whole text that the desk prints.
