@@ -1,11 +1,11 @@
 -- A list of calls with accepted bytes, from a fresh sheet: the result of each call, and the sheet and the answers behind the last. Assumes nothing.
 use Prim.Native.Nat.{ℕ}
-use mathlib.Core.Path.{_≡_, refl, ap, ap₂, _∙_}
+use mathlib.Core.Path.{_≡_, refl, ap, _∙_}
 use mathlib.Core.List.{List, [], _∷_}
 use Rattle.format.specs.Format.{Book, bookOf}
 use Rattle.format.specs.Reading.{Accepted}
 use Rattle.calls.specs.Calls.{Result, freshSheet}
-use Rattle.calls.specs.Histories.{Call, Answers, after, answersFrom, noAnswers, answersAfter, refusalsFrom, sheetOf, called, results, sheetThrough, sheetAfter}
+use Rattle.calls.specs.Histories.{Call, Answers, after, answersFrom, noAnswers, answersAfter, refusalsFrom, sheetOf, results, sheetThrough, sheetAfter}
 use Rattle.calls.specs.Conditions.{numbers}
 use Rattle.calls.proofs.Sheets.{sheet-fresh, Sound, sound-none}
 use Rattle.calls.proofs.Steps.{stepOf, called-step, sound-step}

@@ -1,46 +1,39 @@
 -- What filtering and listing answer on the sheet that holds answers, by any largest subdomains of the cases. Assumes nothing.
 use Prim.Native.Nat.{ℕ, _+_, _*_, _≤_, _<_}
-use mathlib.Core.Path.{_≡_, refl, sym, ap, ap₂, _∙_, subst}
+use mathlib.Core.Path.{_≡_, sym, ap, ap₂, _∙_, subst}
 use mathlib.Core.Logic.{_↔_}
 use mathlib.Core.Bool.{Bool, not}
-use mathlib.Core.List.{List, [], _∷_, _++_}
+use mathlib.Core.List.{List}
 use native.Mathlib.Omega.{arith}
 use borrow.Author.Tests.{le-ltb}
-use lib.ListN.{length, getD, drop, List·getD-append}
-use lib.Dec.{T, ltb}
-use Rattle.format.specs.Basics.{pick}
+use lib.ListN.{length}
+use lib.Dec.{T}
 use Rattle.format.specs.Format.{Book, bookOf}
 use Rattle.format.specs.Reading.{Accepted}
-use Rattle.consistency.specs.Counting.{sumOver, those}
-use Rattle.consistency.specs.Consistency.{Subdomain, codes, relax, IsLargest}
+use Rattle.format.proofs.Accepted.{accepted-verdict}
+use Rattle.consistency.specs.Counting.{sumOver}
+use Rattle.consistency.specs.Consistency.{Subdomain, relax, IsLargest}
 use Rattle.consistency.specs.Largest.{largest}
-use Rattle.consistency.specs.Counts.{codesIn, outside, answered, relaxable, listed, total, struck, Line, lines, lineBytes, bit, masks}
+use Rattle.consistency.specs.Counts.{codesIn, outside, answered, relaxable, total, struck, Line, lines}
 use Rattle.consistency.specs.Order.{In}
 use Rattle.consistency.proofs.Sums.{those-ext, sum-over-ext}
 use Rattle.consistency.proofs.Members.{in-those}
 use Rattle.consistency.proofs.CodeCounts.{codes-in-ext, outside-ext}
 use Rattle.consistency.proofs.Largest.{largest-is, largest-unique}
 use Rattle.consistency.proofs.Lines.{relaxable-are, lines-are, lines-in-order, length-lines}
-use Rattle.consistency.proofs.Masks.{length-masks, masks-bit}
-use Rattle.calls.specs.Calls.{Result, turned, done, filtered, alternatives}
+use Rattle.calls.specs.Calls.{Result, filtered, alternatives}
 use Rattle.calls.specs.Histories.{Answer, none, is, Answers, given, sheetOf}
 use Rattle.calls.specs.Conditions.{Shows, answeredFields, Cases, theSum, theStruck, Lists}
-use Rattle.calls.proofs.Sheets.{accepted-within, Sound, answered-given, Within}
+use Rattle.calls.proofs.Sheets.{Within, accepted-within, Sound, answered-given, no-fault}
 use Rattle.calls.proofs.Steps.{on-sheet}
+use Rattle.calls.proofs.Listing.{listing, list-accepts}
+use Rattle.calls.proofs.Condition2.{condition2-open}
 
 -- equal tests
 T-iff : {x y : Bool} → x ≡ y → T x ↔ T y
 T-iff e = (subst T e, subst T (sym e))
 
 -- ---- the cases
-
--- there are largest subdomains for them
-pub cases-are : (b : Book) (a : Answers) → (S : Answer → Subdomain) × Cases b a S
-cases-are b a = (largestOf, record { nothing = largest-is b (sheetOf a); alone = λ f t. largest-is b (relax (sheetOf a) f) })
-  where
-    largestOf : Answer → Subdomain
-    largestOf none = largest b (sheetOf a)
-    largestOf (is f) = largest b (relax (sheetOf a) f)
 
 module _ (b : Book) (w : Within b) (a : Answers) (s : Sound b a) where
   -- the fields that get a case of their own
@@ -86,34 +79,37 @@ module _ (b : Book) (w : Within b) (a : Answers) (s : Sound b a) where
           ),
     )
 
--- ---- the calls
+-- there are largest subdomains for them
+pub cases-are : (b : Book) (a : Answers) → (S : Answer → Subdomain) × Cases b a S
+cases-are b a = (largestOf, record { nothing = largest-is b (sheetOf a); alone = λ f t. largest-is b (relax (sheetOf a) f) })
+  where
+    largestOf : Answer → Subdomain
+    largestOf none = largest b (sheetOf a)
+    largestOf (is f) = largest b (relax (sheetOf a) f)
 
--- what listing answers on sheet s with o lent, by the total, the number struck and the lines
-abbrev pub listedWith : List ℕ → List ℕ → ℕ → ℕ → List Line → Result
-listedWith s o n k ls = pick (ltb (length o) (2 * n)) (turned 2 s o 18 0) (done (n ∷ k ∷ []) s (lineBytes ls ++ drop (2 * n) o))
+-- ---- the calls
 
 module _ (bytes : List ℕ) (ok : Accepted bytes) (a : Answers) (s : Sound (bookOf bytes) a) (o : List ℕ) where
   abbrev b : Book
   b = bookOf bytes
 
-  -- filtering with nothing relaxed, with numbers enough lent
-  pub filtered-is : length (b .counts) ≤ length o
-      → filtered bytes (sheetOf a) 255 o ≡ done [] (sheetOf a) (masks b (sheetOf a) ++ drop (length (b .counts)) o)
+  -- filtering with nothing relaxed is accepted where numbers enough are lent
+  filtered-accepts : length (b .counts) ≤ length o → filtered bytes (sheetOf a) 255 o .outcome .number ≡ 0
   unfolding filtered
-  filtered-is h = on-sheet bytes ok a s 0 o _ ∙ rw (le-ltb (length o) (length (b .counts)) h)
+  filtered-accepts h =
+      ap (λ (r : Result). r .outcome .number) (on-sheet bytes ok a s 0 o _) ∙ rw (le-ltb (length o) (length (b .counts)) h)
 
-  -- listing
-  pub alternatives-on : alternatives bytes (sheetOf a) o
-      ≡ listedWith (sheetOf a) o (total b (sheetOf a)) (struck b (sheetOf a)) (lines b (sheetOf a))
-  unfolding alternatives
-  alternatives-on = on-sheet bytes ok a s 2 o _
+  -- so its bits are the codes of any largest subdomain
+  pub filtered-shows : length (b .counts) ≤ length o → (S : Subdomain) → IsLargest b (sheetOf a) S
+      → (f c : ℕ) → f < length (b .counts) → T (not (given (a f))) → Shows (filtered bytes (sheetOf a) 255 o .buffer) f c ↔ T (S f c)
+  filtered-shows h S m f c l t =
+      condition2-open bytes (sheetOf a) o (filtered-accepts h) S m f c l
+      (T-iff (ap not (answered-given b (accepted-within bytes ok) a s f)) .1 t)
 
-  -- with bytes enough lent
-  alternatives-is : 2 * total b (sheetOf a) ≤ length o
-      → alternatives bytes (sheetOf a) o
-      ≡ done (total b (sheetOf a) ∷ struck b (sheetOf a) ∷ []) (sheetOf a)
-      (lineBytes (lines b (sheetOf a)) ++ drop (2 * total b (sheetOf a)) o)
-  alternatives-is h = alternatives-on ∙ rw (le-ltb (length o) (2 * total b (sheetOf a)) h)
+  -- listing, with bytes enough lent
+  alternatives-is : 2 * total b (sheetOf a) ≤ length o → alternatives bytes (sheetOf a) o ≡ listing b (sheetOf a) o
+  alternatives-is h =
+      list-accepts bytes (sheetOf a) o (accepted-verdict bytes ok) (omega (arith, no-fault b (accepted-within bytes ok) a s)) h
 
   -- so its answer is that of any largest subdomains
   pub alternatives-list : (S : Answer → Subdomain) → Cases b a S → 2 * theSum b a S ≤ length o → Lists b a S o (alternatives bytes (sheetOf a) o)

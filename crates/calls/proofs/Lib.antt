@@ -1,6 +1,16 @@
+pub mod CallLaws
 pub mod Sheets
 pub mod Steps
 pub mod CallLists
+pub mod Listing
 pub mod Cases
 pub mod AlikeCalls
 pub mod Examples
+pub mod Written
+pub mod Condition3
+pub mod Condition1
+pub mod Condition2
+pub mod Instances
+pub mod Held
+pub mod Agreement
+pub mod Stored

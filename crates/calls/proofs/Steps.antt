@@ -1,31 +1,28 @@
 -- One call with accepted bytes on the sheet that holds answers: its refusal is the one that the answers give, and its sheet holds the answers
 -- after it. Assumes nothing.
 use Prim.Native.Nat.{ℕ, _<_}
-use mathlib.Core.Path.{_≡_, refl, sym, ap, _∙_}
-use mathlib.Core.Bool.{Bool, true, false, not}
+use mathlib.Core.Path.{_≡_, refl, ap, _∙_}
+use mathlib.Core.Bool.{Bool, true, false}
 use mathlib.Core.List.{List, []}
 use native.Mathlib.Omega.{arith}
-use borrow.Author.Tests.{ltb-true, eqb-true, not-true, not-false}
-use lib.ListN.{length, set}
+use borrow.Author.Tests.{ltb-true, eqb-true}
+use lib.ListN.{length}
 use lib.Dec.{ltb, eqb}
 use Rattle.format.specs.Basics.{pick}
 use Rattle.format.specs.Format.{Book, bookOf}
 use Rattle.format.specs.Reading.{Accepted}
 use Rattle.format.proofs.Picks.{pick-first}
 use Rattle.format.proofs.Accepted.{accepted-verdict}
-use Rattle.consistency.specs.Consistency.{places, codes, answer, relax}
-use Rattle.calls.specs.Calls.{Result, freshSheet, turned, done, onSheet, entered, withdrawn, cleared}
-use Rattle.calls.specs.Histories.{Call, enter, withdraw, clear, Answer, none, is, Answers, given, put, refusalOf, change, after, sheetOf, called}
+use Rattle.consistency.specs.Consistency.{places, codes, answer}
+use Rattle.calls.specs.Calls.{Result, done, onSheet, entered, withdrawn}
+use Rattle.calls.specs.Histories.{Call, enter, withdraw, clear, Answer, none, is, Answers, put, refusalOf, after, sheetOf, called}
+use Rattle.calls.proofs.CallLaws.{sheet-go}
 use Rattle.calls.proofs.Sheets.{sheet-fresh, sheet-store, Within, accepted-within, Sound, sound-none, answered-given, no-fault}
 
--- the result of a call that counts nothing and is lent nothing: its refusal's number, and the sheet of the answers e if it is 0, else of a
-abbrev resultWith : ℕ → Answers → Answers → Result
-resultWith number a e =
-    record { outcome = record { number = number; place = 0; counts = [] }; sheet = sheetOf (pick (eqb number 0) e a); buffer = [] }
-
--- what the book and the answers before a call give for it
+-- what the book and the answers before a call give for it: the number of its refusal, and the sheet that holds the answers after it
 abbrev pub stepOf : Book → Answers → Call → Result
-stepOf b a call = resultWith (refusalOf b a call) a (change a call)
+stepOf b a call =
+    record { outcome = record { number = refusalOf b a call; place = 0; counts = [] }; sheet = sheetOf (after b a call); buffer = [] }
 
 module _ (bytes : List ℕ) (ok : Accepted bytes) (a : Answers) (s : Sound (bookOf bytes) a) where
   abbrev b : Book
@@ -36,38 +33,35 @@ module _ (bytes : List ℕ) (ok : Accepted bytes) (a : Answers) (s : Sound (book
 
   -- neither 1 to 13 nor 14
   pub on-sheet : (k : ℕ) (o : List ℕ) (go : Book → Result) → onSheet k bytes (sheetOf a) o go ≡ go b
-  on-sheet k o go = rw (accepted-verdict bytes ok, no-fault b within a s)
+  on-sheet k o go = sheet-go k bytes (sheetOf a) o go (accepted-verdict bytes ok) (omega (arith, no-fault b within a s))
 
   -- a field of the book has a place
   field-place : (f : ℕ) → ltb f (length (b .counts)) ≡ true → f < places
   field-place f e = omega (arith, ltb-true f (length (b .counts)) e, within .few)
 
   -- 15, 16, or another code
-  entered-cases : (f c : ℕ) (x y : Bool) → (x ≡ true → set (sheetOf a) f c ≡ sheetOf (put a f (is c)))
-      → pick x (pick y (done [] (set (sheetOf a) f c) []) (turned 0 (sheetOf a) [] 16 0)) (turned 0 (sheetOf a) [] 15 0)
-      ≡ resultWith (pick x (pick y 0 16) 15) a (put a f (is c))
-  entered-cases f c true true store = ap (λ (x : List ℕ). done [] x []) (store refl)
-  entered-cases f c true false store = refl
-  entered-cases f c false y store = refl
+  entered-step : (f c : ℕ) (x y : Bool) → ltb f (length (b .counts)) ≡ x → ltb c (codes b f) ≡ y
+      → entered bytes (sheetOf a) f c ≡ stepOf b a (enter f c)
+  unfolding entered
+  entered-step f c true true e d =
+      on-sheet 0 [] _ ∙ rw (e, d) (ap (λ (x : List ℕ). done [] x []) (sheet-store a f (is c) (field-place f e)))
+  entered-step f c true false e d = on-sheet 0 [] _ ∙ rw (e, d)
+  entered-step f c false y e d = on-sheet 0 [] _ ∙ rw e
 
   -- 15, 17, or no answer
-  withdrawn-cases : (f : ℕ) (x y z : Bool) → (x ≡ true → relax (sheetOf a) f ≡ sheetOf (put a f none)) → not z ≡ y
-      → pick x (pick z (turned 0 (sheetOf a) [] 17 0) (done [] (relax (sheetOf a) f) [])) (turned 0 (sheetOf a) [] 15 0)
-      ≡ resultWith (pick x (pick y 0 17) 15) a (put a f none)
-  withdrawn-cases f true y true store e = rw (← e)
-  withdrawn-cases f true y false store e = rw (← e) (ap (λ (x : List ℕ). done [] x []) (store refl))
-  withdrawn-cases f false y z store e = refl
+  withdrawn-step : (f : ℕ) (x y : Bool) → ltb f (length (b .counts)) ≡ x → eqb (answer (sheetOf a) f) 255 ≡ y
+      → withdrawn bytes (sheetOf a) f ≡ stepOf b a (withdraw f)
+  unfolding withdrawn
+  withdrawn-step f true true e d = on-sheet 0 [] _ ∙ rw (← answered-given b within a s f, e, d)
+  withdrawn-step f true false e d =
+      on-sheet 0 [] _
+      ∙ rw (← answered-given b within a s f, e, d) (ap (λ (x : List ℕ). done [] x []) (sheet-store a f none (field-place f e)))
+  withdrawn-step f false y e d = on-sheet 0 [] _ ∙ rw e
 
   -- one call
   pub called-step : (call : Call) → called bytes (sheetOf a) call ≡ stepOf b a call
-  unfolding entered withdrawn
-  called-step (enter f c) =
-      on-sheet 0 [] _
-      ∙ entered-cases f c (ltb f (length (b .counts))) (ltb c (codes b f)) (λ e. sheet-store a f (is c) (field-place f e))
-  called-step (withdraw f) =
-      on-sheet 0 [] _
-      ∙ withdrawn-cases f (ltb f (length (b .counts))) (given (a f)) (eqb (answer (sheetOf a) f) 255)
-      (λ e. sheet-store a f none (field-place f e)) (answered-given b within a s f)
+  called-step (enter f c) = entered-step f c (ltb f (length (b .counts))) (ltb c (codes b f)) refl refl
+  called-step (withdraw f) = withdrawn-step f (ltb f (length (b .counts))) (eqb (answer (sheetOf a) f) 255) refl refl
   called-step clear = ap (λ (x : List ℕ). done [] x []) sheet-fresh
 
   -- the answers after it are codes of their fields

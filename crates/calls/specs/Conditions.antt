@@ -1,19 +1,21 @@
--- Conditions 1 to 3. Each is a type; its proof is a value of it (proofs/Condition1.antt, Condition2.antt, Condition3.antt). Assumes nothing.
+-- Conditions 1 to 3, and what else document 01 says of two calls together. Each is a type; its proof is a value of it (proofs/Condition1.antt,
+-- Condition2.antt, Agreement.antt, Stored.antt, Condition3.antt). Assumes nothing.
 use Prim.Native.Nat.{ℕ, zero, suc, _+_, _*_, _/_, _%_, _^_, _≤_, _<_}
 use mathlib.Core.Path.{_≡_}
 use mathlib.Core.Logic.{_≢_, _↔_}
 use mathlib.Core.List.{List, [], _∷_, _++_}
 use mathlib.Core.Bool.{Bool, true, false, not}
-use lib.ListN.{length, getD, drop, replicate}
+use lib.ListN.{length, getD, take, drop, replicate}
 use lib.Dec.{T, eqb}
+use Rattle.format.specs.Basics.{pick}
 use Rattle.format.specs.Format.{Book, bookOf}
 use Rattle.format.specs.Reading.{accepted, Accepted}
 use Rattle.consistency.specs.Counting.{sumOver, those}
-use Rattle.consistency.specs.Consistency.{Subdomain, relax, IsLargest}
+use Rattle.consistency.specs.Consistency.{places, Subdomain, codes, relax, IsLargest}
 use Rattle.consistency.specs.Counts.{codesIn, outside, answered, Line, lineBytes}
 use Rattle.consistency.specs.Order.{InOrder, In}
 use Rattle.consistency.specs.Alike.{Alike}
-use Rattle.calls.specs.Calls.{Result, freshSheet, entered, withdrawn, cleared, filtered, alternatives, loaded, stored}
+use Rattle.calls.specs.Calls.{Result, freshSheet, done, entered, withdrawn, cleared, filtered, alternatives, loaded, stored}
 use Rattle.calls.specs.Histories.{Call, Answer, none, is, Answers, given, noAnswers, answersAfter, refusalsFrom, sheetOf, results, sheetAfter}
 
 -- ---- Condition 1: "The answer to any bytes, sheet and call is the one that document 01 defines" is the contracts of the calls;
@@ -91,6 +93,50 @@ Condition2-open =
     → (S : Subdomain) → IsLargest (bookOf bytes) s S
     → (f c : ℕ) → f < length (bookOf bytes .counts) → T (not (answered s f))
     → Shows (filtered bytes s 255 o .buffer) f c ↔ T (S f c)
+
+-- the answers under which plain filtering filters: "The lifted field is a number, or 255 for none"
+abbrev pub filterAnswers : List ℕ → ℕ → List ℕ
+filterAnswers s g = pick (eqb g 255) s (relax s g)
+
+-- "Plain filtering writes one 32-bit number a field, bit c set exactly when code c is in the field's part of the largest subdomain of that
+-- case, all other bits 0"; "Numbers behind the last field keep their contents": o before, o′ after, under answers a
+pub record Filtered (b : Book) (a o o′ : List ℕ) : Type 0 where
+  pub bits : (S : Subdomain) → IsLargest b a S → (f c : ℕ) → f < length (b .counts) → Shows o′ f c ↔ T (S f c)
+  -- no bit is set at the field's number of codes or above
+  pub small : (f : ℕ) → f < length (b .counts) → getD o′ f 0 < 2 ^ codes b f
+  pub behind : drop (length (b .counts)) o′ ≡ drop (length (b .counts)) o
+  pub as-many : length o′ ≡ length o
+
+-- of every field, answered or not, whatever field is relaxed
+abbrev pub Condition2-filter : Type 0
+Condition2-filter =
+    (bytes s : List ℕ) (g : ℕ) (o : List ℕ) → filtered bytes s g o .outcome .number ≡ 0
+    → Filtered (bookOf bytes) (filterAnswers s g) o (filtered bytes s g o .buffer)
+
+-- "A plain filtering with one chosen field lifted is offered beside it and must agree with it": what plain filtering with f relaxed answers,
+-- plain, and what alternatives answers with o lent, whole
+pub record Agrees (f : ℕ) (o : List ℕ) (plain whole : Result) : Type 0 where
+  pub accepts : plain .outcome .number ≡ 0
+  pub list : List Line
+  pub total : getD (whole .outcome .counts) 0 0 ≡ length list
+  pub written : whole .buffer ≡ lineBytes list ++ drop (2 * length list) o
+  -- the lines of f are the codes that its number shows
+  pub same : (c : ℕ) → In (record { field = f; code = c }) list ↔ Shows (plain .buffer) f c
+
+-- for each answered field, wherever alternatives accepts and numbers enough are lent
+abbrev pub Agreement : Type 0
+Agreement =
+    (bytes s o o′ : List ℕ) → alternatives bytes s o .outcome .number ≡ 0 → length (bookOf bytes .counts) ≤ length o′
+    → (f : ℕ) → f < length (bookOf bytes .counts) → T (answered s f)
+    → Agrees f o (filtered bytes s f o′) (alternatives bytes s o)
+
+-- "Loading a stored sheet": an accepted load, stored where bytes enough are lent, gives the bytes loaded; an accepted store, loaded, gives the
+-- sheet stored
+pub record StoreAndLoad : Type 0 where
+  pub load-then-store : (bytes form o : List ℕ) → loaded bytes form .outcome .number ≡ 0 → length form ≤ length o
+      → stored bytes (loaded bytes form .sheet) o ≡ done [] (loaded bytes form .sheet) (form ++ drop (length form) o)
+  pub store-then-load : (bytes s o : List ℕ) → length s ≡ places → stored bytes s o .outcome .number ≡ 0
+      → loaded bytes (take (length (bookOf bytes .counts)) (stored bytes s o .buffer)) ≡ done [] s []
 
 -- ---- Condition 3: "One claim about every list of enter, withdraw and clear calls from a fresh sheet"
 
