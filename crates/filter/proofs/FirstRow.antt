@@ -1,0 +1,124 @@
+-- Asked for one code in one case, from row 0, the search answers the first row of the table that supports the code. Assumes nothing.
+use mathlib.Core.Path.{_≡_, refl, sym, ap, ap₂, _∙_, subst}
+use mathlib.Core.Logic.{_≢_, _↔_}
+use mathlib.Core.Bool.{Bool, true, false, _&&_}
+use mathlib.Core.List.{List}
+use Prim.Native.Nat.{ℕ, _-_, _^_, _<_, zero-le}
+use native.Mathlib.Nat.{le-trans, le-suc}
+use native.Mathlib.Decide.{ℕ-discrete}
+use native.Mathlib.Omega.{arith}
+use borrow.Author.Tests.{eq-eqb, ne-eqb}
+use lib.Dec.{T, eqb, eqb→eq}
+use lib.ListN.{length, getD}
+use lib.Pow.{pow-pos}
+use Rattle.format.specs.Basics.{pick}
+use Rattle.format.specs.Format.{Table, codeLimit, tableAt}
+use Rattle.consistency.specs.Counting.{allBelow}
+use Rattle.consistency.specs.Consistency.{Subdomain, Support, fieldOf, codeOf}
+use Rattle.consistency.specs.Largest.{rowSupports}
+use Rattle.consistency.proofs.Booleans.{T-ext, true-T, T-true, false-T, and-in, and-left, and-right, eq→eqb}
+use Rattle.consistency.proofs.Supports.{row-in, row-there, row-others}
+use Rattle.filter.specs.Words.{bit, domainOf}
+use Rattle.filter.specs.declared.support.Shape.{Shape}
+use Rattle.filter.specs.declared.support.Found.{Found}
+use Rattle.filter.specs.declared.support.Found.the-variants.{Row, Nothing}
+use Rattle.filter.specs.Support.{InTable, rowCases, firstFrom}
+use Rattle.filter.proofs.Bits.{zero-bit, one-bit, same-bits}
+use Rattle.filter.proofs.Firsts.{FirstIs, first-is}
+use Rattle.filter.proofs.Shapes.{arity-of, rows-of, code-small}
+use Rattle.filter.proofs.Narrowing.{cases-bit}
+
+-- need asks for code c in case k and for nothing else
+pub record OneMark (need : List ℕ) (c k : ℕ) : Type 0 where
+  pub here : getD need c 0 ≡ 2 ^ k
+  pub elsewhere : (d : ℕ) → d ≢ c → getD need d 0 ≡ 0
+
+-- the first row that supports code c in column j under S, with case k alone; or nothing, where no row does
+abbrev pub FirstRow : Subdomain → Table → ℕ → ℕ → ℕ → Found → Type 0
+FirstRow S t j c k (Row r v) =
+    (r < length (t .rows)) × T (rowSupports S t j c r) × ((q : ℕ) → q < r → T (rowSupports S t j c q) → ⊥) × (v ≡ 2 ^ k)
+FirstRow S t j c k Nothing = Support S t j c → ⊥
+
+-- the answer is nothing exactly where no row supports the code
+pub nothing-exactly : (S : Subdomain) (t : Table) (j c k : ℕ) (x : Found) → FirstRow S t j c k x → (x ≡ Nothing) ↔ (Support S t j c → ⊥)
+nothing-exactly S t j c k x h = (λ e. subst (FirstRow S t j c k) e h, back x h)
+  where
+    back : (y : Found) → FirstRow S t j c k y → (Support S t j c → ⊥) → y ≡ Nothing
+    back (Row r v) g n =
+        absurd (n (record { row = r; row-in = g .0; there = row-there S t j c r (g .1); others = row-others S t j c r (g .1) }))
+    back Nothing g n = refl
+
+-- what is asked for, and that it is
+asked : (need : List ℕ) (c k : ℕ) → OneMark need c k → (d i : ℕ) → T (bit (getD need d 0) i) → (d ≡ c) × (i ≡ k)
+asked need c k one d i b = go (ℕ-discrete d c)
+  where
+    go : Dec (d ≡ c) → (d ≡ c) × (i ≡ k)
+    go (yes e) = (e, eqb→eq i k (subst T (ap (λ (x : ℕ). bit x i) (ap (λ (x : ℕ). getD need x 0) e ∙ one .here) ∙ one-bit k i) b))
+    go (no n) = absurd (false-T (ap (λ (x : ℕ). bit x i) (one .elsewhere d n) ∙ zero-bit i) b)
+
+asks : (need : List ℕ) (c k : ℕ) → OneMark need c k → T (bit (getD need c 0) k)
+asks need c k one = true-T (ap (λ (x : ℕ). bit x k) (one .here) ∙ one-bit k k ∙ eq-eqb k k refl)
+
+-- the word of case k alone, or no case
+abbrev alone : Bool → ℕ → ℕ
+alone x k = pick x (2 ^ k) 0
+
+alone-bit : (x : Bool) (k i : ℕ) → bit (alone x k) i ≡ (x && eqb i k)
+alone-bit true k i = one-bit k i
+alone-bit false k i = zero-bit i
+
+alone-some : (x : Bool) (k v : ℕ) → alone x k ≡ v → (v ≡ 0 → ⊥) → T x × (v ≡ 2 ^ k)
+alone-some true k v e n = (tt, sym e)
+alone-some false k v e n = absurd (n (sym e))
+
+alone-none : (x : Bool) (k : ℕ) → alone x k ≡ 0 → T x → ⊥
+alone-none true k e u = omega (arith, pow-pos k)
+alone-none false k e u = u
+
+module _ (M : List ℕ) (t : Table) (j c k : ℕ) (need : List ℕ) (one : OneMark need c k) where
+  abbrev supports : ℕ → Bool
+  supports r = rowSupports (domainOf M k) t j c r
+
+  module _ (small : (r i : ℕ) → r < length (t .rows) → i < length (t .fields) → codeOf t r i < codeLimit) where
+    -- a row has case k where it supports code c in case k, else no case
+    one-case : (r : ℕ) → r < length (t .rows) → rowCases M need t j r ≡ alone (supports r) k
+    one-case r l =
+        same-bits (rowCases M need t j r) (alone (supports r) k)
+        (λ i. cases-bit M t j r (λ n h. small r n l h) need i ∙ T-ext (there i) (back i) ∙ sym (alone-bit (supports r) k i))
+      where
+        own : ℕ
+        own = codeOf t r j
+
+        there : (i : ℕ) → T (bit (getD need own 0) i && rowSupports (domainOf M i) t j own r) → T (supports r && eqb i k)
+        there i b =
+            let a = asked need c k one own i (and-left (bit (getD need own 0) i) (rowSupports (domainOf M i) t j own r) b) in
+            and-in (supports r) (eqb i k)
+            (subst T (ap₂ (λ (x y : ℕ). rowSupports (domainOf M x) t j y r) (a .1) (a .0)) (and-right (bit (getD need own 0) i) (rowSupports (domainOf M i) t j own r) b))
+            (eq→eqb (a .1))
+
+        back : (i : ℕ) → T (supports r && eqb i k) → T (bit (getD need own 0) i && rowSupports (domainOf M i) t j own r)
+        back i b =
+            let u : T (supports r) = and-left (supports r) (eqb i k) b in
+            let e : k ≡ i = sym (eqb→eq i k (and-right (supports r) (eqb i k) b)) in
+            let d : c ≡ own = sym (row-there (domainOf M k) t j c r u) in
+            and-in (bit (getD need own 0) i) (rowSupports (domainOf M i) t j own r)
+            (subst T (ap₂ (λ (x y : ℕ). bit (getD need x 0) y) d e) (asks need c k one))
+            (subst T (ap₂ (λ (x y : ℕ). rowSupports (domainOf M x) t j y r) e d) u)
+
+    -- a row without cases does not support the code
+    none : (r : ℕ) → r < length (t .rows) → rowCases M need t j r ≡ 0 → T (supports r) → ⊥
+    none r l z = alone-none (supports r) k (sym (one-case r l) ∙ z)
+
+    answer : (x : Found) → FirstIs (length (t .rows)) 0 (rowCases M need t j) x → FirstRow (domainOf M k) t j c k x
+    answer (Row r v) h =
+        let a = alone-some (supports r) k v (sym (one-case r (h .below)) ∙ h .value) (h .some) in
+        (h .below, a .0, λ q l. none q (le-trans l (le-trans (le-suc r) (h .below))) (h .none q zero-le l), a .1)
+    answer Nothing h = λ u. none (u .row) (u .row-in) (h (u .row) zero-le (u .row-in)) (row-in (domainOf M k) t j c (u .row) (u .there) (u .others))
+
+-- Document 01's question, of a table of an accepted book: need asks for one code in one case, and the search begins at row 0
+module _ (s : List ℕ) (t : Shape) (q : InTable s t) (M : List ℕ) (j c k : ℕ) (need : List ℕ) (one : OneMark need c k) where
+  pub first-row : (x : Found) → x ≡ firstFrom (t .rows - 0) 0 (rowCases M need (tableAt s (t .at)) j) → FirstRow (domainOf M k) (tableAt s (t .at)) j c k x
+  first-row x e =
+      answer M (tableAt s (t .at)) j c k need one
+      (λ r i rl il. code-small s t q r i (subst (r <_) (rows-of s t q) rl) (subst (i <_) (arity-of s t q) il)) x
+      (subst (λ (n : ℕ). FirstIs n 0 (rowCases M need (tableAt s (t .at)) j) x) (sym (rows-of s t q)) (first-is (t .rows) 0 (rowCases M need (tableAt s (t .at)) j) x zero-le e))

@@ -1,0 +1,113 @@
+-- What is known where book and sheet pass 1 to 14, and what every call on a sheet answers by them. Assumes nothing.
+use mathlib.Core.Path.{_≡_, sym, ap, ap₂, _∙_}
+use mathlib.Core.List.{List, [], _∷_}
+use Prim.Native.Nat.{ℕ, _+_, _≤_, _<_}
+use native.Mathlib.Omega.{arith}
+use lib.Dec.{ltb, eqb}
+use lib.ListN.{length, List·getD-eq-default}
+use borrow.Author.Tests.{lt-ltb, le-ltb}
+use Rattle.format.specs.Format.{Book, byte, versionOf, bookOf}
+use Rattle.format.specs.Reading.{Outcome, accepted, refused, Verdict, pass, fail, andThen, verdict, outcome, checking}
+use Rattle.format.proofs.Accepted.{checked-verdict}
+use Rattle.format.proofs.Picks.{pick-holds, pick-first, pick-second}
+use Rattle.format.proofs.Refusals.{checking-pass}
+use Rattle.format.proofs.Trailer.{fail≢pass}
+use Rattle.format.proofs.Verdict.{verdict-promise}
+use Rattle.format.proofs.Views.{counts-count, counts-view}
+use Rattle.consistency.specs.Consistency.{places, codes}
+use Rattle.calls.specs.Calls.{Result, turned, faultOf, withBook, faultThen, onSheet}
+use Rattle.sheet.specs.Opened.{faultTest, opening, FieldsAt}
+
+-- ---- what the reader's check answers
+
+-- a refusal's outcome is told by its number and place
+outcome-fail : (v : Verdict) (counts : List ℕ) (k number place : ℕ) → 1 ≤ number
+    → refused k number place ≡ outcome v counts → fail number place ≡ v
+outcome-fail pass counts k number place h e = absurd (omega (arith, ap (λ (o : Outcome). o .number) e))
+outcome-fail (fail number′ place′) counts k number place h e =
+    ap₂ fail (ap (λ (o : Outcome). o .number) e) (ap (λ (o : Outcome). o .place) e)
+
+module _ (bytes : List ℕ) where
+  -- a book that it refuses
+  pub checked-bad : (number place : ℕ) → 1 ≤ number → refused 4 number place ≡ checking bytes → fail number place ≡ verdict bytes
+  unfolding checking
+  checked-bad number place h e = outcome-fail (verdict bytes) _ 4 number place h e
+
+  -- a book that it accepts
+  pub checked-good : (list fields tables rows : ℕ) → accepted (list ∷ fields ∷ tables ∷ rows ∷ []) ≡ checking bytes
+      → FieldsAt bytes list fields
+  checked-good list fields tables rows e =
+      let p : verdict bytes ≡ pass = checked-verdict bytes (sym (ap (λ (o : Outcome). o .number) e)) in
+      let counts = ap (λ (o : Outcome). o .counts) (e ∙ sym (checking-pass bytes (sym p))) in
+      record { passes = p; list-is = cc counts; fields-is = cc counts }
+
+-- ---- the fields of a book that passes, by places in its bytes
+
+module _ (bytes : List ℕ) (list fields : ℕ) (at : FieldsAt bytes list fields) where
+  -- field list and trailer end the bytes
+  pub fields-end : list + fields + 6 ≡ length bytes
+  fields-end = omega (arith, at .list-is, at .fields-is, verdict-promise bytes (at .passes) .whole)
+
+  -- a book has no more fields than a sheet has places
+  pub fields-few : fields ≤ places
+  fields-few =
+      let limit = pick-holds (λ (n : ℕ). n ≤ places) (eqb (versionOf bytes) 1) {a = 32} {b = 0} (omega arith) (omega arith) in
+      omega (arith, limit, at .fields-is, verdict-promise bytes (at .passes) .few)
+
+  pub fields-count : length (bookOf bytes .counts) ≡ fields
+  fields-count = counts-count bytes (verdict-promise bytes (at .passes) .whole) ∙ sym (at .fields-is)
+
+  -- a field's number of codes stands in the field list
+  pub codes-at : (f : ℕ) → f < fields → codes (bookOf bytes) f ≡ byte bytes (list + f)
+  codes-at f h = counts-view bytes f (omega (arith, at .fields-is)) ∙ ap (λ (l : ℕ). byte bytes (l + f)) (sym (at .list-is))
+
+  -- what is no field has no codes
+  pub codes-none : (f : ℕ) → fields ≤ f → codes (bookOf bytes) f ≡ 0
+  codes-none f h = List·getD-eq-default (bookOf bytes .counts) 0 (omega (arith, fields-count))
+
+-- ---- 1 to 13, then 14
+
+module _ (bytes s : List ℕ) where
+  -- the book is refused
+  pub opening-book : (number place : ℕ) → fail number place ≡ verdict bytes → fail number place ≡ opening bytes s
+  unfolding opening
+  opening-book number place e = simp (← e)
+
+  module _ (e : verdict bytes ≡ pass) (fault : ℕ) (is : fault ≡ faultOf (bookOf bytes) s) where
+    -- a place is at fault
+    pub opening-fault : fault < places → fail 14 fault ≡ opening bytes s
+    unfolding opening
+    opening-fault h = simp (e, ← is, lt-ltb)
+
+    -- no place is at fault
+    pub opening-pass : places ≤ fault → pass ≡ opening bytes s
+    unfolding opening
+    opening-pass h = simp (e, ← is, le-ltb)
+
+-- ---- what a call answers by them
+
+-- by the book's verdict and the first place at fault
+module _ (bytes s : List ℕ) (refuse : ℕ → ℕ → Result) (go : Book → Result) where
+  go-on : (v : Verdict) → pass ≡ andThen v (faultTest (faultOf (bookOf bytes) s))
+      → go (bookOf bytes) ≡ withBook bytes refuse v (λ b. faultThen refuse (faultOf b s) (go b))
+  go-on pass e = rw (pick-second (ltb (faultOf (bookOf bytes) s) places) fail≢pass (sym e) .0)
+  go-on (fail number place) e = absurd (fail≢pass (sym e))
+
+  stop-here : (v : Verdict) (number place : ℕ) → fail number place ≡ andThen v (faultTest (faultOf (bookOf bytes) s))
+      → refuse number place ≡ withBook bytes refuse v (λ b. faultThen refuse (faultOf b s) (go b))
+  stop-here pass number place e =
+      let t = pick-first (ltb (faultOf (bookOf bytes) s) places) (λ d. fail≢pass (sym d)) (sym e) in
+      rw (t .0) (cc (t .1))
+  stop-here (fail number′ place′) number place e = cc
+
+-- a call on sheet s that counts k things, with o lent
+module _ (k : ℕ) (bytes s o : List ℕ) (go : Book → Result) where
+  -- where all pass it goes on with the book
+  pub on-ready : pass ≡ opening bytes s → go (bookOf bytes) ≡ onSheet k bytes s o go
+  unfolding opening
+  on-ready e = go-on bytes s (turned k s o) go (verdict bytes) e
+
+  -- where one fails it is refused
+  pub on-turned : (number place : ℕ) → fail number place ≡ opening bytes s → turned k s o number place ≡ onSheet k bytes s o go
+  unfolding opening
+  on-turned number place e = stop-here bytes s (turned k s o) go (verdict bytes) number place e

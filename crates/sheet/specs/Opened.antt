@@ -1,0 +1,42 @@
+-- Refusals 1 to 14, with which every call on a sheet and a book begins, and what the code finds in their place. Assumes nothing.
+use Prim.Native.Nat.{ℕ}
+use mathlib.Core.Path.{_≡_}
+use mathlib.Core.List.{List}
+use lib.Dec.{ltb}
+use Rattle.format.specs.Basics.{pick}
+use Rattle.format.specs.Format.{listPlace, fieldCount, bookOf}
+use Rattle.format.specs.Reading.{Verdict, pass, fail, andThen, verdict}
+use Rattle.consistency.specs.Consistency.{places}
+use Rattle.calls.specs.Calls.{faultOf}
+use Rattle.sheet.specs.Shown.{numberOf}
+use Rattle.sheet.specs.declared.opened.Opened.{Opened}
+use Rattle.sheet.specs.declared.opened.Opened.the-variants.{Ready, Turned}
+
+-- 14, where fault is the first place at fault, or the number of places
+abbrev pub faultTest : ℕ → Verdict
+faultTest fault = pick (ltb fault places) (fail 14 fault) pass
+
+-- 1 to 13 of the book's bytes, then 14 of the sheet s
+unfoldable pub opening : List ℕ → List ℕ → Verdict
+opening bytes s = andThen (verdict bytes) (faultTest (faultOf (bookOf bytes) s))
+
+-- the code's answer as a verdict
+abbrev pub openingOf : Opened → Verdict
+openingOf (Ready list fields) = pass
+openingOf (Turned reason place) = fail (numberOf reason) place
+
+-- the book of these bytes passes the reader's tests, and has its field list and its number of fields here
+pub record FieldsAt (bytes : List ℕ) (list fields : ℕ) : Type 0 where
+  pub passes : verdict bytes ≡ pass
+  pub list-is : list ≡ listPlace bytes
+  pub fields-is : fields ≡ fieldCount bytes
+
+-- and so it is where book and sheet pass
+abbrev pub Finds : List ℕ → Opened → Type 0
+Finds bytes (Ready list fields) = FieldsAt bytes list fields
+Finds bytes (Turned reason place) = Unit {0}
+
+-- what the code answers for a book and a sheet
+pub record Opens (bytes s : List ℕ) (r : Opened) : Type 0 where
+  pub answers : openingOf r ≡ opening bytes s
+  pub finds : Finds bytes r

@@ -1,0 +1,41 @@
+-- The answers of the calls in document 01's terms: its number for each reason, and number, place and counts for each answer. Assumes nothing.
+use Prim.Native.Nat.{ℕ}
+use mathlib.Core.List.{List, [], _∷_}
+use Rattle.format.specs.Reading.{Outcome, accepted, refused}
+use Rattle.calls.specs.Calls.{Result}
+use Rattle.book.specs.Shown as book
+use Rattle.sheet.specs.declared.Reason.{Reason}
+use Rattle.sheet.specs.declared.Reason.the-variants.{Book, Fault, Field, Code, NoAnswer, Room, Length}
+use Rattle.sheet.specs.declared.Answer.{Answer}
+use Rattle.sheet.specs.declared.Answer.the-variants.{Done, Refused}
+use Rattle.sheet.specs.declared.Listing.{Listing}
+use Rattle.sheet.specs.declared.Listing.the-variants.{Listed, Unlisted}
+use Rattle.sheet.specs.declared.Handed.{Handed}
+use Rattle.sheet.specs.declared.HandedList.{HandedList}
+
+-- document 01's number of each reason
+abbrev pub numberOf : Reason → ℕ
+numberOf (Book kind) = book.numberOf kind
+numberOf Fault = 14
+numberOf Field = 15
+numberOf Code = 16
+numberOf NoAnswer = 17
+numberOf Room = 18
+numberOf Length = 19
+
+-- the answer of a call that counts nothing
+abbrev pub shown : Answer → Outcome
+shown Done = accepted []
+shown (Refused reason place) = refused 0 (numberOf reason) place
+
+-- the answer of alternatives: total and struck
+abbrev pub shownListing : Listing → Outcome
+shownListing (Listed total struck) = accepted (total ∷ struck ∷ [])
+shownListing (Unlisted reason place) = refused 2 (numberOf reason) place
+
+-- what a call left behind: its answer, the sheet handed back, and the contents of the buffer lent
+abbrev pub resultOf : Handed → List ℕ → Result
+resultOf r o = record { outcome = shown (r .answer); sheet = r .sheet .places; buffer = o }
+
+abbrev pub listResultOf : HandedList → List ℕ → Result
+listResultOf r o = record { outcome = shownListing (r .answer); sheet = r .sheet .places; buffer = o }
