@@ -1,1 +1,5 @@
 pub mod E1Text
+pub mod Digits
+pub mod Writing
+pub mod Numbers
+pub mod Lines

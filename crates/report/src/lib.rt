@@ -1,1 +1,2 @@
 // The whole text that the desk prints.
+mod writers;
