@@ -3,3 +3,5 @@ pub mod Digits
 pub mod Writing
 pub mod Numbers
 pub mod Lines
+pub mod Turns
+pub mod Pieces

@@ -1,2 +1,3 @@
 // The whole text that the desk prints.
+mod lists;
 mod writers;
