@@ -1,22 +1,32 @@
 -- What is known where book and sheet pass 1 to 14, and what every call on a sheet answers by them. Assumes nothing.
-use mathlib.Core.Path.{_≡_, sym, ap, ap₂, _∙_}
-use mathlib.Core.List.{List, [], _∷_}
+use mathlib.Core.Path.{_≡_, sym, ap, ap₂, subst, _∙_}
+use mathlib.Core.List.{List}
 use Prim.Native.Nat.{ℕ, _+_, _≤_, _<_}
 use native.Mathlib.Omega.{arith}
 use lib.Dec.{ltb, eqb}
 use lib.ListN.{length, List·getD-eq-default}
 use borrow.Author.Tests.{lt-ltb, le-ltb}
 use Rattle.format.specs.Format.{Book, byte, versionOf, bookOf}
-use Rattle.format.specs.Reading.{Outcome, accepted, refused, Verdict, pass, fail, andThen, verdict, outcome, checking}
+use Rattle.format.specs.Reading.{Outcome, refused, Verdict, pass, fail, andThen, verdict, outcome, checking}
 use Rattle.format.proofs.Accepted.{checked-verdict}
 use Rattle.format.proofs.Picks.{pick-holds, pick-first, pick-second}
 use Rattle.format.proofs.Refusals.{checking-pass}
 use Rattle.format.proofs.Trailer.{fail≢pass}
 use Rattle.format.proofs.Verdict.{verdict-promise}
 use Rattle.format.proofs.Views.{counts-count, counts-view}
+use Rattle.book.specs.Shown as book
+use Rattle.book.specs.Shown.{shownCheck}
+use Rattle.book.specs.declared.Refusal.{Refusal}
+use Rattle.book.specs.declared.Checked.{Checked}
+use Rattle.book.specs.declared.Checked.the-variants.{Good, Bad}
+use Rattle.book.proofs.Injective.{number-some}
 use Rattle.consistency.specs.Consistency.{places, codes}
 use Rattle.calls.specs.Calls.{Result, turned, faultOf, withBook, faultThen, onSheet}
-use Rattle.sheet.specs.Opened.{faultTest, opening, FieldsAt}
+use Rattle.sheet.specs.Shown.{numberOf}
+use Rattle.sheet.specs.Opened.{faultTest, opening, openingOf, FieldsAt, Finds, Opens}
+use Rattle.sheet.specs.declared.Reason.{Reason}
+use Rattle.sheet.specs.declared.opened.Opened.{Opened}
+use Rattle.sheet.specs.declared.opened.Opened.the-variants.{Ready, Turned}
 
 -- ---- what the reader's check answers
 
@@ -27,18 +37,18 @@ outcome-fail pass counts k number place h e = absurd (omega (arith, ap (λ (o : 
 outcome-fail (fail number′ place′) counts k number place h e =
     ap₂ fail (ap (λ (o : Outcome). o .number) e) (ap (λ (o : Outcome). o .place) e)
 
-module _ (bytes : List ℕ) where
-  -- a book that it refuses
-  pub checked-bad : (number place : ℕ) → 1 ≤ number → refused 4 number place ≡ checking bytes → fail number place ≡ verdict bytes
+module _ (bytes : List ℕ) (r : Checked) (is : shownCheck r ≡ checking bytes) where
+  -- it refuses the book
+  pub checks-bad : (kind : Refusal) (place : ℕ) → r ≡ Bad kind place → fail (book.numberOf kind) place ≡ verdict bytes
   unfolding checking
-  checked-bad number place h e = outcome-fail (verdict bytes) _ 4 number place h e
+  checks-bad kind place e = outcome-fail (verdict bytes) _ 4 _ place (number-some kind) (sym (ap shownCheck e) ∙ is)
 
-  -- a book that it accepts
-  pub checked-good : (list fields tables rows : ℕ) → accepted (list ∷ fields ∷ tables ∷ rows ∷ []) ≡ checking bytes
-      → FieldsAt bytes list fields
-  checked-good list fields tables rows e =
-      let p : verdict bytes ≡ pass = checked-verdict bytes (sym (ap (λ (o : Outcome). o .number) e)) in
-      let counts = ap (λ (o : Outcome). o .counts) (e ∙ sym (checking-pass bytes (sym p))) in
+  -- it accepts the book
+  pub checks-good : (list fields tables rows : ℕ) → r ≡ Good list fields tables rows → FieldsAt bytes list fields
+  checks-good list fields tables rows e =
+      let shown = sym (ap shownCheck e) ∙ is in
+      let p : verdict bytes ≡ pass = checked-verdict bytes (sym (ap (λ (o : Outcome). o .number) shown)) in
+      let counts = ap (λ (o : Outcome). o .counts) (shown ∙ sym (checking-pass bytes (sym p))) in
       record { passes = p; list-is = cc counts; fields-is = cc counts }
 
 -- ---- the fields of a book that passes, by places in its bytes
@@ -103,11 +113,25 @@ module _ (bytes s : List ℕ) (refuse : ℕ → ℕ → Result) (go : Book → R
 -- a call on sheet s that counts k things, with o lent
 module _ (k : ℕ) (bytes s o : List ℕ) (go : Book → Result) where
   -- where all pass it goes on with the book
-  pub on-ready : pass ≡ opening bytes s → go (bookOf bytes) ≡ onSheet k bytes s o go
+  pub on-ready : pass ≡ opening bytes s → (r : Result) → r ≡ go (bookOf bytes) → r ≡ onSheet k bytes s o go
   unfolding opening
-  on-ready e = go-on bytes s (turned k s o) go (verdict bytes) e
+  on-ready e r d = d ∙ go-on bytes s (turned k s o) go (verdict bytes) e
 
   -- where one fails it is refused
   pub on-turned : (number place : ℕ) → fail number place ≡ opening bytes s → turned k s o number place ≡ onSheet k bytes s o go
   unfolding opening
   on-turned number place e = stop-here bytes s (turned k s o) go (verdict bytes) number place e
+
+-- ---- what the code's answer says
+
+-- book and sheet pass, and the field list is here
+pub record IsOpen (bytes s : List ℕ) (list fields : ℕ) : Type 0 where
+  pub passes : pass ≡ opening bytes s
+  pub at : FieldsAt bytes list fields
+
+module _ (bytes s : List ℕ) (r : Opened) (o : Opens bytes s r) where
+  pub opens-ready : (list fields : ℕ) → r ≡ Ready list fields → IsOpen bytes s list fields
+  opens-ready list fields e = record { passes = sym (ap openingOf e) ∙ o .answers; at = subst (Finds bytes) e (o .finds) }
+
+  pub opens-turned : (reason : Reason) (place : ℕ) → r ≡ Turned reason place → fail (numberOf reason) place ≡ opening bytes s
+  opens-turned reason place e = sym (ap openingOf e) ∙ o .answers

@@ -1,10 +1,14 @@
 // The sheet and its calls. Document 01, "The sheet and its one pass" and "When a call is turned down".
 ghost use mathlib.Core.Path.{_≡_};
-ghost use mathlib.Core.List.{[]};
-ghost use Rattle.calls.specs.Calls.{freshSheet, cleared};
-ghost use Rattle.sheet.specs.Shown.{resultOf};
+ghost use mathlib.Core.List.{List, []};
+ghost use Prim.Native.Nat.{ℕ};
+ghost use Rattle.calls.specs.Calls.{freshSheet, turned, entered, withdrawn, cleared, stored, loaded};
+ghost use Rattle.sheet.specs.Shown.{numberOf, resultOf};
+use book::Checked;
 use book::Refusal;
+use opened::Opened;
 
+mod copies;
 mod opened;
 
 // One byte for each place: the answered code, or 255 for no answer.
@@ -47,6 +51,16 @@ pub struct HandedList {
     pub sheet: Sheet,
 }
 
+// A refusal: the sheet comes back as given, and so does whatever is lent.
+fn refuse(sheet: Sheet, reason: Reason, place: usize) -> Handed
+    ensures { λ r. ⌜ ((o : List ℕ) → resultOf r o ≡ turned 0 (sheet .places) o (numberOf reason) place) ⌝ }
+{
+    Handed {
+        answer: Answer::Refused(reason, place),
+        sheet: sheet,
+    }
+}
+
 impl Sheet {
     // A sheet without answers.
     pub fn fresh() -> Sheet
@@ -62,6 +76,109 @@ impl Sheet {
         Handed {
             answer: Answer::Done,
             sheet: Sheet::fresh(),
+        }
+    }
+
+    // Answers a field, replacing an older answer.
+    pub fn enter(self, book: &[u8], field: u8, code: u8) -> Handed
+        ensures { λ r. ⌜ resultOf r [] ≡ entered (now (book .entry)) (self .places) field code ⌝ }
+    {
+        let places = self.places;
+        let opened = opened::open(book, places);
+        match opened {
+            Opened::Turned(reason, place) => refuse(self, reason, place),
+            Opened::Ready { list, fields } => {
+                let f = field as usize;
+                if fields <= f {
+                    return refuse(self, Reason::Field, 0);
+                }
+                if book[list + f] <= code {
+                    return refuse(self, Reason::Code, 0);
+                }
+                let mut next = places;
+                next[f] = code;
+                Handed {
+                    answer: Answer::Done,
+                    sheet: Sheet { places: next },
+                }
+            }
+        }
+    }
+
+    // Takes the answer of a field away.
+    pub fn withdraw(self, book: &[u8], field: u8) -> Handed
+        ensures { λ r. ⌜ resultOf r [] ≡ withdrawn (now (book .entry)) (self .places) field ⌝ }
+    {
+        let places = self.places;
+        let opened = opened::open(book, places);
+        match opened {
+            Opened::Turned(reason, place) => refuse(self, reason, place),
+            Opened::Ready { list: _, fields } => {
+                let f = field as usize;
+                if fields <= f {
+                    return refuse(self, Reason::Field, 0);
+                }
+                if places[f] == 255 {
+                    return refuse(self, Reason::NoAnswer, 0);
+                }
+                let mut rest = places;
+                rest[f] = 255;
+                Handed {
+                    answer: Answer::Done,
+                    sheet: Sheet { places: rest },
+                }
+            }
+        }
+    }
+
+    // Writes the stored form: the byte of each field.
+    pub fn store(self, book: &[u8], out: &mut [u8]) -> Handed
+        ensures { λ r. ⌜ resultOf r (now (out .exit)) ≡ stored (now (book .entry)) (self .places) (now (out .entry)) ⌝ }
+    {
+        let places = self.places;
+        let opened = opened::open(book, places);
+        match opened {
+            Opened::Turned(reason, place) => refuse(self, reason, place),
+            Opened::Ready { list: _, fields } => {
+                if out.len() < fields {
+                    return refuse(self, Reason::Room, 0);
+                }
+                copies::copy(&places, fields, out);
+                Handed {
+                    answer: Answer::Done,
+                    sheet: self,
+                }
+            }
+        }
+    }
+}
+
+// Reads the stored form of a sheet. It is given no sheet: a refusal hands back a fresh one.
+pub fn load(book: &[u8], form: &[u8]) -> Handed
+    ensures { λ r. ⌜ resultOf r [] ≡ loaded (now (book .entry)) (now (form .entry)) ⌝ }
+{
+    let checked = book::check(book);
+    match checked {
+        Checked::Bad(kind, place) => refuse(Sheet::fresh(), Reason::Book(kind), place),
+        Checked::Good {
+            list,
+            fields,
+            tables: _,
+            rows: _,
+        } => {
+            if form.len() != fields {
+                return refuse(Sheet::fresh(), Reason::Length, 0);
+            }
+            let mut places = [255; 32];
+            copies::copy(form, fields, &mut places);
+            let fault = opened::first_fault(book, list, fields, places);
+            if fault < opened::PLACES {
+                return refuse(Sheet::fresh(), Reason::Fault, fault);
+            }
+            Handed {
+                answer: Answer::Done,
+                sheet: Sheet { places: places },
+            }
         }
     }
 }

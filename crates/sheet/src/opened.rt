@@ -8,7 +8,7 @@ ghost use Rattle.calls.specs.Calls.{faultOf};
 ghost use Rattle.sheet.specs.Opened.{FieldsAt, Opens};
 use super::Reason;
 
-const PLACES: usize = 32;
+pub(crate) const PLACES: usize = 32;
 
 // A book and a sheet that pass, with the place of the field list and the number of fields; or the first refusal and its place.
 pub(crate) enum Opened {

@@ -28,7 +28,12 @@ may-hold-requires : tie.Need-may-hold-requires Inv-loop μ-loop
 may-hold-requires c κs = search needs
 
 returns : tie.Need-returns Inv-loop μ-loop
-returns c = let n : length (c .before .before .before .before .before .args .t4) ≡ 32 = search needs in bad-here _ _ _ (c .before .before .loop-test .taken) (place-test (c .before .before .before .before .before .args .t4) n (c .before .before .before .loop .p) (c .before .before .loop-test .taken) (bookOf (c .before .before .before .before .before .args .book .now)) _ (c .before .may-hold .ensures) ∙ not-true _ (c .if1 .taken)) ∙ c .before .before .before .loop .inv .1
+returns c =
+    let a = (c .before .before .before .before .before .args) in
+    let long : length (a .t4) ≡ 32 = search needs in
+    let h = c .before .before .loop-test .taken in
+    let test = place-test (a .t4) long _ h (bookOf (a .book .now)) _ (c .before .may-hold .ensures) in
+    bad-here _ _ _ h (test ∙ not-true _ (c .if1 .taken)) ∙ c .before .before .before .loop .inv .1
 
 add-p : tie.Need-add-p Inv-loop μ-loop
 add-p c = search needs
@@ -37,7 +42,12 @@ loop-less : tie.Need-loop-less Inv-loop μ-loop
 loop-less c = search needs
 
 loop-again : tie.Need-loop-again Inv-loop μ-loop
-loop-again c = let n : length (c .before .before .before .before .before .args .t4) ≡ 32 = search needs in (search needs, bad-on _ _ _ (c .before .before .loop-test .taken) (place-test (c .before .before .before .before .before .args .t4) n (c .before .before .before .loop .p) (c .before .before .loop-test .taken) (bookOf (c .before .before .before .before .before .args .book .now)) _ (c .before .may-hold .ensures) ∙ not-false _ (c .if1 .left)) ∙ c .before .before .before .loop .inv .1)
+loop-again c =
+    let a = (c .before .before .before .before .before .args) in
+    let long : length (a .t4) ≡ 32 = search needs in
+    let h = c .before .before .loop-test .taken in
+    let test = place-test (a .t4) long _ h (bookOf (a .book .now)) _ (c .before .may-hold .ensures) in
+    (search needs, bad-on _ _ _ h (test ∙ not-false _ (c .if1 .left)) ∙ c .before .before .before .loop .inv .1)
 
 returns-2 : tie.Need-returns-2 Inv-loop μ-loop
 returns-2 c = bad-none _ _ _ (c .loop-test .left) ∙ c .before .loop .inv .1

@@ -1,0 +1,75 @@
+-- An answer is told by what is shown of it: no two answers show the same number, place and counts. Assumes nothing.
+use mathlib.Core.Path.{_≡_, refl, sym, ap, ap₂, _∙_}
+use mathlib.Core.List.{[], _∷_}
+use Prim.Native.Nat.{ℕ, _≤_}
+use native.Mathlib.Omega.{arith}
+use lib.ListN.{getD}
+use Rattle.format.specs.Reading.{Outcome}
+use Rattle.book.specs.declared.Refusal.the-variants as book
+use Rattle.sheet.specs.Shown.{numberOf, shown, shownListing}
+use Rattle.sheet.specs.declared.Reason.{Reason}
+use Rattle.sheet.specs.declared.Reason.the-variants.{Book, Fault, Field, Code, NoAnswer, Room, Length}
+use Rattle.sheet.specs.declared.Answer.{Answer}
+use Rattle.sheet.specs.declared.Answer.the-variants.{Done, Refused}
+use Rattle.sheet.specs.declared.Listing.{Listing}
+use Rattle.sheet.specs.declared.Listing.the-variants.{Listed, Unlisted}
+
+-- the reason of a number from 1 to 19
+reasonOf : ℕ → Reason
+reasonOf n =
+    getD
+    (Length ∷ Book book.Length ∷ Book book.Closing ∷ Book book.Version ∷ Book book.FieldCount ∷ Book book.TableCount
+    ∷ Book book.ListPlace ∷ Book book.CodeCount ∷ Book book.Short ∷ Book book.Arity ∷ Book book.FieldNumber ∷ Book book.Code
+    ∷ Book book.RowCount ∷ Book book.LeftOver ∷ Fault ∷ Field ∷ Code ∷ NoAnswer ∷ Room ∷ Length ∷ [])
+    n Length
+
+-- a reason's number is not 0, and tells the reason
+numbered : (r : Reason) → (1 ≤ numberOf r) × (reasonOf (numberOf r) ≡ r)
+unfolding reasonOf
+numbered (Book book.Length) = (omega arith, refl)
+numbered (Book book.Closing) = (omega arith, refl)
+numbered (Book book.Version) = (omega arith, refl)
+numbered (Book book.FieldCount) = (omega arith, refl)
+numbered (Book book.TableCount) = (omega arith, refl)
+numbered (Book book.ListPlace) = (omega arith, refl)
+numbered (Book book.CodeCount) = (omega arith, refl)
+numbered (Book book.Short) = (omega arith, refl)
+numbered (Book book.Arity) = (omega arith, refl)
+numbered (Book book.FieldNumber) = (omega arith, refl)
+numbered (Book book.Code) = (omega arith, refl)
+numbered (Book book.RowCount) = (omega arith, refl)
+numbered (Book book.LeftOver) = (omega arith, refl)
+numbered Fault = (omega arith, refl)
+numbered Field = (omega arith, refl)
+numbered Code = (omega arith, refl)
+numbered NoAnswer = (omega arith, refl)
+numbered Room = (omega arith, refl)
+numbered Length = (omega arith, refl)
+
+pub number-some : (r : Reason) → 1 ≤ numberOf r
+number-some r = numbered r .0
+
+pub number-injective : (r q : Reason) → numberOf r ≡ numberOf q → r ≡ q
+number-injective r q e = sym (numbered r .1) ∙ ap reasonOf e ∙ numbered q .1
+
+-- the parts of what is shown
+numbers : {x y : Outcome} → x ≡ y → x .number ≡ y .number
+numbers e = ap (λ (o : Outcome). o .number) e
+
+places : {x y : Outcome} → x ≡ y → x .place ≡ y .place
+places e = ap (λ (o : Outcome). o .place) e
+
+count : {x y : Outcome} (i : ℕ) → x ≡ y → getD (x .counts) i 0 ≡ getD (y .counts) i 0
+count i e = ap (λ (o : Outcome). getD (o .counts) i 0) e
+
+pub shown-injective : (x y : Answer) → shown x ≡ shown y → x ≡ y
+shown-injective Done Done e = refl
+shown-injective Done (Refused r p) e = absurd (omega (arith, numbers e, number-some r))
+shown-injective (Refused r p) Done e = absurd (omega (arith, numbers e, number-some r))
+shown-injective (Refused r p) (Refused r′ p′) e = ap₂ Refused (number-injective r r′ (numbers e)) (places e)
+
+pub shownListing-injective : (x y : Listing) → shownListing x ≡ shownListing y → x ≡ y
+shownListing-injective (Listed t n) (Listed t′ n′) e = ap₂ Listed (count 0 e) (count 1 e)
+shownListing-injective (Listed t n) (Unlisted r p) e = absurd (omega (arith, numbers e, number-some r))
+shownListing-injective (Unlisted r p) (Listed t n) e = absurd (omega (arith, numbers e, number-some r))
+shownListing-injective (Unlisted r p) (Unlisted r′ p′) e = ap₂ Unlisted (number-injective r r′ (numbers e)) (places e)

@@ -1,0 +1,56 @@
+-- Each way through load, and the sheet that it makes of a stored form. A law's name has the refusal's number. Assumes nothing.
+use mathlib.Core.Path.{_≡_, sym, ap, _∙_}
+use mathlib.Core.List.{List, [], _++_}
+use Prim.Native.Nat.{ℕ, zero, suc, _-_, _≤_, _<_}
+use native.Mathlib.Nat.{sub-zero, zero-sub}
+use native.Mathlib.Omega.{arith}
+use lib.ListN.{length, take, drop, replicate}
+use lib.Seq.{take-length}
+use borrow.Author.Tests.{lt-ltb, le-ltb, eq-eqb, ne-eqb}
+use Rattle.format.specs.Format.{bookOf}
+use Rattle.format.specs.Reading.{fail, verdict}
+use Rattle.consistency.specs.Consistency.{places}
+use Rattle.calls.specs.Calls.{freshSheet, turned, done, faultOf, sheetFrom, loaded}
+use Rattle.sheet.specs.Opened.{FieldsAt}
+use Rattle.sheet.proofs.Openings.{fields-count}
+
+-- the last of m equal elements
+drop-replicate : (n m x : ℕ) → drop n (replicate m x) ≡ replicate (m - n) x
+drop-replicate zero m x = rw sub-zero
+drop-replicate (suc n) zero x = rw zero-sub
+drop-replicate (suc n) (suc m) x = let d : suc m - suc n ≡ m - n = omega arith in rw d (drop-replicate n m x)
+
+-- a stored form over the first places of a fresh sheet
+form-over : (form : List ℕ) → take (length form) form ++ drop (length form) freshSheet ≡ sheetFrom form
+form-over form = rw (take-length form, drop-replicate (length form) places 255)
+
+-- a refusal that hands back a fresh sheet
+pub turned-fresh : (s : List ℕ) (number place : ℕ) → s ≡ freshSheet → turned 0 s [] number place ≡ turned 0 freshSheet [] number place
+turned-fresh s number place e = rw e
+
+module _ (bytes form : List ℕ) where
+  -- 1 to 13
+  pub loaded-book : (number place : ℕ) → fail number place ≡ verdict bytes → turned 0 freshSheet [] number place ≡ loaded bytes form
+  unfolding loaded
+  loaded-book number place e = simp (← e)
+
+  module _ (list fields : ℕ) (at : FieldsAt bytes list fields) where
+    -- its length is not the number of fields
+    pub loaded-19 : (length form ≡ fields → ⊥) → turned 0 freshSheet [] 19 0 ≡ loaded bytes form
+    unfolding loaded
+    loaded-19 h = simp (at .passes, fields-count bytes list fields at, ne-eqb)
+
+    -- s is the sheet made of it, and fault the first place at fault, or the number of places
+    module _ (h : length form ≡ fields) (s : List ℕ) (is : s ≡ take fields form ++ drop fields freshSheet)
+        (fault : ℕ) (e : fault ≡ faultOf (bookOf bytes) s) where
+      made : s ≡ sheetFrom form
+      made = is ∙ ap (λ (n : ℕ). take n form ++ drop n freshSheet) (sym h) ∙ form-over form
+
+      -- a place is at fault
+      pub loaded-14 : fault < places → turned 0 freshSheet [] 14 fault ≡ loaded bytes form
+      unfolding loaded
+      loaded-14 k = simp (at .passes, fields-count bytes list fields at, eq-eqb, ← made, ← e, lt-ltb)
+
+      pub loaded-done : places ≤ fault → done [] s [] ≡ loaded bytes form
+      unfolding loaded
+      loaded-done k = simp (at .passes, fields-count bytes list fields at, eq-eqb, ← made, ← e, le-ltb)

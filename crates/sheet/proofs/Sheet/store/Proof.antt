@@ -1,0 +1,69 @@
+-- `sheet::Sheet::store` meets its contract: each way through its tests. Assumes nothing.
+use mathlib.Core.Path.{_≡_, ap, _∙_}
+use mathlib.Core.List.{List, []}
+use Prim.Native.Nat.{ℕ}
+use lib.ListN.{length}
+use Rattle.calls.specs.Calls.{done}
+use Rattle.sheet.proofs.Openings.{fields-few, opens-ready, opens-turned}
+use Rattle.sheet.proofs.CallCases.{stored-turned, stored-18, stored-done}
+use borrow.Author.Needs.{needs}
+use native.Mathlib.Omega.{arith}
+use Rattle.sheet.proofs.Sheet.store.Statement.{statement}
+use Rattle.sheet.proofs.Sheet.store.Tie as tie
+
+open-requires : tie.Need-open-requires
+open-requires c κs = search needs
+
+enum-known-opened : tie.Need-enum-known-opened
+enum-known-opened c = search needs
+
+refuse-requires : tie.Need-refuse-requires
+refuse-requires c κs = search needs
+
+enum-known-opened-2 : tie.Need-enum-known-opened-2
+enum-known-opened-2 c = search needs
+
+refuse-requires-2 : tie.Need-refuse-requires-2
+refuse-requires-2 c κs = search needs
+
+returns : tie.Need-returns
+returns c =
+    let o = opens-ready _ _ _ (c .before .before .before .before .before .«open» .ensures) _ _ (c .before .before .before .opened2 .given .1) in
+    c .refuse2 .ensures _ ∙ stored-18 _ _ _ _ _ o (c .before .if1 .taken)
+
+slice-aggregate-copy : tie.Need-slice-aggregate-copy
+slice-aggregate-copy c = search needs
+
+copy-requires : tie.Need-copy-requires
+copy-requires c κs =
+    let o = opens-ready _ _ _ (c .before .before .before .before .before .before .«open» .ensures) _ _ (c .before .before .before .before .opened2 .given .1) in
+    let few = fields-few _ _ _ (o .at) in
+    let long : length (c .before .before .before .before .before .before .before .before .before .before .args .self .places) ≡ 32 = search needs in
+    (omega arith, omega arith)
+
+returns-2 : tie.Need-returns-2
+returns-2 c = c .refuse .ensures _ ∙ stored-turned _ _ _ _ _ (opens-turned _ _ _ (c .before .before .before .before .«open» .ensures) _ _ (c .before .before .opened .given .1))
+
+same-length : tie.Need-same-length
+same-length c = search needs
+
+returns-3 : tie.Need-returns-3
+returns-3 c =
+    let o = opens-ready _ _ _ (c .before .before .before .before .before .before .before .before .before .«open» .ensures) _ _ (c .before .before .before .before .before .before .before .opened2 .given .1) in
+    ap (λ (l : List ℕ). done [] (c .before .before .before .before .before .before .before .before .before .before .before .before .before .args .self .places) l) (c .before .before .copy .ensures) ∙ stored-done _ _ _ _ _ o (c .before .before .before .before .before .if1 .left)
+
+pub store-spec : {M : Type 1} → statement M
+store-spec =
+    tie.close
+    (tie.spec
+    open-requires
+    enum-known-opened
+    refuse-requires
+    enum-known-opened-2
+    refuse-requires-2
+    returns
+    slice-aggregate-copy
+    copy-requires
+    returns-2
+    same-length
+    returns-3)
