@@ -5,3 +5,4 @@ pub mod Numbers
 pub mod Lines
 pub mod Turns
 pub mod Pieces
+pub mod OpenLines

@@ -1,0 +1,34 @@
+-- What the printed lines say: "the open lines are exactly the unanswered fields' codes in the largest arc-consistent subdomain", each once, by
+-- field then code; the header's total is the number of alt lines. And how long a text can be. Assumes nothing.
+use Prim.Native.Nat.{ℕ, _≤_, _<_}
+use mathlib.Core.Path.{_≡_}
+use mathlib.Core.Logic.{_↔_}
+use mathlib.Core.Bool.{not}
+use mathlib.Core.List.{List}
+use lib.ListN.{length}
+use lib.Dec.{T}
+use Rattle.format.specs.Format.{Book}
+use Rattle.consistency.specs.Consistency.{Subdomain, IsLargest}
+use Rattle.consistency.specs.Counts.{answered, Line, lines, total}
+use Rattle.consistency.specs.Order.{In, InOrder}
+use Rattle.report.specs.Text.{openLines, reportText}
+
+-- "Each open: unanswered field and standing code, by field then code": whatever S is the largest, its codes and no others
+pub record ShowsOpen (b : Book) (s : List ℕ) (ls : List Line) : Type 0 where
+  pub in-order : InOrder ls
+  pub exactly : (S : Subdomain) → IsLargest b s S
+      → (l : Line) → In l ls ↔ ((l .field < length (b .counts)) × (T (not (answered s (l .field))) × T (S (l .field) (l .code))))
+
+abbrev pub OpenLinesAre : Type 0
+OpenLinesAre = (b : Book) (s : List ℕ) → ShowsOpen b s (openLines b s)
+
+-- "Sheet: answered fields, total, struck. Each alt: field, code": the total printed is the number of alt lines printed
+abbrev pub TotalIsLines : Type 0
+TotalIsLines = (b : Book) (s : List ℕ) → total b s ≡ length (lines b s)
+
+-- the most bytes of a text: "book 32 64 4096 4096", "sheet 32 1024 33792", and 1,024 lines such as "open 31 31", each with its newline
+abbrev pub textLimit : ℕ
+textLimit = 11305
+
+abbrev pub TextFits : Type 0
+TextFits = (bytes form : List ℕ) → length (reportText bytes form) ≤ textLimit
