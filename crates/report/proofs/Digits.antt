@@ -1,12 +1,15 @@
 -- Decimal digits: the last digit stands behind those of the tenth, and a number below 10 ^ k has at most k of them. Assumes nothing.
 use mathlib.Core.Path.{_≡_, sym, ap, _∙_}
+use mathlib.Core.Bool.{Bool, true, false}
 use mathlib.Core.List.{List, [], _∷_, _++_}
 use Prim.Native.Nat.{ℕ, zero, suc, _+_, _*_, _/_, _%_, _^_, _≤_, _<_}
 use native.Mathlib.Nat.{pow-suc}
 use native.Mathlib.Decide.{decLt}
 use native.Mathlib.Omega.{arith}
 use lib.ListN.{length, length-append}
+use lib.Dec.{ltb}
 use borrow.Author.Tests.{lt-ltb, le-ltb}
+use Rattle.format.specs.Basics.{pick}
 use Rattle.report.specs.Text.{digits, decimal}
 
 -- a number below 10
@@ -55,3 +58,14 @@ digits-short (suc j) (suc k) n l = at (decLt n 10) (digits-short j k (n / 10) (t
     at (no s) h =
         let e = ap length (digits-more j n (omega arith)) in
         omega (arith, length-append (digits j (n / 10)) ((48 + n % 10) ∷ []))
+
+-- no number has more than are asked for
+pub digits-few : (j n : ℕ) → length (digits j n) ≤ j
+unfolding digits
+digits-few zero n = omega arith
+digits-few (suc j) n = at (ltb n 10) (digits-few j (n / 10))
+  where
+    at : (t : Bool) → length (digits j (n / 10)) ≤ j
+        → length (pick t ((48 + n) ∷ []) (digits j (n / 10) ++ ((48 + n % 10) ∷ []))) ≤ suc j
+    at true h = omega arith
+    at false h = omega (arith, length-append (digits j (n / 10)) ((48 + n % 10) ∷ []))

@@ -6,3 +6,5 @@ pub mod Lines
 pub mod Turns
 pub mod Pieces
 pub mod OpenLines
+pub mod Counts
+pub mod Sizes
