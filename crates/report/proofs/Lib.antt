@@ -4,7 +4,9 @@ pub mod Writing
 pub mod Numbers
 pub mod Lines
 pub mod Turns
+pub mod Places
 pub mod Pieces
 pub mod OpenLines
 pub mod Counts
 pub mod Sizes
+pub mod SheetPart

@@ -12,6 +12,7 @@ use Rattle.consistency.specs.Counting.{those, joinOver, tabulate}
 use Rattle.consistency.specs.Counts.{answered, Line, bit}
 use Rattle.report.specs.Text.{spaced, linesText}
 use Rattle.report.specs.Writes.{Room, Puts, pairLines, maskLines, openIn}
+use Rattle.report.proofs.Places.{answer-read}
 use Rattle.report.proofs.Turns.{piece-room, piece-on, piece-none}
 
 -- the text of lines and what stands behind them
@@ -117,17 +118,11 @@ open-more w masks s f =
     last true = ap (linesText w) (append-nil (g f))
     last false = refl
 
--- an element does not turn on what stands behind the end
-default-unread : (s : List ℕ) (f x y : ℕ) → f < length s → getD s f x ≡ getD s f y
-default-unread [] f x y l = absurd (omega arith)
-default-unread (a ∷ s) zero x y l = refl
-default-unread (a ∷ s) (suc f) x y l = default-unread s f x y (omega arith)
-
 module _ (w masks s : List ℕ) {o : List ℕ} {at : ℕ} (f : ℕ) {o′ : List ℕ} {r : ℕ} (p : Puts o at (linesText w (openIn masks s f)) o′ r) (l : f < length s) where
   -- it has no answer
   module _ (e : getD s f 0 ≡ 255) where
     unanswered : fieldPiece w masks s f ≡ linesText w (maskLines f (getD masks f 0) 32)
-    unanswered = rw (eq-eqb (getD s f 255) 255 (default-unread s f 255 0 l ∙ e))
+    unanswered = rw (eq-eqb (getD s f 255) 255 (sym (answer-read s f l) ∙ e))
 
     pub field-room : (n : ℕ) → f < n → Room o at (linesText w (openIn masks s n)) → Room o′ r (linesText w (maskLines f (getD masks f 0) 32))
     field-room n k h =
@@ -143,4 +138,4 @@ module _ (w masks s : List ℕ) {o : List ℕ} {at : ℕ} (f : ℕ) {o′ : List
   pub field-none : (getD s f 0 ≡ 255 → ⊥) → Puts o at (linesText w (openIn masks s (f + 1))) o′ r
   field-none n =
       piece-none (λ k. linesText w (openIn masks s k)) (fieldPiece w masks s) (open-more w masks s) f p
-      (rw (ne-eqb (getD s f 255) 255 (λ q. n (default-unread s f 0 255 l ∙ q))))
+      (rw (ne-eqb (getD s f 255) 255 (λ q. n (answer-read s f l ∙ q))))

@@ -1,12 +1,13 @@
 -- What writing at a place of a buffer leaves there, and the lines that buffers of pairs and of masks hold. Assumes nothing.
 use Prim.Native.Nat.{ℕ, _+_, _*_, _≤_}
 use mathlib.Core.Path.{_≡_}
-use mathlib.Core.List.{List, map}
+use mathlib.Core.List.{List, [], _∷_, _++_, map}
 use mathlib.Core.Bool.{not}
 use lib.ListN.{length, getD}
 use lib.Seq.{sets}
-use Rattle.consistency.specs.Counting.{those, joinOver, tabulate}
+use Rattle.consistency.specs.Counting.{howMany, those, joinOver, tabulate}
 use Rattle.consistency.specs.Counts.{answered, Line, bit}
+use Rattle.report.specs.Text.{spaced, sheetWord, altWord, openWord, linesText}
 
 -- the text has room in o from place at on
 abbrev pub Room : List ℕ → ℕ → List ℕ → Type 0
@@ -28,3 +29,15 @@ maskLines f m n = map (λ (c : ℕ). record { field = f; code = c }) (those n (b
 -- the lines of the unanswered fields below n, by their masks, of which each has 32 bits
 abbrev pub openIn : List ℕ → List ℕ → ℕ → List Line
 openIn masks s n = joinOver (those n (λ f. not (answered s f))) (λ f. maskLines f (getD masks f 0) 32)
+
+-- as many places and masks as fields, and as many pairs as lines
+pub record ListsFit (s : List ℕ) (fields : ℕ) (pairs : List ℕ) (lines : ℕ) (masks : List ℕ) : Type 0 where
+  pub in-places : fields ≤ length s
+  pub in-pairs : 2 * lines ≤ length pairs
+  pub in-masks : fields ≤ length masks
+
+-- the sheet's line, the lines of alternatives and the open lines, by what buffers hold
+abbrev pub sheetPart : List ℕ → ℕ → List ℕ → ℕ → ℕ → List ℕ → List ℕ
+sheetPart s fields pairs total struck masks =
+    (sheetWord ++ spaced (howMany fields (answered s) ∷ total ∷ struck ∷ []))
+    ++ (linesText altWord (pairLines pairs total) ++ linesText openWord (openIn masks s fields))

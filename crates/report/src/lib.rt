@@ -1,3 +1,4 @@
 // The whole text that the desk prints.
 mod lists;
+mod parts;
 mod writers;
