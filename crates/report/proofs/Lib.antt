@@ -10,3 +10,4 @@ pub mod OpenLines
 pub mod Counts
 pub mod Sizes
 pub mod SheetPart
+pub mod Contents

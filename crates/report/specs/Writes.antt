@@ -18,9 +18,13 @@ pub record Puts (o : List ℕ) (at : ℕ) (text o′ : List ℕ) (r : ℕ) : Typ
   pub written : o′ ≡ sets o at text
   pub behind : r ≡ at + length text
 
--- the first n lines of bytes that hold lines as pairs, field then code
+-- the line at pair i of bytes that hold lines as pairs, field then code
+abbrev pub lineAt : List ℕ → ℕ → Line
+lineAt bytes i = record { field = getD bytes (2 * i) 0; code = getD bytes (2 * i + 1) 0 }
+
+-- the first n lines
 abbrev pub pairLines : List ℕ → ℕ → List Line
-pairLines bytes n = tabulate (λ i. record { field = getD bytes (2 * i) 0; code = getD bytes (2 * i + 1) 0 }) n 0
+pairLines bytes n = tabulate (lineAt bytes) n 0
 
 -- the lines of field f whose mask m has the code's bit set, for the codes below n
 abbrev pub maskLines : ℕ → ℕ → ℕ → List Line
