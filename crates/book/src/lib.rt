@@ -1,7 +1,7 @@
 // The reader: whether bytes are a book, and what is counted in it. Document 01, "The book's bytes" and "When a call is turned down".
 ghost use mathlib.Core.Path.{_≡_};
 ghost use Rattle.format.specs.Reading.{reading, checking};
-ghost use Rattle.book.specs.Shown.{shown, shownCheck};
+ghost use Rattle.book.specs.Shown.{numberOf, shown, shownCheck};
 
 mod bytes;
 mod different;
@@ -23,6 +23,27 @@ pub enum Refusal {
     Code,
     RowCount,
     LeftOver,
+}
+
+// Document 01's number of a kind of refusal.
+pub fn number(kind: Refusal) -> u64
+    ensures { λ r. ⌜ r ≡ numberOf kind ⌝ }
+{
+    match kind {
+        Refusal::Length => 1,
+        Refusal::Closing => 2,
+        Refusal::Version => 3,
+        Refusal::FieldCount => 4,
+        Refusal::TableCount => 5,
+        Refusal::ListPlace => 6,
+        Refusal::CodeCount => 7,
+        Refusal::Short => 8,
+        Refusal::Arity => 9,
+        Refusal::FieldNumber => 10,
+        Refusal::Code => 11,
+        Refusal::RowCount => 12,
+        Refusal::LeftOver => 13,
+    }
 }
 
 // What reading answers: the counts of an accepted book, or the first refusal and its place.

@@ -27,6 +27,21 @@ pub enum Reason {
     Length,
 }
 
+// Document 01's number of a reason.
+pub fn number(reason: Reason) -> u64
+    ensures { λ r. ⌜ r ≡ numberOf reason ⌝ }
+{
+    match reason {
+        Reason::Book(kind) => book::number(kind),
+        Reason::Fault => 14,
+        Reason::Field => 15,
+        Reason::Code => 16,
+        Reason::NoAnswer => 17,
+        Reason::Room => 18,
+        Reason::Length => 19,
+    }
+}
+
 // The answer of a call that counts nothing: a refusal has its reason and its place.
 pub enum Answer {
     Done,
