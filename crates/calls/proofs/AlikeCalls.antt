@@ -19,11 +19,13 @@ use Rattle.calls.proofs.CallLists.{stepsFrom, results-are, sheet-after,
 -- ---- refusals and answers turn on the field list alone
 
 module _ (b d : Book) (counts : d .counts ≡ b .counts) where
+  -- the refusal of a call
   refusal-same : (a : Answers) (call : Call) → refusalOf b a call ≡ refusalOf d a call
   refusal-same a (enter f c) = rw counts
   refusal-same a (withdraw f) = rw counts
   refusal-same a clear = refl
 
+  -- the answers after a call, and after a list
   after-same : (a : Answers) (call : Call) → after b a call ≡ after d a call
   after-same a call = ap (λ (n : ℕ). pick (eqb n 0) (change a call) a) (refusal-same a call)
 
@@ -32,6 +34,7 @@ module _ (b d : Book) (counts : d .counts ≡ b .counts) where
   answers-same a [] = refl
   answers-same a (call ∷ calls) = answers-same (after b a call) calls ∙ ap (λ (e : Answers). answersFrom d e calls) (after-same a call)
 
+  -- the results of a list
   steps-same : (a : Answers) (calls : List Call) → stepsFrom b a calls ≡ stepsFrom d a calls
   unfolding stepsFrom
   steps-same a [] = refl
@@ -47,10 +50,11 @@ module _ (bytes bytes′ : List ℕ) (ok : Accepted bytes) (ok′ : Accepted byt
   d = bookOf bytes′
 
   module _ (calls : List Call) (o : List ℕ) where
-    -- the answers after the list are the same, and codes of their fields in both books
+    -- the answers after the list
     abbrev a : Answers
     a = answersAfter b calls
 
+    -- they are the same for both books
     same-answers : a ≡ answersAfter d calls
     same-answers = answers-same b d (alike .same-counts) noAnswers calls
 

@@ -15,6 +15,7 @@ unfoldable pub stepsFrom : Book → Answers → List Call → List Result
 stepsFrom b a [] = []
 stepsFrom b a (call ∷ calls) = stepOf b a call ∷ stepsFrom b (after b a call) calls
 
+-- their numbers are the refusals by the answers before each call
 numbers-from : (b : Book) (a : Answers) (calls : List Call) → numbers (stepsFrom b a calls) ≡ refusalsFrom b a calls
 unfolding stepsFrom refusalsFrom
 numbers-from b a [] = refl
@@ -26,6 +27,7 @@ module _ (bytes : List ℕ) (ok : Accepted bytes) where
 
   -- ---- from the sheet that holds the answers a
 
+  -- the result of each call
   results-from : (calls : List Call) (a : Answers) → Sound b a → results bytes (sheetOf a) calls ≡ stepsFrom b a calls
   unfolding results stepsFrom
   results-from [] a s = refl
@@ -33,12 +35,14 @@ module _ (bytes : List ℕ) (ok : Accepted bytes) where
       rw (called-step bytes ok a s call)
       (ap (λ (x : List Result). stepOf b a call ∷ x) (results-from calls (after b a call) (sound-step bytes ok a s call)))
 
+  -- the sheet behind the last
   through-from : (calls : List Call) (a : Answers) → Sound b a → sheetThrough bytes (sheetOf a) calls ≡ sheetOf (answersFrom b a calls)
   unfolding sheetThrough answersFrom
   through-from [] a s = refl
   through-from (call ∷ calls) a s =
       rw (called-step bytes ok a s call) (through-from calls (after b a call) (sound-step bytes ok a s call))
 
+  -- the answers behind the last
   sound-from : (calls : List Call) (a : Answers) → Sound b a → Sound b (answersFrom b a calls)
   unfolding answersFrom
   sound-from [] a s = s
@@ -47,6 +51,7 @@ module _ (bytes : List ℕ) (ok : Accepted bytes) where
   -- ---- from the fresh sheet
 
   module _ (calls : List Call) where
+    -- each call's result
     pub results-are : results bytes freshSheet calls ≡ stepsFrom b noAnswers calls
     results-are = ap (λ (x : List ℕ). results bytes x calls) sheet-fresh ∙ results-from calls noAnswers (sound-none b)
 

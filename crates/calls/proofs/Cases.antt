@@ -29,7 +29,7 @@ use Rattle.calls.proofs.Steps.{on-sheet}
 use Rattle.calls.proofs.Listing.{listing, list-accepts}
 use Rattle.calls.proofs.Condition2.{condition2-open}
 
--- equal tests
+-- equal tests say the same
 T-iff : {x y : Bool} → x ≡ y → T x ↔ T y
 T-iff e = (subst T e, subst T (sym e))
 
@@ -37,7 +37,7 @@ T-iff e = (subst T e, subst T (sym e))
 
 module _ (b : Book) (w : Within b) (a : Answers) (s : Sound b a) where
   -- the fields that get a case of their own
-  pub fields-are : relaxable b (sheetOf a) ≡ answeredFields b a
+  fields-are : relaxable b (sheetOf a) ≡ answeredFields b a
   fields-are = those-ext (length (b .counts)) (answered (sheetOf a)) (λ f. given (a f)) (λ f l. answered-given b w a s f)
 
   -- the sums over them, by what is the same in each case
@@ -47,16 +47,19 @@ module _ (b : Book) (w : Within b) (a : Answers) (s : Sound b a) where
       ∙ sum-over-ext (answeredFields b a) g h (λ f m. same f (in-those (length (b .counts)) (λ f. given (a f)) m .1))
 
   module _ (S : Answer → Subdomain) (cases : Cases b a S) where
+    -- each answered field's case has one largest subdomain
     alone-same : (f : ℕ) → T (given (a f)) → (g c : ℕ) → largest b (relax (sheetOf a) f) g c ≡ S (is f) g c
     alone-same f t = largest-unique (largest-is b (relax (sheetOf a) f)) (cases .alone f t)
 
-    pub total-sum : total b (sheetOf a) ≡ theSum b a S
+    -- "the total of alternatives"
+    total-sum : total b (sheetOf a) ≡ theSum b a S
     unfolding total codesIn
     total-sum =
         over-fields (λ f. codesIn b (largest b (relax (sheetOf a) f)) f) (λ f. codesIn b (S (is f)) f)
         (λ f t. codes-in-ext b (largest b (relax (sheetOf a) f)) (S (is f)) (λ g c l. alone-same f t g c) f)
 
-    pub struck-sum : struck b (sheetOf a) ≡ theStruck b a S
+    -- "the number struck"
+    struck-sum : struck b (sheetOf a) ≡ theStruck b a S
     unfolding struck
     struck-sum =
         ap₂ _+_ (outside-ext b (largest b (sheetOf a)) (S none) (λ g c l. largest-unique (largest-is b (sheetOf a)) (cases .nothing) g c))
@@ -64,7 +67,7 @@ module _ (b : Book) (w : Within b) (a : Answers) (s : Sound b a) where
         (λ f t. outside-ext b (largest b (relax (sheetOf a) f)) (S (is f)) (λ g c l. alone-same f t g c)))
 
     -- the lines are the alternatives of the answered fields, and no other
-    pub lines-exactly : (l : Line) → In l (lines b (sheetOf a))
+    lines-exactly : (l : Line) → In l (lines b (sheetOf a))
         ↔ ((l .field < length (b .counts)) × (T (given (a (l .field))) × T (S (is (l .field)) (l .field) (l .code))))
     lines-exactly l = (
       λ m.

@@ -13,6 +13,7 @@ use Rattle.calls.proofs.CallLists.{numbers-are, sheet-after, sound-afte
 use Rattle.calls.proofs.Cases.{cases-are, filtered-shows, alternatives-list}
 use Rattle.calls.proofs.AlikeCalls.{same-results}
 
+-- what holds behind every list of calls
 after-calls : (bytes : List ℕ) → Accepted bytes → (calls : List Call) (o : List ℕ) → AfterCalls bytes calls o
 after-calls bytes ok calls o =
     let b = bookOf bytes in

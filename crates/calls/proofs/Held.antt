@@ -29,6 +29,7 @@ module _ (bytes s : List ℕ) (ok : Accepted bytes) (good : places ≤ faultOf (
       let fine : placeOk b s f ≡ true = all-pass (placeOk b s) 0 places (omega arith) good f (omega arith) (omega (arith, w .few)) in
       rw (ne-eqb (answer s f) 255 n) at fine
 
+  -- entering it hands the sheet back as it was
   pub enter-held : answer s f ≢ 255 → entered bytes s f (answer s f) ≡ done [] s []
   unfolding entered
   enter-held n =

@@ -1,18 +1,21 @@
 -- Condition 3 at work: two different books, both accepted, that are alike; and a list of calls with every refusal, with what listing answers behind
 -- it, computed. Assumes nothing.
 use Prim.Native.Nat.{ℕ}
-use mathlib.Core.Path.{_≡_, refl, sym, ap, subst₂}
+use mathlib.Core.Path.{_≡_, refl, sym, ap, _∙_, subst₂}
+use mathlib.Core.Logic.{_≢_}
 use mathlib.Core.List.{List, [], _∷_}
+use native.Mathlib.Omega.{arith}
 use lib.ListN.{replicate}
 use Rattle.format.specs.Basics.{scan, firstBad}
-use Rattle.format.specs.Format.{rowsAt, tableAt, tablesAt, bookOf}
+use Rattle.format.specs.Format.{Book, rowsAt, tableAt, tablesAt, bookOf}
 use Rattle.format.specs.Reading.{Outcome, trailerTest, listTest, rowsStep, tableStep, tablesStep, verdict, reading, Accepted}
 use Rattle.format.specs.Examples.{e1, e1′}
 use Rattle.format.proofs.Witness.{e1-reading}
+use Rattle.consistency.specs.Consistency.{fieldOf, nth}
+use Rattle.consistency.specs.Largest.{largestDomains, rounds, start, remove, removeFrom, count, countOf, bookSupports, tableSupports, rowSupports}
+use Rattle.consistency.specs.Counts.{total, struck, lines, outside}
 use Rattle.consistency.specs.Alike.{Alike}
 use Rattle.consistency.proofs.AlikeExample.{example, turned, example-alike}
-use Rattle.consistency.specs.Counts.{total, struck, lines, outside}
-use Rattle.consistency.specs.Largest.{largestDomains, rounds, start, remove, removeFrom, count, countOf, bookSupports, tableSupports, rowSupports}
 use Rattle.calls.specs.Calls.{freshSheet, done, entered, withdrawn, alternatives}
 use Rattle.calls.specs.Histories.{Call, enter, withdraw, clear, results, sheetThrough, sheetAfter}
 use Rattle.calls.specs.Conditions.{SameResults, numbers}
@@ -20,6 +23,7 @@ use Rattle.calls.proofs.Condition3.{condition3}
 
 -- ---- E1, and E1 with its tables the other way round and its repeated row once
 
+-- both are accepted
 e1-accepted : Accepted e1
 e1-accepted = ap (λ (o : Outcome). o .number) e1-reading
 
@@ -27,6 +31,7 @@ e1′-accepted : Accepted e1′
 unfolding reading verdict trailerTest listTest tablesStep tableStep rowsStep firstBad scan
 e1′-accepted = refl
 
+-- the books that they hold
 e1-book : bookOf e1 ≡ example
 unfolding bookOf tablesAt tableAt rowsAt
 e1-book = refl
@@ -34,6 +39,12 @@ e1-book = refl
 e1′-book : bookOf e1′ ≡ turned
 unfolding bookOf tablesAt tableAt rowsAt
 e1′-book = refl
+
+-- they are different, and alike
+pub e1-different : bookOf e1 ≢ bookOf e1′
+e1-different e =
+    let first : _≡_ {A = ℕ} 0 1 = ap (λ (b : Book). fieldOf (nth b 0) 0) (sym e1-book ∙ e ∙ e1′-book) in
+    omega arith
 
 pub e1-alike : Alike (bookOf e1) (bookOf e1′)
 e1-alike = subst₂ Alike (sym e1-book) (sym e1′-book) example-alike
@@ -49,7 +60,8 @@ abbrev someCalls : List Call
 someCalls =
     enter 2 2 ∷ clear ∷ enter 0 1 ∷ enter 1 1 ∷ enter 0 0 ∷ enter 0 0 ∷ enter 3 0 ∷ enter 1 3 ∷ withdraw 2 ∷ enter 2 0 ∷ withdraw 2 ∷ []
 
-some-numbers : numbers (results e1 freshSheet someCalls) ≡ 0 ∷ 0 ∷ 0 ∷ 0 ∷ 0 ∷ 0 ∷ 15 ∷ 16 ∷ 17 ∷ 0 ∷ 0 ∷ []
+-- each call's number
+pub some-numbers : numbers (results e1 freshSheet someCalls) ≡ 0 ∷ 0 ∷ 0 ∷ 0 ∷ 0 ∷ 0 ∷ 15 ∷ 16 ∷ 17 ∷ 0 ∷ 0 ∷ []
 unfolding results entered withdrawn verdict trailerTest listTest tablesStep tableStep rowsStep firstBad scan bookOf tablesAt tableAt rowsAt
 some-numbers = refl
 

@@ -29,6 +29,7 @@ pub record AcceptedList (bytes s o : List ℕ) (r : Result) : Type 0 where
   pub no-fault : places ≤ faultOf (bookOf bytes) s
   pub result : r ≡ listing (bookOf bytes) s o
 
+-- from its number alone
 pub list-accepted : (bytes s o : List ℕ) → alternatives bytes s o .outcome .number ≡ 0 → AcceptedList bytes s o (alternatives bytes s o)
 unfolding alternatives
 list-accepted bytes s o =

@@ -27,17 +27,20 @@ use Rattle.calls.specs.Histories.{Answer, none, is, Answers, given, put,
 
 -- ---- its places
 
+-- it has all its places
 pub length-sheet : (a : Answers) → length (sheetOf a) ≡ places
 length-sheet a = length-tabulate (λ f. byteOf (a f)) places 0
 
--- the byte of each answer, and 255 behind the last place
+-- a place holds the byte of its field's answer
 pub sheet-at : (a : Answers) (f : ℕ) → f < places → answer (sheetOf a) f ≡ byteOf (a f)
 sheet-at a f l = tabulate-at (λ g. byteOf (a g)) places 0 f 255 l ∙ ap (λ (g : ℕ). byteOf (a g)) (zero-add f)
 
+-- the fresh sheet holds no answers
 pub sheet-fresh : freshSheet ≡ sheetOf noAnswers
 unfolding tabulate
 sheet-fresh = refl
 
+-- the field's new answer, and the answers of the others
 put-same : (a : Answers) (f : ℕ) (x : Answer) → put a f x f ≡ x
 put-same a f x = rw (eq-eqb f f refl)
 
@@ -87,9 +90,11 @@ accepted-within bytes ok = record { few = omega (arith, many, p .few, limit); sm
 
 -- ---- answers that are codes of their fields
 
+-- so only fields of the book have one
 abbrev pub Sound : Book → Answers → Type 0
 Sound b a = (f c : ℕ) → a f ≡ is c → c < codes b f
 
+-- where there are none
 pub sound-none : (b : Book) → Sound b noAnswers
 sound-none b f c e = let never : _≡_ {A = ℕ} 0 1 = cc in omega arith
 
@@ -99,7 +104,7 @@ module _ (b : Book) (w : Within b) (a : Answers) (s : Sound b a) where
   byte-given f none e = refl
   byte-given f (is c) e = rw (ne-eqb c 255 (λ q. omega (arith, s f c e, w .small f)))
 
-  -- a field that has an answer has a place
+  -- a field without a place has no answer
   no-answer : (f : ℕ) → places ≤ f → (x : Answer) → a f ≡ x → given x ≡ false
   no-answer f l none e = refl
   no-answer f l (is c) e = absurd (omega (arith, field-in b f c (s f c e), w .few))
@@ -114,7 +119,7 @@ module _ (b : Book) (w : Within b) (a : Answers) (s : Sound b a) where
           let e : answer (sheetOf a) f ≡ 255 = List·getD-eq-default (sheetOf a) 255 (omega (arith, length-sheet a)) in
           ap (λ (x : ℕ). not (eqb x 255)) e ∙ sym (no-answer f (omega arith) (a f) refl)
 
-  -- 255, or a code of the field
+  -- an answer's byte is 255 or a code of the field
   byte-ok : (f : ℕ) (x : Answer) → a f ≡ x → eqb (byteOf x) 255 || ltb (byteOf x) (codes b f) ≡ true
   byte-ok f none e = refl
   byte-ok f (is c) e = rw (ne-eqb c 255 (λ q. omega (arith, s f c e, w .small f)), lt-ltb c (codes b f) (s f c e))

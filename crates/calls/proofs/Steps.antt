@@ -64,7 +64,9 @@ module _ (bytes : List ℕ) (ok : Accepted bytes) (a : Answers) (s : Sound (book
   called-step (withdraw f) = withdrawn-step f (ltb f (length (b .counts))) (eqb (answer (sheetOf a) f) 255) refl refl
   called-step clear = ap (λ (x : List ℕ). done [] x []) sheet-fresh
 
-  -- the answers after it are codes of their fields
+  -- ---- the answers after it are codes of their fields
+
+  -- with one answer put, if it is a code of its field
   sound-put : (f : ℕ) (x : Answer) → ((c : ℕ) → x ≡ is c → c < codes b f) → Sound b (put a f x)
   sound-put f x h g c e = at (eqb g f) refl e
     where
@@ -72,6 +74,7 @@ module _ (bytes : List ℕ) (ok : Accepted bytes) (a : Answers) (s : Sound (book
       at true q e = rw (eqb-true g f q) (h c e)
       at false q e = s g c e
 
+  -- whether the call is refused or not
   sound-pick : (n : ℕ) (e : Answers) → (n ≡ 0 → Sound b e) → Sound b (pick (eqb n 0) e a)
   sound-pick n e h = at (eqb n 0) refl
     where
@@ -86,6 +89,7 @@ module _ (bytes : List ℕ) (ok : Accepted bytes) (a : Answers) (s : Sound (book
       let code = pick-first (ltb c (codes b f)) (λ q. omega arith) (field .1) in
       ltb-true c (codes b f) (code .0)
 
+  -- after any call
   pub sound-step : (call : Call) → Sound b (after b a call)
   sound-step (enter f c) =
       sound-pick (refusalOf b a (enter f c)) (put a f (is c))

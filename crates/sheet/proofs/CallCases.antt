@@ -35,6 +35,7 @@ module _ (bytes s : List ℕ) (f c : ℕ) where
           on-ready 0 bytes s [] _ (o .passes) _
           (simp (fields-count bytes list fields (o .at), lt-ltb f fields h, codes-at bytes list fields (o .at) f h, le-ltb c (byte bytes (list + f)) k))
 
+      -- the field has that code as its answer
       pub entered-done : c < byte bytes (list + f) → done [] (set s f c) [] ≡ entered bytes s f c
       unfolding entered
       entered-done k =
@@ -56,6 +57,7 @@ module _ (bytes s : List ℕ) (f : ℕ) where
     withdrawn-15 h = on-ready 0 bytes s [] _ (o .passes) _ (simp (fields-count bytes list fields (o .at), le-ltb))
 
     module _ (long : length s ≡ places) (h : f < fields) where
+      -- what the code reads is the answer
       held : getD s f 0 ≡ answer s f
       held = answer-at s long f (omega (arith, fields-few bytes list fields (o .at)))
 
@@ -66,6 +68,7 @@ module _ (bytes s : List ℕ) (f : ℕ) where
           on-ready 0 bytes s [] _ (o .passes) _
           (simp (fields-count bytes list fields (o .at), lt-ltb f fields h, eq-eqb (answer s f) 255 (sym held ∙ k)))
 
+      -- the field has no answer any more
       pub withdrawn-done : (getD s f 0 ≡ 255 → ⊥) → done [] (set s f 255) [] ≡ withdrawn bytes s f
       unfolding withdrawn
       withdrawn-done k =
@@ -86,6 +89,7 @@ module _ (bytes s o : List ℕ) where
     unfolding stored
     stored-18 h = on-ready 0 bytes s o _ (p .passes) _ (simp (fields-count bytes list fields (p .at), lt-ltb))
 
+    -- the bytes of the fields are written, and the others stay
     pub stored-done : fields ≤ length o → done [] s (take fields s ++ drop fields o) ≡ stored bytes s o
     unfolding stored
     stored-done h = on-ready 0 bytes s o _ (p .passes) _ (simp (fields-count bytes list fields (p .at), le-ltb))

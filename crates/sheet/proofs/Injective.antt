@@ -46,9 +46,11 @@ numbered NoAnswer = (omega arith, refl)
 numbered Room = (omega arith, refl)
 numbered Length = (omega arith, refl)
 
+-- no refusal is shown as accepted
 pub number-some : (r : Reason) → 1 ≤ numberOf r
 number-some r = numbered r .0
 
+-- no two reasons have the same number
 pub number-injective : (r q : Reason) → numberOf r ≡ numberOf q → r ≡ q
 number-injective r q e = sym (numbered r .1) ∙ ap reasonOf e ∙ numbered q .1
 
@@ -62,12 +64,14 @@ places e = ap (λ (o : Outcome). o .place) e
 count : {x y : Outcome} (i : ℕ) → x ≡ y → getD (x .counts) i 0 ≡ getD (y .counts) i 0
 count i e = ap (λ (o : Outcome). getD (o .counts) i 0) e
 
+-- the answers of the calls that count nothing
 pub shown-injective : (x y : Answer) → shown x ≡ shown y → x ≡ y
 shown-injective Done Done e = refl
 shown-injective Done (Refused r p) e = absurd (omega (arith, numbers e, number-some r))
 shown-injective (Refused r p) Done e = absurd (omega (arith, numbers e, number-some r))
 shown-injective (Refused r p) (Refused r′ p′) e = ap₂ Refused (number-injective r r′ (numbers e)) (places e)
 
+-- the answers of alternatives
 pub shownListing-injective : (x y : Listing) → shownListing x ≡ shownListing y → x ≡ y
 shownListing-injective (Listed t n) (Listed t′ n′) e = ap₂ Listed (count 0 e) (count 1 e)
 shownListing-injective (Listed t n) (Unlisted r p) e = absurd (omega (arith, numbers e, number-some r))

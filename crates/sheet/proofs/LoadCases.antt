@@ -43,6 +43,7 @@ module _ (bytes form : List ℕ) where
     -- s is the sheet made of it, and fault the first place at fault, or the number of places
     module _ (h : length form ≡ fields) (s : List ℕ) (is : s ≡ take fields form ++ drop fields freshSheet)
         (fault : ℕ) (e : fault ≡ faultOf (bookOf bytes) s) where
+      -- it is the sheet of the definition
       made : s ≡ sheetFrom form
       made = is ∙ ap (λ (n : ℕ). take n form ++ drop n freshSheet) (sym h) ∙ form-over form
 
@@ -51,6 +52,7 @@ module _ (bytes form : List ℕ) where
       unfolding loaded
       loaded-14 k = simp (at .passes, fields-count bytes list fields at, eq-eqb, ← made, ← e, lt-ltb)
 
+      -- no place is at fault
       pub loaded-done : places ≤ fault → done [] s [] ≡ loaded bytes form
       unfolding loaded
       loaded-done k = simp (at .passes, fields-count bytes list fields at, eq-eqb, ← made, ← e, le-ltb)

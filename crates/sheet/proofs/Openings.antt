@@ -64,6 +64,7 @@ module _ (bytes : List ℕ) (list fields : ℕ) (at : FieldsAt bytes list fields
       let limit = pick-holds (λ (n : ℕ). n ≤ places) (eqb (versionOf bytes) 1) {a = 32} {b = 0} (omega arith) (omega arith) in
       omega (arith, limit, at .fields-is, verdict-promise bytes (at .passes) .few)
 
+  -- the book has as many fields as its trailer says
   pub fields-count : length (bookOf bytes .counts) ≡ fields
   fields-count = counts-count bytes (verdict-promise bytes (at .passes) .whole) ∙ sym (at .fields-is)
 
@@ -98,11 +99,13 @@ module _ (bytes s : List ℕ) where
 
 -- by the book's verdict and the first place at fault
 module _ (bytes s : List ℕ) (refuse : ℕ → ℕ → Result) (go : Book → Result) where
+  -- all pass
   go-on : (v : Verdict) → pass ≡ andThen v (faultTest (faultOf (bookOf bytes) s))
       → go (bookOf bytes) ≡ withBook bytes refuse v (λ b. faultThen refuse (faultOf b s) (go b))
   go-on pass e = rw (pick-second (ltb (faultOf (bookOf bytes) s) places) fail≢pass (sym e) .0)
   go-on (fail number place) e = absurd (fail≢pass (sym e))
 
+  -- one fails
   stop-here : (v : Verdict) (number place : ℕ) → fail number place ≡ andThen v (faultTest (faultOf (bookOf bytes) s))
       → refuse number place ≡ withBook bytes refuse v (λ b. faultThen refuse (faultOf b s) (go b))
   stop-here pass number place e =
@@ -130,8 +133,10 @@ pub record IsOpen (bytes s : List ℕ) (list fields : ℕ) : Type 0 where
   pub at : FieldsAt bytes list fields
 
 module _ (bytes s : List ℕ) (r : Opened) (o : Opens bytes s r) where
+  -- it is ready: both pass
   pub opens-ready : (list fields : ℕ) → r ≡ Ready list fields → IsOpen bytes s list fields
   opens-ready list fields e = record { passes = sym (ap openingOf e) ∙ o .answers; at = subst (Finds bytes) e (o .finds) }
 
+  -- it is turned down: its reason is the first refusal
   pub opens-turned : (reason : Reason) (place : ℕ) → r ≡ Turned reason place → fail (numberOf reason) place ≡ opening bytes s
   opens-turned reason place e = sym (ap openingOf e) ∙ o .answers

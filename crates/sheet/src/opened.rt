@@ -7,7 +7,9 @@ ghost use Rattle.consistency.specs.Consistency.{codes};
 ghost use Rattle.calls.specs.Calls.{faultOf};
 ghost use Rattle.sheet.specs.Opened.{FieldsAt, Opens};
 use super::Reason;
+use book::Checked;
 
+// The number of places of a sheet.
 pub(crate) const PLACES: usize = 32;
 
 // A book and a sheet that pass, with the place of the field list and the number of fields; or the first refusal and its place.
@@ -51,8 +53,8 @@ pub(crate) fn open(book: &[u8], places: [u8; 32]) -> Opened
 {
     let checked = book::check(book);
     match checked {
-        book::Checked::Bad(kind, place) => Opened::Turned(Reason::Book(kind), place),
-        book::Checked::Good {
+        Checked::Bad(kind, place) => Opened::Turned(Reason::Book(kind), place),
+        Checked::Good {
             list,
             fields,
             tables: _,

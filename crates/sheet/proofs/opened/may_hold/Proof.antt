@@ -10,16 +10,16 @@ returns : tie.Need-returns
 returns c = simp (eq-eqb _ _ (c .if1 .taken))
 
 returns-2 : tie.Need-returns-2
-returns-2 c = simp (ne-eqb _ _ (c .before .if1 .left), codes-none _ _ _ ((c .before .before .pre)) _ (c .if2 .taken), le-ltb (c .before .before .args .held) 0 zero-le)
+returns-2 c = simp (ne-eqb _ _ (c .before .if1 .left), codes-none _ _ _ (c .before .before .pre) _ (c .if2 .taken), le-ltb (c .before .before .args .held) 0 zero-le)
 
 add-result : tie.Need-add-result
-add-result c = omega (arith, fields-end _ _ _ ((c .before .before .pre)))
+add-result c = omega (arith, fields-end _ _ _ (c .before .before .pre))
 
 shared-slice-read-result : tie.Need-shared-slice-read-result
-shared-slice-read-result c = omega (arith, fields-end _ _ _ ((c .before .before .before .pre)))
+shared-slice-read-result c = omega (arith, fields-end _ _ _ (c .before .before .before .pre))
 
 returns-3 : tie.Need-returns-3
-returns-3 c = simp (ne-eqb _ _ (c .before .before .if1 .left), codes-at _ _ _ ((c .before .before .before .pre)) _ (c .before .if2 .left))
+returns-3 c = simp (ne-eqb _ _ (c .before .before .if1 .left), codes-at _ _ _ (c .before .before .before .pre) _ (c .before .if2 .left))
 
 pub may-hold-spec : {M : Type 1} → statement M
 may-hold-spec =
