@@ -25,7 +25,7 @@ pub enum Refusal {
     LeftOver,
 }
 
-// Document 01's number of a kind of refusal.
+// Document 01's number of a kind.
 pub fn number(kind: Refusal) -> u64
     ensures { λ r. ⌜ r ≡ numberOf kind ⌝ }
 {
@@ -65,7 +65,7 @@ pub enum Checked {
         tables: usize,
         rows: usize,
     },
-    Bad(Refusal, usize),
+    Refused(Refusal, usize),
 }
 
 // Makes every test. Different rows are counted apart, since only `read` answers their number.
@@ -74,7 +74,7 @@ pub fn check(book: &[u8]) -> Checked
 {
     let trailer = tests::trailer(book);
     if let tests::Test::Fail(kind, place) = trailer {
-        return Checked::Bad(kind, place);
+        return Checked::Refused(kind, place);
     }
     let n = book.len();
     let list = bytes::pair(book, n - 6);
@@ -82,14 +82,14 @@ pub fn check(book: &[u8]) -> Checked
     let tables = bytes::byte(book, n - 3);
     let counts = tests::field_list(book, list, fields);
     if let tests::Test::Fail(kind, place) = counts {
-        return Checked::Bad(kind, place);
+        return Checked::Refused(kind, place);
     }
     let step = tests::tables(book, list, fields, tables);
     match step {
-        tests::Step::Stop(kind, place) => Checked::Bad(kind, place),
+        tests::Step::Stop(kind, place) => Checked::Refused(kind, place),
         tests::Step::Next { at, rows } => {
             if at < list {
-                return Checked::Bad(Refusal::LeftOver, at);
+                return Checked::Refused(Refusal::LeftOver, at);
             }
             Checked::Good {
                 list: list,
@@ -107,7 +107,7 @@ pub fn read(book: &[u8]) -> Reading
 {
     let checked = check(book);
     match checked {
-        Checked::Bad(kind, place) => Reading::Refused(kind, place),
+        Checked::Refused(kind, place) => Reading::Refused(kind, place),
         Checked::Good {
             list: _,
             fields,

@@ -18,7 +18,7 @@ use Rattle.book.specs.Shown as book
 use Rattle.book.specs.Shown.{shownCheck}
 use Rattle.book.specs.declared.Refusal.{Refusal}
 use Rattle.book.specs.declared.Checked.{Checked}
-use Rattle.book.specs.declared.Checked.the-variants.{Good, Bad}
+use Rattle.book.specs.declared.Checked.the-variants.{Good, Refused}
 use Rattle.book.proofs.Injective.{number-some}
 use Rattle.consistency.specs.Consistency.{places, codes}
 use Rattle.calls.specs.Calls.{Result, turned, faultOf, withBook, faultThen, onSheet}
@@ -39,7 +39,7 @@ outcome-fail (fail number′ place′) counts k number place h e =
 
 module _ (bytes : List ℕ) (r : Checked) (is : shownCheck r ≡ checking bytes) where
   -- it refuses the book
-  pub checks-bad : (kind : Refusal) (place : ℕ) → r ≡ Bad kind place → fail (book.numberOf kind) place ≡ verdict bytes
+  pub checks-bad : (kind : Refusal) (place : ℕ) → r ≡ Refused kind place → fail (book.numberOf kind) place ≡ verdict bytes
   unfolding checking
   checks-bad kind place e = outcome-fail (verdict bytes) _ 4 _ place (number-some kind) (sym (ap shownCheck e) ∙ is)
 

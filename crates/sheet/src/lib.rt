@@ -242,7 +242,7 @@ pub fn load(book: &[u8], form: &[u8]) -> Handed
 {
     let checked = book::check(book);
     match checked {
-        Checked::Bad(kind, place) => refuse(Sheet::fresh(), Reason::Book(kind), place),
+        Checked::Refused(kind, place) => refuse(Sheet::fresh(), Reason::Book(kind), place),
         Checked::Good {
             list,
             fields,

@@ -53,7 +53,7 @@ pub(crate) fn open(book: &[u8], places: [u8; 32]) -> Opened
 {
     let checked = book::check(book);
     match checked {
-        Checked::Bad(kind, place) => Opened::Turned(Reason::Book(kind), place),
+        Checked::Refused(kind, place) => Opened::Turned(Reason::Book(kind), place),
         Checked::Good {
             list,
             fields,
