@@ -11,3 +11,6 @@ pub mod Counts
 pub mod Sizes
 pub mod SheetPart
 pub mod Contents
+pub mod Texts
+pub mod HeldTexts
+pub mod Printing

@@ -1,17 +1,20 @@
--- What the printed lines say: "the open lines are exactly the unanswered fields' codes in the largest arc-consistent subdomain", each once, by
+-- What report leaves, and what the printed lines say: "the open lines are exactly the unanswered fields' codes in the largest arc-consistent subdomain", each once, by
 -- field then code; the header's total is the number of alt lines. And how long a text can be. Assumes nothing.
 use Prim.Native.Nat.{ℕ, _≤_, _<_}
 use mathlib.Core.Path.{_≡_}
 use mathlib.Core.Logic.{_↔_}
-use mathlib.Core.Bool.{not}
-use mathlib.Core.List.{List}
-use lib.ListN.{length}
-use lib.Dec.{T}
+use mathlib.Core.Bool.{Bool, true, false, not}
+use mathlib.Core.List.{List, _++_}
+use lib.ListN.{length, drop}
+use lib.Dec.{T, leb}
+use Rattle.format.specs.Basics.{pick}
 use Rattle.format.specs.Format.{Book}
 use Rattle.consistency.specs.Consistency.{Subdomain, IsLargest}
 use Rattle.consistency.specs.Counts.{answered, Line, lines, total}
 use Rattle.consistency.specs.Order.{In, InOrder}
 use Rattle.report.specs.Text.{openLines, reportText}
+use Rattle.report.specs.declared.Printed.{Printed}
+use Rattle.report.specs.declared.Printed.the-variants.{Written, TooShort}
 
 -- "Each open: unanswered field and standing code, by field then code": whatever S is the largest, its codes and no others
 pub record ShowsOpen (b : Book) (s : List ℕ) (ls : List Line) : Type 0 where
@@ -32,3 +35,23 @@ textLimit = 11305
 
 abbrev pub TextFits : Type 0
 TextFits = (bytes form : List ℕ) → length (reportText bytes form) ≤ textLimit
+
+-- what report leaves: whether the text fits in the buffer, how long it is, and the buffer's contents
+pub record Printing : Type 0 where
+  pub fits : Bool
+  pub size : ℕ
+  pub buffer : List ℕ
+
+-- a text that fits stands before what o keeps; one that does not leaves o as it was
+abbrev pub printing : List ℕ → List ℕ → Printing
+printing text o =
+    record {
+      fits = leb (length text) (length o);
+      size = length text;
+      buffer = pick (leb (length text) (length o)) (text ++ drop (length text) o) o;
+    }
+
+-- the answer of report, with the buffer's contents
+abbrev pub shown : Printed → List ℕ → Printing
+shown (Written n) o = record { fits = true; size = n; buffer = o }
+shown (TooShort n) o = record { fits = false; size = n; buffer = o }

@@ -51,12 +51,15 @@ abbrev pub linesText : List ℕ → List Line → List ℕ
 linesText word [] = []
 linesText word (l ∷ ls) = (word ++ spaced (l .field ∷ l .code ∷ [])) ++ linesText word ls
 
--- "Book: fields, tables, rows written, different rows. Sheet: answered fields, total, struck"
+-- "Sheet: answered fields, total, struck", then the lines
+abbrev pub sheetText : List ℕ → Book → List ℕ
+sheetText s b =
+    (sheetWord ++ spaced (howMany (length (b .counts)) (answered s) ∷ total b s ∷ struck b s ∷ []))
+    ++ (linesText altWord (lines b s) ++ linesText openWord (openLines b s))
+
+-- "Book: fields, tables, rows written, different rows"
 unfoldable pub acceptedText : List ℕ → List ℕ → Book → List ℕ
-acceptedText counts s b =
-    (bookWord ++ spaced counts)
-    ++ ((sheetWord ++ spaced (howMany (length (b .counts)) (answered s) ∷ total b s ∷ struck b s ∷ []))
-    ++ (linesText altWord (lines b s) ++ linesText openWord (openLines b s)))
+acceptedText counts s b = (bookWord ++ spaced counts) ++ sheetText s b
 
 -- "A refusal prints only refused, number, place"
 abbrev pub refusedText : ℕ → ℕ → List ℕ
