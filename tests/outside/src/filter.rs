@@ -10,8 +10,7 @@ pub type Subdomain = Vec<Vec<bool>>;
 /// Some row of the table has `code` in column `column` and, in its other columns, codes that are all in the subdomain.
 fn supported(domain: &Subdomain, table: &Table, column: usize, code: u8) -> bool {
     table.rows.iter().any(|row| {
-        row[column] == code
-            && (0..row.len()).all(|k| k == column || domain[table.fields[k] as usize][row[k] as usize])
+        row[column] == code && (0..row.len()).all(|k| k == column || domain[table.fields[k] as usize][row[k] as usize])
     })
 }
 
