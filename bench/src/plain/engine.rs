@@ -150,24 +150,14 @@ pub fn alternatives(sheet: &[u8; 32], bytes: &[u8], out: &mut [u8]) -> Result<(u
     Ok((total as u64, engine.struck))
 }
 
-/// One number for each field, with one field relaxed or none.
-pub fn filtered(sheet: &[u8; 32], bytes: &[u8], relaxed: u8, out: &mut [u32]) -> Result<(), Refused> {
+/// One number for each field, with nothing relaxed.
+pub fn filtered(sheet: &[u8; 32], bytes: &[u8], out: &mut [u32]) -> Result<(), Refused> {
     let book = check(bytes)?;
     check_sheet(&book, sheet)?;
-    let mut answers = *sheet;
-    if relaxed != NO_ANSWER {
-        if relaxed as usize >= book.view.fields {
-            return Err((15, 0));
-        }
-        if sheet[relaxed as usize] == NO_ANSWER {
-            return Err((17, 0));
-        }
-        answers[relaxed as usize] = NO_ANSWER;
-    }
     if out.len() < book.view.fields {
         return Err((18, 0));
     }
-    let mut engine = Engine::start(&book, &answers, 1, &[0; 32]);
+    let mut engine = Engine::start(&book, sheet, 1, &[0; 32]);
     engine.propagate();
     for (f, number) in out.iter_mut().enumerate().take(book.view.fields) {
         *number = (0..book.view.codes(f)).fold(0, |bits, c| bits | (engine.marks[f * 32 + c] as u32) << c);
