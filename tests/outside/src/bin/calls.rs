@@ -4,6 +4,7 @@
 //! bare and by the safe wrapper, with buffers one short, exact, longer, and of length 0; a list of calls is also made one by one. The
 //! run prints how often each refusal of each call was reached, and fails if one was not.
 
+use std::panic::{catch_unwind, AssertUnwindSafe};
 use std::process::ExitCode;
 
 use outside::book::Book;
@@ -103,7 +104,9 @@ fn agrees(seed: u64, index: u64, seen: &mut Coverage) -> bool {
 fn run(cases: u64, seed: u64) -> bool {
     let mut seen = Coverage::default();
     for index in 0..cases {
-        if !agrees(seed, index, &mut seen) {
+        // a panic, such as that of a guard behind a buffer, is a difference too
+        let agreed = catch_unwind(AssertUnwindSafe(|| agrees(seed, index, &mut seen)));
+        if !agreed.unwrap_or(false) {
             println!("case {index} of seed {seed} differs; `calls case {index} {seed}` repeats it");
             return false;
         }
