@@ -5,20 +5,20 @@ use std::fmt::Write;
 use crate::measure::Pass;
 
 const WIDTH: f64 = 380.0;
-const HEIGHT: f64 = 250.0;
-const LEFT: f64 = 52.0;
+const HEIGHT: f64 = 262.0;
+const LEFT: f64 = 64.0;
 const TOP: f64 = 34.0;
 const RIGHT: f64 = 12.0;
-const BOTTOM: f64 = 36.0;
+const BOTTOM: f64 = 48.0;
 
-/// A contender's name, colour and time.
+/// A contender's name, its stroke and its time.
 type Line = (&'static str, &'static str, fn(&Pass) -> Option<f64>);
 
 const LINES: [Line; 4] = [
-    ("library, one pass", "#0b5fa5", |p| Some(p.library)),
-    ("plain Rust, same engine", "#6a6a6a", |p| Some(p.plain)),
-    ("library, n + 1 filterings", "#c0392b", |p| Some(p.separate)),
-    ("Gecode, n + 1 clones", "#2e8b57", |p| p.gecode),
+    ("library, one pass", r##"stroke="#0b5fa5" stroke-width="2.5""##, |p| Some(p.library)),
+    ("plain Rust, same engine", r##"stroke="#222" stroke-width="1.5" stroke-dasharray="2 4""##, |p| Some(p.plain)),
+    ("library, n + 1 filterings", r##"stroke="#c0392b" stroke-width="2""##, |p| Some(p.separate)),
+    ("Gecode, n + 1 clones", r##"stroke="#2e8b57" stroke-width="2""##, |p| p.gecode),
 ];
 
 /// The range of times in a panel, as powers of ten.
@@ -53,7 +53,8 @@ impl Panel {
             let (x, y) = (self.x(pass.n), HEIGHT - BOTTOM + 16.0);
             writeln!(svg, r#"<text x="{x:.1}" y="{y:.1}" text-anchor="middle">{}</text>"#, pass.n)?;
         }
-        Ok(())
+        let (x, y) = ((LEFT + WIDTH - RIGHT) / 2.0, HEIGHT - BOTTOM + 30.0);
+        writeln!(svg, r#"<text x="{x:.1}" y="{y:.1}" text-anchor="middle">answers n</text>"#)
     }
 
     fn line(&self, svg: &mut String, passes: &[Pass], line: &Line) -> std::fmt::Result {
@@ -62,7 +63,7 @@ impl Panel {
         if points.is_empty() {
             return Ok(());
         }
-        writeln!(svg, r#"<polyline points="{}" fill="none" stroke="{}" stroke-width="2"/>"#, points.join(" "), line.1)
+        writeln!(svg, r#"<polyline points="{}" fill="none" {}/>"#, points.join(" "), line.1)
     }
 }
 
@@ -75,9 +76,9 @@ fn panel(svg: &mut String, title: &str, passes: &[Pass]) -> std::fmt::Result {
 }
 
 fn legend(svg: &mut String, y: f64) -> std::fmt::Result {
-    for (i, (name, colour, _)) in LINES.iter().enumerate() {
-        let x = LEFT + i as f64 * 178.0;
-        writeln!(svg, r#"<line x1="{x}" y1="{y}" x2="{}" y2="{y}" stroke="{colour}" stroke-width="3"/>"#, x + 20.0)?;
+    for (i, (name, stroke, _)) in LINES.iter().enumerate() {
+        let x = LEFT + i as f64 * 175.0;
+        writeln!(svg, r#"<line x1="{x}" y1="{y}" x2="{}" y2="{y}" {stroke}/>"#, x + 20.0)?;
         writeln!(svg, r#"<text x="{}" y="{}">{name}</text>"#, x + 25.0, y + 4.0)?;
     }
     Ok(())

@@ -133,13 +133,14 @@ pub fn numbers(domain: &Subdomain) -> Vec<u32> {
     domain.iter().map(number).collect()
 }
 
-fn filtered(bytes: &[u8], sheet: &Sheet, lifted: u8) -> Result<Vec<u32>, Refusal> {
+/// One number a field with this field's answer left out, or with all answers for 255.
+fn filtered(bytes: &[u8], sheet: &Sheet, field: u8) -> Result<Vec<u32>, Refusal> {
     let book = opened(bytes, sheet)?;
-    if lifted == 255 {
+    if field == 255 {
         return Ok(numbers(&largest(&book, sheet)));
     }
-    has_answer(&book, sheet, lifted)?;
-    Ok(numbers(&largest(&book, &relaxed(sheet, lifted as usize))))
+    has_answer(&book, sheet, field)?;
+    Ok(numbers(&largest(&book, &relaxed(sheet, field as usize))))
 }
 
 /// Counts and pairs.

@@ -42,28 +42,38 @@ fn book(r: &mut Random) -> (Book, Vec<u8>, Option<&'static str>) {
     (model, bytes, None)
 }
 
-/// The names of the boundary sizes: the largest that is accepted, and one more.
-pub const BOUNDARIES: [&str; 8] =
-    ["32 fields", "33 fields", "32 codes", "33 codes", "64 tables", "65 tables", "4096 rows", "4097 rows"];
+/// The names of the boundary sizes: the largest that is accepted, and one more; and the longest book.
+pub const BOUNDARIES: [&str; 9] =
+    ["32 fields", "33 fields", "32 codes", "33 codes", "64 tables", "65 tables", "4096 rows", "4097 rows", "16870 bytes"];
 
 /// A table on field 0 with this many rows.
-fn unary(rows: usize, codes: usize) -> Table {
-    Table { fields: vec![0], rows: (0..rows).map(|i| vec![(i % codes) as u8]).collect() }
+fn unary(rows: usize) -> Table {
+    Table { fields: vec![0], rows: (0..rows).map(|i| vec![(i % 2) as u8]).collect() }
 }
 
 fn boundary(r: &mut Random) -> (&'static str, Book) {
     let k = r.from(0, BOUNDARIES.len() - 1);
     let more = k % 2;
     let book = match k / 2 {
-        0 => Book { counts: vec![2; 32 + more], tables: vec![unary(2, 2)] },
-        1 => Book { counts: vec![3, 32 + more as u8], tables: vec![unary(2, 2)] },
-        2 => Book { counts: vec![2, 3], tables: vec![unary(2, 2); 64 + more] },
-        _ => {
+        0 => Book { counts: vec![2; 32 + more], tables: vec![unary(2)] },
+        1 => Book { counts: vec![3, 32 + more as u8], tables: vec![unary(2)] },
+        2 => Book { counts: vec![2, 3], tables: vec![unary(2); 64 + more] },
+        3 => {
             let first = r.from(0, 4_096);
-            Book { counts: vec![2, 3], tables: vec![unary(first, 2), unary(4_096 + more - first, 2)] }
+            Book { counts: vec![2, 3], tables: vec![unary(first), unary(4_096 + more - first)] }
         }
+        _ => longest(r),
     };
     (BOUNDARIES[k], book)
+}
+
+/// 64 tables of four fields with 64 rows each: each code goes with itself, or with itself but for the last field.
+fn longest(r: &mut Random) -> Book {
+    let table = |r: &mut Random| {
+        let rows = (0..32).flat_map(|c| [vec![c; 4], vec![c, c, c, r.from(0, 31) as u8]]).collect();
+        Table { fields: random::fields_of(r, 32, 4), rows }
+    };
+    Book { counts: vec![32; 32], tables: (0..64).map(|_| table(r)).collect() }
 }
 
 /// A sheet for the book, in some cases with faults below or behind the number of fields.
@@ -119,13 +129,13 @@ fn code(r: &mut Random, book: &Book, field: u8) -> u8 {
 }
 
 /// Mostly a field with an answer, or 255 for none.
-fn lifted(r: &mut Random, book: &Book, sheet: &Sheet) -> u8 {
-    let answered: Vec<u8> = (0..32).filter(|&f| sheet[f as usize] != NO_ANSWER).collect();
+fn answered(r: &mut Random, book: &Book, sheet: &Sheet) -> u8 {
+    let held: Vec<u8> = (0..32).filter(|&f| sheet[f as usize] != NO_ANSWER).collect();
     match r.from(0, 5) {
         0..=1 => NO_ANSWER,
         2 => field(r, book),
-        _ if answered.is_empty() => field(r, book),
-        _ => answered[r.from(0, answered.len() - 1)],
+        _ if held.is_empty() => field(r, book),
+        _ => held[r.from(0, held.len() - 1)],
     }
 }
 
@@ -151,8 +161,8 @@ fn calls(r: &mut Random, book: &Book, sheet: &Sheet) -> Vec<Call> {
         Call::Fresh,
         Call::Clear,
         Call::Enter { field: entered, code: code(r, book, entered) },
-        Call::Withdraw { field: lifted(r, book, sheet) },
-        Call::Filtered { relaxed: lifted(r, book, sheet) },
+        Call::Withdraw { field: answered(r, book, sheet) },
+        Call::Filtered { relaxed: answered(r, book, sheet) },
         Call::Alternatives,
         Call::Load { form: form(r, book) },
         Call::Store,

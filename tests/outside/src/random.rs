@@ -25,7 +25,8 @@ impl Random {
     }
 }
 
-fn fields_of(r: &mut Random, fields: usize, arity: usize) -> Vec<u8> {
+/// That many different fields, rising.
+pub fn fields_of(r: &mut Random, fields: usize, arity: usize) -> Vec<u8> {
     let mut all: Vec<u8> = (0..fields as u8).collect();
     for i in 0..arity {
         let k = r.from(i, fields - 1);
