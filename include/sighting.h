@@ -15,8 +15,8 @@
  * cells of `outcome` in every case. outcome[0] is the place; an accepted call has place 0 (sighting_report alone has the length of
  * its text there). The other cells are counts.
  *
- * A refused call leaves: the sheet as it was given (sighting_load: a fresh one), every element of `out` as it was, and all counts 0.
- * An accepted call leaves the elements of `out` behind those that it writes as they were.
+ * A refused call leaves: the sheet as it was given (sighting_load: a fresh one; sighting_replay: the one that its list reached), every
+ * element of `out` as it was, and all counts 0. An accepted call leaves the elements of `out` behind those that it writes as they were.
  *
  *   number  refused because                                                      place
  *   ------  -------------------------------------------------------------------  ------------------------------------------------
@@ -40,7 +40,7 @@
  *       18  too few elements lent                                                0
  *       19  a stored sheet's length is not the number of fields                  0
  *
- * The place of 14 is that of a field that holds neither 255 nor one of its codes, or of a place behind the book's fields that is not 255.
+ * 14 looks for a field that holds neither 255 nor one of its codes, and for a place behind the book's fields that does not hold 255.
  * The first refusal in the order that a function's comment gives is the one returned.
  */
 #ifndef SIGHTING_H
@@ -67,7 +67,8 @@ extern "C" {
 /*
  * Reads a book and counts what it has.
  *   outcome[5]  place, fields, tables, rows written, different rows (a row repeated in its table counts once)
- * Refusals, in this order: 1 to 7, then for each table 8 to 12, last 13.
+ * Refusals, in this order: 1 to 7; for each table in turn 8 (no byte left), 9, 8 (no room for its head), 10, 8 (no room for its rows),
+ * 12, 11; last 13.
  */
 uint64_t sighting_read(const uint8_t *book, size_t book_len, uint64_t *outcome);
 

@@ -5,6 +5,7 @@ use sighting::Sheet;
 use crate::families::Family;
 use crate::gecode::Root;
 use crate::plain::{engine, reader};
+use crate::stack;
 use crate::timing::{medians, Contender};
 
 const PAIRS: usize = 2 * 32 * 32;
@@ -114,19 +115,16 @@ pub fn filtering(family: &Family, n: usize) -> Filtering {
 /// The stack bytes of each call on this book.
 pub fn stacks(family: &Family) -> Vec<(&'static str, usize)> {
     let (book, bytes) = (&family.book[..], family.sheet(32));
-    let mut sheet = Sheet::from(bytes);
-    let (mut pairs, mut numbers, mut text) = (vec![0; PAIRS], vec![0; 32], vec![0; 32_768]);
+    let (mut pairs, mut numbers, mut text) = ([0; PAIRS], [0; 32], [0; 32_768]);
     let list = [0, 0, 0].repeat(32);
-    let mut calls: Vec<(&'static str, Box<dyn FnMut() + '_>)> = vec![
-        ("read", Box::new(|| assert!(sighting::read(book).is_ok()))),
-        ("filtered", Box::new(|| assert!(Sheet::from(bytes).filtered(book, None, &mut numbers).is_ok()))),
-        ("enter", Box::new(|| assert!(sheet.enter(book, 0, 0).is_ok()))),
-        ("report", Box::new(|| assert!(sighting::report(book, &bytes, &mut text).is_ok()))),
-    ];
-    let mut found: Vec<_> = calls.iter_mut().map(|(name, call)| (*name, crate::stack::bytes(call))).collect();
-    let one = &mut || assert!(Sheet::from(bytes).alternatives(book, &mut pairs).is_ok());
-    found.push(("alternatives", crate::stack::bytes(one)));
-    let all = &mut || assert!(Sheet::replay(book, &list, &mut pairs).1.is_ok());
-    found.push(("replay", crate::stack::bytes(all)));
-    found
+    let sheet = Sheet::from(bytes);
+    let mut entered = sheet;
+    vec![
+        ("read", stack::bytes(&mut || assert!(sighting::read(book).is_ok()))),
+        ("enter", stack::bytes(&mut || assert!(entered.enter(book, 0, 0).is_ok()))),
+        ("filtered", stack::bytes(&mut || assert!(sheet.filtered(book, None, &mut numbers).is_ok()))),
+        ("alternatives", stack::bytes(&mut || assert!(sheet.alternatives(book, &mut pairs).is_ok()))),
+        ("replay", stack::bytes(&mut || assert!(Sheet::replay(book, &list, &mut pairs).1.is_ok()))),
+        ("report", stack::bytes(&mut || assert!(sighting::report(book, &bytes, &mut text).is_ok()))),
+    ]
 }

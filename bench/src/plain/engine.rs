@@ -5,7 +5,7 @@ use super::Refused;
 
 pub const NO_ANSWER: u8 = 255;
 
-/// Filters a book in several cases at once. Case k relaxes field `relaxed[k]`, or none.
+/// Filters a book in several cases at once: bit k of a mark says that it stands in case k.
 struct Engine<'a> {
     book: &'a Checked<'a>,
     marks: [u64; 1024],
@@ -23,7 +23,8 @@ fn first_bits(n: usize) -> u64 {
 }
 
 impl<'a> Engine<'a> {
-    /// The marks that the answers allow: of an answered field the held code in all cases, the others in those of `relaxing(field)`.
+    /// The marks that the answers allow: of an answered field the held code in all cases, the others in those that relax the
+    /// field.
     fn start(book: &'a Checked<'a>, sheet: &[u8; 32], cases: usize, relaxing: &[u64; 32]) -> Engine<'a> {
         let mut engine = Engine { book, marks: [0; 1024], watch: [0; 32], queue: first_bits(book.view.tables), struck: 0 };
         let all = first_bits(cases);
@@ -70,9 +71,9 @@ impl<'a> Engine<'a> {
     fn unsupported(&self, table: Table, j: usize, field: usize) -> [u64; 32] {
         let mut need = [0; 32];
         let mut waiting = 0;
-        for c in 0..self.book.view.codes(field) {
-            need[c] = self.marks[field * 32 + c];
-            waiting += (need[c] != 0) as usize;
+        for (c, word) in need.iter_mut().enumerate().take(self.book.view.codes(field)) {
+            *word = self.marks[field * 32 + c];
+            waiting += (*word != 0) as usize;
         }
         let mut from = 0;
         while waiting != 0 {
@@ -93,10 +94,10 @@ impl<'a> Engine<'a> {
             let field = self.book.view.field(table, j);
             let left = self.unsupported(table, j, field);
             let mut any = 0;
-            for c in 0..self.book.view.codes(field) {
-                self.marks[field * 32 + c] &= !left[c];
-                self.struck += left[c].count_ones() as u64;
-                any |= left[c];
+            for (c, &word) in left.iter().enumerate().take(self.book.view.codes(field)) {
+                self.marks[field * 32 + c] ^= word;
+                self.struck += word.count_ones() as u64;
+                any |= word;
             }
             if any != 0 {
                 self.queue |= self.watch[field] & !(1 << i);

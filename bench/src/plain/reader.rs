@@ -91,13 +91,13 @@ impl View<'_> {
 
     fn check_codes(&self, table: Table) -> Result<(), Refused> {
         let mut limits = [0; 4];
-        for j in 0..table.arity {
-            limits[j] = self.codes(self.field(table, j)) as u8;
+        for (j, limit) in limits.iter_mut().enumerate().take(table.arity) {
+            *limit = self.codes(self.field(table, j)) as u8;
         }
         for row in 0..table.rows {
             let at = table.first + row * table.arity;
-            for j in 0..table.arity {
-                if self.bytes[at + j] >= limits[j] {
+            for (j, &limit) in limits[..table.arity].iter().enumerate() {
+                if self.bytes[at + j] >= limit {
                     return refuse(11, at + j);
                 }
             }

@@ -77,7 +77,7 @@ pub struct Left {
 
 /// The lowest place that holds neither 255 nor a code of its field, or that lies behind the fields and is not 255.
 fn fault(book: &Book, sheet: &Sheet) -> Option<usize> {
-    (0..sheet.len()).find(|&f| sheet[f] != NO_ANSWER && book.counts.get(f).map_or(true, |&count| sheet[f] >= count))
+    (0..sheet.len()).find(|&f| sheet[f] != NO_ANSWER && book.counts.get(f).is_none_or(|&count| sheet[f] >= count))
 }
 
 /// The book, where neither it nor the sheet is refused: 1 to 13, then 14.

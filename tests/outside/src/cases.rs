@@ -102,7 +102,7 @@ fn form(r: &mut Random, book: &Book) -> Vec<u8> {
     let mut form = random::form(r, book);
     match r.from(0, 7) {
         0 => form.truncate(r.from(0, form.len() - 1)),
-        1 => form.resize(form.len() + r.from(1, 2), r.next() as u8),
+        1 => form.resize(form.len() + r.from(1, 2), r.word() as u8),
         2 => {
             let f = r.from(0, form.len() - 1);
             form[f] = r.from(book.counts[f] as usize, 254) as u8;
@@ -115,7 +115,7 @@ fn form(r: &mut Random, book: &Book) -> Vec<u8> {
 /// Mostly a field of the book.
 fn field(r: &mut Random, book: &Book) -> u8 {
     match r.from(0, 5) {
-        0 => r.next() as u8,
+        0 => r.word() as u8,
         _ => r.from(0, book.counts.len()) as u8,
     }
 }
@@ -124,7 +124,7 @@ fn field(r: &mut Random, book: &Book) -> u8 {
 fn code(r: &mut Random, book: &Book, field: u8) -> u8 {
     match book.counts.get(field as usize) {
         Some(&count) if !r.one_in(6) => r.from(0, count as usize) as u8,
-        _ => r.next() as u8,
+        _ => r.word() as u8,
     }
 }
 
@@ -145,7 +145,7 @@ fn list(r: &mut Random, book: &Book) -> Vec<u8> {
     for _ in 0..r.from(0, 10) {
         let field = field(r, book);
         let code = code(r, book, field);
-        let kind = [0, 0, 0, 0, 0, 0, 1, 1, 2, 3 + (r.next() % 253) as u8][r.from(0, 9)];
+        let kind = [0, 0, 0, 0, 0, 0, 1, 1, 2, 3 + (r.word() % 253) as u8][r.from(0, 9)];
         bytes.extend([kind, field, code]);
     }
     if r.one_in(3) {

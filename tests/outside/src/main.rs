@@ -61,7 +61,7 @@ fn case(r: &mut Random) -> Case {
 }
 
 fn random_byte(r: &mut Random) -> u8 {
-    r.next() as u8
+    r.word() as u8
 }
 
 fn desk_prints(desk: &Path, folder: &Path, case: &Case) -> std::io::Result<Vec<u8>> {

@@ -7,7 +7,7 @@ use crate::filter::{largest, NO_ANSWER};
 pub struct Random(pub u64);
 
 impl Random {
-    pub fn next(&mut self) -> u64 {
+    pub fn word(&mut self) -> u64 {
         self.0 = self.0.wrapping_add(0x9E37_79B9_7F4A_7C15);
         let mut z = self.0;
         z = (z ^ (z >> 30)).wrapping_mul(0xBF58_476D_1CE4_E5B9);
@@ -17,11 +17,11 @@ impl Random {
 
     /// A number from lo to hi.
     pub fn from(&mut self, lo: usize, hi: usize) -> usize {
-        lo + (self.next() % (hi - lo + 1) as u64) as usize
+        lo + (self.word() % (hi - lo + 1) as u64) as usize
     }
 
     pub fn one_in(&mut self, n: u64) -> bool {
-        self.next() % n == 0
+        self.word().is_multiple_of(n)
     }
 }
 
@@ -167,7 +167,7 @@ pub fn form(r: &mut Random, book: &Book) -> Vec<u8> {
     let guided = book.counts.len() <= 6 && book.rows() < 300 && !r.one_in(4);
     let mut form = vec![NO_ANSWER; book.counts.len()];
     for f in 0..form.len() {
-        if r.next() % 4 < answered {
+        if r.word() % 4 < answered {
             form[f] = if guided { standing_code(r, book, &form, f) } else { r.from(0, book.counts[f] as usize - 1) as u8 };
         }
     }
@@ -257,7 +257,7 @@ pub fn damaged(r: &mut Random, book: &Book, number: u64) -> Vec<u8> {
         }
         _ => {
             let place = r.from(0, n - 1);
-            bytes[place] = r.next() as u8;
+            bytes[place] = r.word() as u8;
         }
     }
     bytes

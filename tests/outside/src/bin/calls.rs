@@ -28,7 +28,7 @@ fn lengths(r: &mut Random, call: &Call, written: usize) -> Vec<usize> {
 }
 
 fn filled(r: &mut Random, length: usize) -> Vec<u8> {
-    (0..length).map(|_| r.next() as u8).collect()
+    (0..length).map(|_| r.word() as u8).collect()
 }
 
 fn hex(bytes: &[u8]) -> String {
@@ -49,7 +49,7 @@ fn compare(case: &Case, call: &Call, answer: &Answer, r: &mut Random, length: us
     let is_numbers = matches!(call, Call::Filtered { .. });
     let (bytes, numbers) = if is_numbers { (0, length) } else { (length, 0) };
     let bytes = filled(r, bytes);
-    let numbers: Vec<u32> = (0..numbers).map(|_| r.next() as u32).collect();
+    let numbers: Vec<u32> = (0..numbers).map(|_| r.word() as u32).collect();
     let expected = answer.left(call, &bytes, &numbers);
     note(case, call, &expected, seen);
     same("bare", case, call, &expected, &bare(call, &case.book, &case.sheet, &bytes, &numbers))
