@@ -132,11 +132,13 @@ pub fn check(bytes: &[u8]) -> Result<Checked<'_>, Refused> {
     Ok(Checked { view, tables, rows })
 }
 
-/// The rows of one table that no later row of it repeats.
+/// The rows of one table that no later row of it repeats. Rows are short: a loop compares them faster than a call does.
 fn different_rows(rows: &[u8], arity: usize) -> usize {
+    let same = |row: &[u8], later: &[u8]| row.iter().zip(later).all(|(c, d)| c == d);
     let mut different = 0;
-    for (i, row) in rows.chunks(arity).enumerate() {
-        if !rows.chunks(arity).skip(i + 1).any(|later| later == row) {
+    for (i, row) in rows.chunks_exact(arity).enumerate() {
+        let mut later = rows[(i + 1) * arity..].chunks_exact(arity);
+        if !later.any(|later| same(row, later)) {
             different += 1;
         }
     }

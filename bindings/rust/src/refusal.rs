@@ -49,3 +49,17 @@ impl fmt::Display for Refusal {
 }
 
 impl Error for Refusal {}
+
+#[cfg(test)]
+mod tests {
+    use super::Refusal;
+
+    #[test]
+    fn every_number_has_a_meaning() {
+        let meaning = |number| Refusal { number, place: 0 }.meaning();
+        assert_eq!(meaning(1), "the book has fewer than 6 or more than 32,768 bytes");
+        assert_eq!(meaning(19), "the stored sheet's length is not the number of fields");
+        assert_eq!((meaning(0), meaning(20)), ("no refusal has this number", "no refusal has this number"));
+        assert_eq!(Refusal { number: 3, place: 33 }.to_string(), "refused 3 at 33: the version is not 1");
+    }
+}

@@ -258,3 +258,38 @@ impl Answer {
         left
     }
 }
+
+#[cfg(test)]
+mod tests {
+    use super::{after, answer, Call, FRESH};
+    use crate::book::Book;
+
+    /// One field of two codes, and no table.
+    fn book() -> Vec<u8> {
+        Book { counts: vec![2], tables: Vec::new() }.write()
+    }
+
+    #[test]
+    fn a_list_of_calls() {
+        let calls = [[0, 0, 1], [0, 0, 2], [0, 1, 0], [1, 0, 9], [1, 0, 9], [7, 7, 7], [0, 0, 0], [2, 9, 9], [0, 0, 1]];
+        let (numbers, reached) = after(&book(), &calls.concat());
+        assert_eq!(numbers, [0, 16, 15, 0, 17, 0, 0, 0, 0]);
+        assert_eq!((reached[0], &reached[1..]), (1, &FRESH[1..]));
+        assert_eq!(after(&book(), &[0, 0]), (Vec::new(), FRESH));
+    }
+
+    #[test]
+    fn buffers_and_faults() {
+        let mut sheet = FRESH;
+        sheet[0] = 1;
+        let found = answer(&Call::Alternatives, &book(), &sheet);
+        assert_eq!(found.bytes, [0, 0, 0, 1]);
+        let short = found.left(&Call::Alternatives, &[7; 3], &[]);
+        assert_eq!((short.number, short.cells, short.bytes), (18, vec![0; 3], vec![7; 3]));
+        let long = found.left(&Call::Alternatives, &[7; 5], &[]);
+        assert_eq!((long.number, long.cells, long.bytes), (0, vec![0, 2, 1], vec![0, 0, 0, 1, 7]));
+        sheet[31] = 0;
+        let behind = answer(&Call::Store, &book(), &sheet).left(&Call::Store, &[7], &[]);
+        assert_eq!((behind.number, behind.cells, behind.sheet), (14, vec![31], sheet));
+    }
+}
