@@ -55,7 +55,7 @@ class BookSpace : public Space {
     }
 };
 
-// The codes of field `listed` with `relaxed`'s answer left out; -1 for none of either.
+// How many codes field `relaxed` has with its own answer left out; for -1 all answers are held and nothing is counted.
 uint64_t one_case(BookSpace *root, const uint8_t *sheet, int relaxed) {
     BookSpace *space = static_cast<BookSpace *>(root->clone());
     uint64_t codes = 0;
