@@ -64,7 +64,7 @@ fn different_rows(book: &[u8], start: usize, arity: usize, count: usize) -> usiz
 }
 
 // The number of different rows of all tables, which end within the bytes.
-pub fn different_total(book: &[u8], tables: usize) -> usize
+pub(crate) fn different_total(book: &[u8], tables: usize) -> usize
     requires { ⌜ (tables ≤ tableLimit) × (place (now book) tables ≤ length (now book)) ⌝ }
     ensures { λ r. ⌜ r ≡ differentTotal (tablesAt (now (book .entry)) 0 tables) ⌝ }
 {

@@ -11,7 +11,7 @@ use super::bytes::byte;
 const CODE_LIMIT: u8 = 32;
 
 // 7: the first byte of the field list that is no number of codes.
-pub fn bad_count(book: &[u8], list: usize, end: usize) -> usize
+pub(crate) fn bad_count(book: &[u8], list: usize, end: usize) -> usize
     requires { ⌜ (list ≤ end) × (end ≤ length (now book)) ⌝ }
     ensures { λ r. ⌜ r ≡ firstBad (countOk (now (book .entry))) list end ⌝ }
 {
@@ -29,7 +29,7 @@ pub fn bad_count(book: &[u8], list: usize, end: usize) -> usize
 }
 
 // 10: the first of a table's field numbers that is too large or not rising.
-pub fn bad_field(book: &[u8], fields: usize, first: usize, end: usize) -> usize
+pub(crate) fn bad_field(book: &[u8], fields: usize, first: usize, end: usize) -> usize
     requires { ⌜ (first ≤ end) × (end ≤ length (now book)) ⌝ }
     ensures { λ r. ⌜ r ≡ firstBad (fieldOk (now (book .entry)) fields first) first end ⌝ }
 {
@@ -51,7 +51,7 @@ pub fn bad_field(book: &[u8], fields: usize, first: usize, end: usize) -> usize
 }
 
 // 11: the first code that is too large, in rows of arity codes from start on; the fields of the columns stand from first on.
-pub fn bad_code(
+pub(crate) fn bad_code(
     book: &[u8],
     list: usize,
     first: usize,

@@ -22,13 +22,13 @@ const ARITY_LIMIT: usize = 4;
 const ROW_LIMIT: usize = 4096;
 
 // A test's answer.
-pub enum Test {
+pub(crate) enum Test {
     Pass,
     Fail(Refusal, usize),
 }
 
 // A table's answer: where it ends, with the rows so far, or a refusal.
-pub enum Step {
+pub(crate) enum Step {
     Next { at: usize, rows: usize },
     Stop(Refusal, usize),
 }
@@ -41,7 +41,7 @@ fn field_limit(version: u8) -> usize
 }
 
 // 1 to 6.
-pub fn trailer(book: &[u8]) -> Test
+pub(crate) fn trailer(book: &[u8]) -> Test
     ensures { λ r. ⌜ verdictOf r ≡ trailerVerdict (now (book .entry)) ⌝ }
 {
     let n = book.len();
@@ -75,7 +75,7 @@ pub fn trailer(book: &[u8]) -> Test
 }
 
 // 7, of the field list.
-pub fn field_list(book: &[u8], list: usize, fields: usize) -> Test
+pub(crate) fn field_list(book: &[u8], list: usize, fields: usize) -> Test
     requires { ⌜ list + fields ≤ length (now book) ⌝ }
     ensures { λ r. ⌜ verdictOf r ≡ listTest (now (book .entry)) list fields ⌝ }
 {
@@ -141,7 +141,7 @@ fn table(book: &[u8], list: usize, fields: usize, at: usize, rows: usize) -> Ste
 }
 
 // The tables, one after another from byte 0: where the last ends, with all rows, or the first refusal.
-pub fn tables(book: &[u8], list: usize, fields: usize, count: usize) -> Step
+pub(crate) fn tables(book: &[u8], list: usize, fields: usize, count: usize) -> Step
     requires { ⌜ BodyFits (now book) list fields ⌝ }
     ensures { λ r. ⌜ stepOf r ≡ tablesStep (now (book .entry)) list fields count 0 0 ⌝ }
 {

@@ -12,9 +12,10 @@ use lib.Pow.{shr-shr, shl-exact, pow-pos, pow-mono, shr-le}
 use lib.Count.{ones, ones-step, trailingZeros, under}
 use Rattle.format.specs.Basics.{pick}
 use Rattle.consistency.specs.Counting.{howMany}
-use Rattle.consistency.proofs.Booleans.{T-ext}
+use Rattle.consistency.proofs.Booleans.{T-ext, T-false}
+use Rattle.consistency.proofs.Sums.{many-ext}
 use Rattle.filter.specs.Words.{bit}
-use Rattle.filter.proofs.Tallies.{many-ext, many-front, many-add}
+use Rattle.filter.proofs.Tallies.{many-front, many-add}
 
 two : zero < 2
 two = zero-lt-suc 1
@@ -213,6 +214,12 @@ bit-small d m k l e = go (decLt k d)
     go (no h) =
         let p : 2 ^ d ≤ 2 ^ k = pow-mono (let q : d ≤ k = omega arith in q) in
         absurd (let q : 2 ^ k ≤ m = set-le m k (eqb-true (m / 2 ^ k % 2) 1 e) in omega arith)
+
+-- a number with its bits below d is below 2 ^ d
+pub bits-below : (d m : ℕ) → ((k : ℕ) → T (bit m k) → k < d) → m < 2 ^ d
+bits-below zero m h = subst (λ (x : ℕ). x < 1) (sym (same-bits m 0 (λ k. T-false (λ b. not-suc-le-zero (h k b)) ∙ sym (zero-bit k)))) (lit< tt)
+bits-below (suc d) m h =
+    omega (arith, pow-suc 2 d, bits-below d (m / 2) (λ k b. le-of-suc-le-suc (h (suc k) (subst T (sym (bit-next m k)) b))))
 
 -- the lowest bit set from place `at` on
 pub later-bit : (d at : ℕ) → d < 2 ^ 64 → (d / 2 ^ at ≡ 0 → ⊥) → bit d (at + trailingZeros 64 (d / 2 ^ at)) ≡ true

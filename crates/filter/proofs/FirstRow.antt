@@ -24,9 +24,10 @@ use Rattle.filter.specs.declared.support.Found.{Found}
 use Rattle.filter.specs.declared.support.Found.the-variants.{Row, Nothing}
 use Rattle.filter.specs.Support.{InTable, rowCases, firstFrom}
 use Rattle.filter.proofs.Bits.{zero-bit, one-bit, same-bits}
-use Rattle.filter.proofs.Firsts.{FirstIs, first-is}
-use Rattle.filter.proofs.Shapes.{arity-of, rows-of, code-small}
+use Rattle.filter.proofs.Firsts.{FirstIs}
+use Rattle.filter.proofs.Shapes.{codes-small}
 use Rattle.filter.proofs.Narrowing.{cases-bit}
+use Rattle.filter.proofs.RowSearch.{search-is}
 
 -- need asks for code c in case k and for nothing else
 pub record OneMark (need : List ℕ) (c k : ℕ) : Type 0 where
@@ -119,6 +120,4 @@ module _ (M : List ℕ) (t : Table) (j c k : ℕ) (need : List ℕ) (one : OneMa
 module _ (s : List ℕ) (t : Shape) (q : InTable s t) (M : List ℕ) (j c k : ℕ) (need : List ℕ) (one : OneMark need c k) where
   pub first-row : (x : Found) → x ≡ firstFrom (t .rows - 0) 0 (rowCases M need (tableAt s (t .at)) j) → FirstRow (domainOf M k) (tableAt s (t .at)) j c k x
   first-row x e =
-      answer M (tableAt s (t .at)) j c k need one
-      (λ r i rl il. code-small s t q r i (subst (r <_) (rows-of s t q) rl) (subst (i <_) (arity-of s t q) il)) x
-      (subst (λ (n : ℕ). FirstIs n 0 (rowCases M need (tableAt s (t .at)) j) x) (sym (rows-of s t q)) (first-is (t .rows) 0 (rowCases M need (tableAt s (t .at)) j) x zero-le e))
+      answer M (tableAt s (t .at)) j c k need one (codes-small s t q) x (search-is s t q 0 (rowCases M need (tableAt s (t .at)) j) x zero-le e)

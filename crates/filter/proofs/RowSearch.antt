@@ -1,5 +1,5 @@
 -- The ways through the search for a supporting row: a row passed by, a column passed, a row given up, a row found. Assumes nothing.
-use mathlib.Core.Path.{_≡_, sym, ap, ap₂, _∙_}
+use mathlib.Core.Path.{_≡_, sym, ap, ap₂, _∙_, subst}
 use mathlib.Core.Logic.{_≢_}
 use mathlib.Core.List.{List}
 use Prim.Native.Nat.{ℕ, _+_, _-_, _*_, _≤_, _<_}
@@ -13,8 +13,8 @@ use Rattle.filter.specs.declared.support.Shape.{Shape}
 use Rattle.filter.specs.declared.support.Found.{Found}
 use Rattle.filter.specs.declared.support.Found.the-variants.{Row}
 use Rattle.filter.specs.Support.{InTable, narrowed, rowCases, firstFrom}
-use Rattle.filter.proofs.Firsts.{first-next, first-found}
-use Rattle.filter.proofs.Shapes.{arity-of, field-is, code-is, field-small, code-small}
+use Rattle.filter.proofs.Firsts.{FirstIs, first-is, first-next, first-found}
+use Rattle.filter.proofs.Shapes.{arity-of, rows-of, field-is, code-is, field-small, code-small}
 use Rattle.filter.proofs.Narrowing.{narrowed-none, narrowed-skip, narrowed-and, cases-are, cases-none}
 
 module _ (s : List ℕ) (t : Shape) (q : InTable s t) where
@@ -23,6 +23,11 @@ module _ (s : List ℕ) (t : Shape) (q : InTable s t) where
       → f * 32 + c < 1024
   word-in r i rl il f c fe ce =
       omega (arith, field-is s t q i il, code-is s t q r i rl il, field-small s t q i il, code-small s t q r i rl il)
+
+  -- what the answer of a search says
+  pub search-is : (from : ℕ) (g : ℕ → ℕ) (x : Found) → from ≤ t .rows → x ≡ firstFrom (t .rows - from) from g
+      → FirstIs (length (tableAt s (t .at) .rows)) from g x
+  search-is from g x l e = subst (λ (n : ℕ). FirstIs n from g x) (sym (rows-of s t q)) (first-is (t .rows) from g x l e)
 
   -- the own code of a row has a word in need
   pub own-in : (r i : ℕ) → r < t .rows → i < t .arity → (c : ℕ) → c ≡ byte s (t .first + r * t .arity + i) → c < 32

@@ -1,30 +1,21 @@
 -- The shape of a table of an accepted book: where its rows and fields stand in the bytes, and how large they are. Assumes nothing.
 use mathlib.Core.Path.{_≡_, refl, sym, ap, _∙_, subst}
-use mathlib.Core.Bool.{Bool, true, false}
-use mathlib.Core.List.{List}
-use Prim.Native.Nat.{ℕ, _+_, _-_, _*_, _≤_, _<_}
-use native.Mathlib.Nat.{mul-le-mul-right}
+use mathlib.Core.Logic.{⊎-elim, _≢_}
+use mathlib.Core.List.{List, []}
+use Prim.Native.Nat.{ℕ, zero, suc, _+_, _-_, _*_, _≤_, _<_}
+use native.Mathlib.Nat.{le-trans, not-suc-le-zero, mul-le-mul-right}
+use native.Mathlib.Numerals.{add-one}
+use native.Mathlib.Decide.{decLt}
 use native.Mathlib.Omega.{arith}
-use lib.Dec.{eqb}
 use lib.ListN.{length}
-use Rattle.format.specs.Basics.{pick}
-use Rattle.format.specs.Format.{Table, fieldLimit, codeLimit, byte, listPlace, fieldCount, arityAt, rowsOf, firstRow, tableEnd, tableAt}
+use Rattle.format.specs.Format.{Table, codeLimit, byte, listPlace, fieldCount, arityAt, rowsOf, firstRow, tableEnd, tableAt, bookOf}
 use Rattle.format.specs.Promise.{Promise, TablePromise, place, fieldAt, codeAt, countAt}
-use Rattle.format.proofs.Views.{table-rows, table-code, table-field, table-arity}
-use Rattle.consistency.specs.Consistency.{places, fieldOf, codeOf}
+use Rattle.format.proofs.Views.{tables-count, table-view, table-rows, table-code, table-field, table-arity}
+use Rattle.consistency.specs.Consistency.{places, fieldOf, codeOf, nth}
+use Rattle.consistency.proofs.Booleans.{below-suc}
 use Rattle.filter.specs.declared.support.Shape.{Shape}
 use Rattle.filter.specs.Support.{InTable}
-
--- a book of any version has no more fields than a sheet has places
-limit-places : (v : ℕ) → fieldLimit v ≤ places
-limit-places v = go (eqb v 1)
-  where
-    go : (t : Bool) → pick t 32 0 ≤ 32
-    go true = omega arith
-    go false = omega arith
-
-pub fields-few : (s : List ℕ) → Promise s → fieldCount s ≤ places
-fields-few s p = omega (arith, p .few, limit-places (byte s (length s - 2)))
+use Rattle.filter.proofs.Limits.{fields-few}
 
 module _ (s : List ℕ) (t : Shape) (q : InTable s t) where
   -- the table
@@ -76,6 +67,25 @@ module _ (s : List ℕ) (t : Shape) (q : InTable s t) where
   pub field-known : (i : ℕ) → i < t .arity → fieldOf of i < fieldCount s
   field-known i l = subst (λ (x : ℕ). x < fieldCount s) (field-is i l) (promised .known i (omega (arith, arity-is)))
 
+  -- fields rise, so those of two columns differ
+  rise : (i l : ℕ) → i < l → l < arityAt s (t .at) → fieldAt s (t .at) i < fieldAt s (t .at) l
+  rise i zero h m = absurd (not-suc-le-zero h)
+  rise i (suc l) h m =
+      let step : fieldAt s (t .at) l < fieldAt s (t .at) (suc l) =
+      subst (λ (x : ℕ). fieldAt s (t .at) l < fieldAt s (t .at) x) (add-one l) (promised .rising l (omega arith)) in
+      ⊎-elim (λ (e : i ≡ l). subst (λ (x : ℕ). fieldAt s (t .at) x < fieldAt s (t .at) (suc l)) (sym e) step)
+      (λ (k : i < l). le-trans (rise i l k (omega arith)) (omega arith)) (below-suc h)
+
+  pub fields-apart : (i l : ℕ) → i < t .arity → l < t .arity → i ≢ l → fieldOf of i ≢ fieldOf of l
+  fields-apart i l il ll n e = go (decLt i l)
+    where
+      same : fieldAt s (t .at) i ≡ fieldAt s (t .at) l
+      same = field-is i il ∙ e ∙ sym (field-is l ll)
+
+      go : Dec (i < l) → ⊥
+      go (yes h) = let r : fieldAt s (t .at) i < fieldAt s (t .at) l = rise i l h (omega (arith, arity-is)) in omega (arith, same)
+      go (no h) = let r : fieldAt s (t .at) l < fieldAt s (t .at) i = rise l i (omega arith) (omega (arith, arity-is)) in omega (arith, same)
+
   -- a code is one of its field's
   pub code-known : (r i : ℕ) → r < t .rows → i < t .arity → codeOf of r i < countAt s (fieldOf of i)
   code-known r i rl il =
@@ -88,3 +98,13 @@ module _ (s : List ℕ) (t : Shape) (q : InTable s t) where
 
   pub code-small : (r i : ℕ) → r < t .rows → i < t .arity → codeOf of r i < codeLimit
   code-small r i rl il = omega (arith, code-known r i rl il, q .promise .sized (fieldOf of i) (field-known i il) .1)
+
+  pub codes-small : (r i : ℕ) → r < length (of .rows) → i < length (of .fields) → codeOf of r i < codeLimit
+  codes-small r i rl il = code-small r i (subst (r <_) rows-of rl) (subst (i <_) arity-of il)
+
+  -- the table is the book's
+  pub index-below : q .index < length (bookOf s .tables)
+  index-below = omega (arith, tables-count s, q .index-in)
+
+  pub nth-is : nth (bookOf s) (q .index) ≡ of
+  nth-is = table-view s (record { fields = []; rows = [] }) (q .index) (q .index-in) ∙ ap (tableAt s) (sym (q .at-is))

@@ -24,3 +24,7 @@ marksOf b cases = tabulate (λ i. caseWord b cases (i / codeLimit) (i % codeLimi
 abbrev pub outsideOver : Book → List (List ℕ) → ℕ
 outsideOver b [] = 0
 outsideOver b (a ∷ cases) = outside b (largest b a) + outsideOver b cases
+
+-- plain filtering: a number for each place, bit c of it for code c; those that the book lacks are 0
+abbrev pub plainOf : Book → List ℕ → List ℕ
+plainOf b a = tabulate (λ f. mask codeLimit (largest b a f)) places 0

@@ -2,3 +2,6 @@ pub mod Words
 pub mod Cases
 pub mod Support
 pub mod Revise
+pub mod Start
+pub mod Asks
+pub mod Queue

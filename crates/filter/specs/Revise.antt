@@ -56,7 +56,7 @@ TableSupported M t = (j : ℕ) → j < length (t .fields) → ColumnSupported M 
 
 -- ---- the queue of tables, one bit each
 
--- word f of W has the tables with field f, and no other bit
+-- word f of W has the tables with field f, and no bit that is no table
 pub record Watches (s W : List ℕ) : Type 0 where
   pub there : (i j : ℕ) → i < tableCount s → j < arityAt s (place s i) → T (bit (getD W (fieldAt s (place s i) j) 0) i)
   pub tables : (f i : ℕ) → T (bit (getD W f 0) i) → i < tableCount s

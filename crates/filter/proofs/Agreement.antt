@@ -1,0 +1,149 @@
+-- Document 01, "The sheet and its one pass": plain filtering "with one chosen field lifted is offered beside it and must agree with it".
+-- Assumes nothing.
+use mathlib.Core.Path.{_≡_, sym, ap, _∙_, subst}
+use mathlib.Core.Logic.{_⊎_, inl, inr}
+use mathlib.Core.Bool.{Bool, true, false, _&&_}
+use mathlib.Core.List.{List, [], _∷_, _++_, map}
+use Prim.Native.Nat.{ℕ, zero, suc, _+_, _<_}
+use native.Mathlib.Nat.{le-trans, zero-add}
+use native.Mathlib.Decide.{decLt}
+use native.Mathlib.Omega.{arith}
+use borrow.Author.Tests.{lt-ltb, le-ltb}
+use lib.ListN.{length, getD, length-append, length-map, List·getD-append, List·getD-map, List·getD-eq-default}
+use lib.Seq.{getD-at}
+use lib.Dec.{T, ltb}
+use Rattle.format.specs.Basics.{pick}
+use Rattle.format.specs.Format.{Book, codeLimit, bookOf}
+use Rattle.format.specs.Promise.{Promise}
+use Rattle.format.proofs.Views.{counts-count}
+use Rattle.consistency.specs.Counting.{howMany, those, sumBelow}
+use Rattle.consistency.specs.Consistency.{Subdomain, places, codes, relax}
+use Rattle.consistency.specs.Largest.{largest}
+use Rattle.consistency.specs.Counts.{outside, answered, relaxable, mask, struck}
+use Rattle.consistency.proofs.Booleans.{T-true, T-false, below-suc}
+use Rattle.consistency.proofs.Sums.{sum-ext, length-those, length-tabulate, tabulate-at}
+use Rattle.consistency.proofs.CodeCounts.{field-in, outside-ext}
+use Rattle.consistency.proofs.Masks.{mask-bit}
+use Rattle.consistency.proofs.Largest.{largest-is}
+use Rattle.filter.specs.Words.{bit, wordAt, domainOf}
+use Rattle.filter.specs.Cases.{casesOf, marksOf, plainOf}
+use Rattle.filter.proofs.Bits.{zero-bit}
+use Rattle.filter.proofs.Words.{domain-bit}
+use Rattle.filter.proofs.Limits.{fields-few, codes-few}
+use Rattle.filter.proofs.Totals.{outside-cases}
+use Rattle.filter.proofs.Lists.{any-default}
+use Rattle.filter.proofs.CaseMarks.{marks-length, marks-bit}
+use Rattle.filter.proofs.Ends.{outside-struck}
+
+-- ---- which case is which
+
+-- of the numbers below n of which p holds, f is the one with as many before it as p holds of below f
+those-at : (n : ℕ) (p : ℕ → Bool) (f : ℕ) → f < n → T (p f) → (howMany f p < length (those n p)) × (getD (those n p) (howMany f p) 0 ≡ f)
+those-at zero p f l t = absurd (omega arith)
+those-at (suc n) p f l t = last (below-suc l) (λ m. those-at n p f m t)
+  where
+    last : (f ≡ n) ⊎ (f < n) → (f < n → (howMany f p < length (those n p)) × (getD (those n p) (howMany f p) 0 ≡ f))
+        → (howMany f p < length (those (suc n) p)) × (getD (those (suc n) p) (howMany f p) 0 ≡ f)
+    last (inl e) below =
+        let h : p n ≡ true = T-true (subst (λ (k : ℕ). T (p k)) e t) in
+        let c : howMany f p ≡ length (those n p) = ap (λ (k : ℕ). howMany k p) e ∙ sym (length-those n p) in
+        subst (λ (x : Bool). (howMany f p < length (those n p ++ pick x (n ∷ []) [])) × (getD (those n p ++ pick x (n ∷ []) []) (howMany f p) 0 ≡ f)) (sym h)
+        (omega (arith, c, length-append (those n p) (n ∷ [])), getD-at (those n p) n [] 0 (howMany f p) (sym c) ∙ sym e)
+    last (inr m) below =
+        let r = below m in (
+          omega (arith, r .0, length-append (those n p) (pick (p n) (n ∷ []) [])),
+          List·getD-append (those n p) (pick (p n) (n ∷ []) []) 0 (howMany f p) (r .0) ∙ r .1,
+        )
+
+module _ (b : Book) (a : List ℕ) (f : ℕ) (l : f < length (b .counts)) (t : T (answered a f)) where
+  -- the case that relaxes f: the answered fields count from 1 on
+  abbrev pub caseOf : ℕ
+  caseOf = suc (howMany f (answered a))
+
+  rank : (howMany f (answered a) < length (relaxable b a)) × (getD (relaxable b a) (howMany f (answered a)) 0 ≡ f)
+  rank = those-at (length (b .counts)) (answered a) f l t
+
+  pub case-in : caseOf < length (casesOf b a)
+  case-in = omega (arith, rank .0, length-map (relaxable b a) (relax a))
+
+  pub case-relaxes : getD (casesOf b a) caseOf [] ≡ relax a f
+  case-relaxes =
+      any-default (map (relax a) (relaxable b a)) (howMany f (answered a)) [] (relax a 0) (omega (arith, rank .0, length-map (relaxable b a) (relax a)))
+      ∙ List·getD-map (relax a) (relaxable b a) (howMany f (answered a)) 0 ∙ ap (relax a) (rank .1)
+
+-- ---- plain filtering
+
+-- the subdomain that plain filtering's numbers say
+abbrev pub plainDomain : Book → List ℕ → Subdomain
+plainDomain b a f c = bit (getD (plainOf b a) f 0) c
+
+plain-number : (b : Book) (a : List ℕ) (f : ℕ) → f < places → getD (plainOf b a) f 0 ≡ mask codeLimit (largest b a f)
+plain-number b a f l =
+    tabulate-at (λ g. mask codeLimit (largest b a g)) places 0 f 0 l ∙ ap (λ (g : ℕ). mask codeLimit (largest b a g)) (zero-add f)
+
+module _ (s : List ℕ) (p : Promise s) where
+  -- the largest subdomain has codes of the words alone
+  largest-in : (a : List ℕ) (f c : ℕ) → (f < places → c < codeLimit → ⊥) → largest (bookOf s) a f c ≡ false
+  largest-in a f c n =
+      T-false (λ t.
+      let l : c < codes (bookOf s) f = largest-is (bookOf s) a .fits .of-book f c t in
+      n (omega (arith, field-in (bookOf s) f c l, counts-count s (p .whole), fields-few s p)) (le-trans l (codes-few s p f)))
+
+  pub plain-largest : (a : List ℕ) (f c : ℕ) → plainDomain (bookOf s) a f c ≡ largest (bookOf s) a f c
+  plain-largest a f c = at (decLt f places)
+    where
+      code : f < places → Dec (c < codeLimit) → (ltb c codeLimit && largest (bookOf s) a f c) ≡ largest (bookOf s) a f c
+      code l (yes m) = ap (_&& largest (bookOf s) a f c) (lt-ltb c codeLimit m)
+      code l (no n) = ap (_&& largest (bookOf s) a f c) (le-ltb c codeLimit (omega arith)) ∙ sym (largest-in a f c (λ h m. n m))
+
+      at : Dec (f < places) → plainDomain (bookOf s) a f c ≡ largest (bookOf s) a f c
+      at (yes l) =
+          ap (λ (w : ℕ). bit w c) (plain-number (bookOf s) a f l) ∙ mask-bit codeLimit (largest (bookOf s) a f) c
+          ∙ code l (decLt c codeLimit)
+      at (no n) =
+          ap (λ (w : ℕ). bit w c)
+          (List·getD-eq-default (plainOf (bookOf s) a) 0 (omega (arith, length-tabulate (λ g. mask codeLimit (largest (bookOf s) a g)) places 0)))
+          ∙ zero-bit c ∙ sym (largest-in a f c (λ h m. n h))
+
+  -- ---- agreement
+
+  module _ (cs : List (List ℕ)) (k : ℕ) (kl : k < length cs) where
+    -- the marks of case k are its largest subdomain
+    pub marks-domain : (f c : ℕ) → domainOf (marksOf (bookOf s) cs) k f c ≡ largest (bookOf s) (getD cs k []) f c
+    marks-domain f c = at (decLt c codeLimit) (decLt f places)
+      where
+        at : Dec (c < codeLimit) → Dec (f < places) → domainOf (marksOf (bookOf s) cs) k f c ≡ largest (bookOf s) (getD cs k []) f c
+        at (no n) d =
+            ap (_&& bit (wordAt (marksOf (bookOf s) cs) f c) k) (le-ltb c codeLimit (omega arith))
+            ∙ sym (largest-in (getD cs k []) f c (λ l m. n m))
+        at (yes m) (yes l) = domain-bit (marksOf (bookOf s) cs) k f c m ∙ marks-bit (bookOf s) cs k f c kl l m
+        at (yes m) (no n) =
+            domain-bit (marksOf (bookOf s) cs) k f c m
+            ∙ ap (λ (w : ℕ). bit w k) (List·getD-eq-default (marksOf (bookOf s) cs) 0 (omega (arith, marks-length (bookOf s) cs)))
+            ∙ zero-bit k ∙ sym (largest-in (getD cs k []) f c (λ l m. n l))
+
+    -- bit k of the words, and the numbers of a plain filtering of the answers of case k, say the same of every field and code
+    pub marks-agree : (f c : ℕ) → domainOf (marksOf (bookOf s) cs) k f c ≡ plainDomain (bookOf s) (getD cs k []) f c
+    marks-agree f c = marks-domain f c ∙ sym (plain-largest (getD cs k []) f c)
+
+  -- with nothing lifted, and with an answered field lifted
+  pub agrees-unrelaxed : (a : List ℕ) (g c : ℕ) → domainOf (marksOf (bookOf s) (casesOf (bookOf s) a)) 0 g c ≡ plainDomain (bookOf s) a g c
+  agrees-unrelaxed a = marks-agree (casesOf (bookOf s) a) 0 (omega arith)
+
+  pub agrees-relaxed : (a : List ℕ) (f : ℕ) (l : f < length (bookOf s .counts)) (t : T (answered a f)) (g c : ℕ)
+      → domainOf (marksOf (bookOf s) (casesOf (bookOf s) a)) (caseOf (bookOf s) a f l t) g c ≡ plainDomain (bookOf s) (relax a f) g c
+  agrees-relaxed a f l t g c =
+      marks-agree (casesOf (bookOf s) a) (caseOf (bookOf s) a f l t) (case-in (bookOf s) a f l t) g c
+      ∙ ap (λ (e : List ℕ). plainDomain (bookOf s) e g c) (case-relaxes (bookOf s) a f l t)
+
+  -- the codes outside the n + 1 plain filterings are the number struck
+  pub plain-struck : (a : List ℕ)
+      → sumBelow (length (casesOf (bookOf s) a)) (λ k. outside (bookOf s) (plainDomain (bookOf s) (getD (casesOf (bookOf s) a) k [])))
+      ≡ struck (bookOf s) a
+  plain-struck a =
+      let cs : List (List ℕ) = casesOf (bookOf s) a in
+      sum-ext (length cs) (λ k. outside (bookOf s) (plainDomain (bookOf s) (getD cs k []))) (λ k. outside (bookOf s) (domainOf (marksOf (bookOf s) cs) k))
+      (λ k l.
+      outside-ext (bookOf s) (plainDomain (bookOf s) (getD cs k [])) (domainOf (marksOf (bookOf s) cs) k)
+      (λ f c m. sym (marks-agree cs k l f c)))
+      ∙ outside-cases (bookOf s) (marksOf (bookOf s) cs) cs (λ k f c l. marks-domain cs k l f c) ∙ outside-struck (bookOf s) a
