@@ -1,3 +1,10 @@
+pub mod Upward
+pub mod Fields
+pub mod FieldTurns
+pub mod OwnCases
+pub mod PlainMasks
+pub mod ListCases
+pub mod Replays
 pub mod Openings
 pub mod Places
 pub mod CallCases

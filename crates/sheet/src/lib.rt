@@ -2,13 +2,17 @@
 ghost use mathlib.Core.Path.{_≡_};
 ghost use mathlib.Core.List.{List, []};
 ghost use Prim.Native.Nat.{ℕ};
-ghost use Rattle.calls.specs.Calls.{freshSheet, turned, entered, withdrawn, cleared, stored, loaded};
-ghost use Rattle.sheet.specs.Shown.{numberOf, resultOf};
+ghost use Rattle.calls.specs.Calls.{freshSheet, turned, entered, withdrawn, cleared, filtered, alternatives, stored, loaded};
+ghost use Rattle.calls.specs.Histories.{callsIn, sheetAfter};
+ghost use Rattle.sheet.specs.Shown.{numberOf, resultOf, listResultOf};
 use book::Checked;
 use book::Refusal;
 use opened::Opened;
 
 mod copies;
+mod history;
+mod lists;
+mod masks;
 mod opened;
 
 // One byte for each place: the answered code, or 255 for no answer.
@@ -72,6 +76,16 @@ fn refuse(sheet: Sheet, reason: Reason, place: usize) -> Handed
 {
     Handed {
         answer: Answer::Refused(reason, place),
+        sheet: sheet,
+    }
+}
+
+// A refusal of alternatives.
+fn refuse_list(sheet: Sheet, reason: Reason, place: usize) -> HandedList
+    ensures { λ r. ⌜ ((o : List ℕ) → listResultOf r o ≡ turned 2 (sheet .places) o (numberOf reason) place) ⌝ }
+{
+    HandedList {
+        answer: Listing::Unlisted(reason, place),
         sheet: sheet,
     }
 }
@@ -146,6 +160,60 @@ impl Sheet {
         }
     }
 
+    // Plain filtering: a number for each field, bit c of it for code c. One field may be relaxed; 255 relaxes none.
+    pub fn filtered(self, book: &[u8], relaxed: u8, out: &mut [u32]) -> Handed
+        ensures { λ r. ⌜ resultOf r (now (out .exit)) ≡ filtered (now (book .entry)) (self .places) relaxed (now (out .entry)) ⌝ }
+    {
+        let places = self.places;
+        let opened = opened::open(book, places);
+        match opened {
+            Opened::Turned(reason, place) => refuse(self, reason, place),
+            Opened::Ready { list: _, fields } => {
+                if relaxed == 255 {
+                    return masks::write_masks(self, book, places, fields, out);
+                }
+                let f = relaxed as usize;
+                if fields <= f {
+                    return refuse(self, Reason::Field, 0);
+                }
+                if places[f] == 255 {
+                    return refuse(self, Reason::NoAnswer, 0);
+                }
+                let mut answers = places;
+                answers[f] = 255;
+                masks::write_masks(self, book, answers, fields, out)
+            }
+        }
+    }
+
+    // The alternatives of all answered fields in one pass: their number and the number struck, and their lines.
+    pub fn alternatives(self, book: &[u8], out: &mut [u8]) -> HandedList
+        ensures { λ r. ⌜ listResultOf r (now (out .exit)) ≡ alternatives (now (book .entry)) (self .places) (now (out .entry)) ⌝ }
+    {
+        let places = self.places;
+        let opened = opened::open(book, places);
+        match opened {
+            Opened::Turned(reason, place) => refuse_list(self, reason, place),
+            Opened::Ready { list, fields } => {
+                let mut marks = [0u64; 1024];
+                let struck = filter::one_pass(book, &places, &mut marks);
+                let total = lists::count_lines(book, places, &marks, list, fields);
+                let needed = 2 * total;
+                if out.len() < needed {
+                    return refuse_list(self, Reason::Room, 0);
+                }
+                lists::write_lines(book, places, &marks, list, fields, out);
+                HandedList {
+                    answer: Listing::Listed {
+                        total: total,
+                        struck: struck,
+                    },
+                    sheet: self,
+                }
+            }
+        }
+    }
+
     // Writes the stored form: the byte of each field.
     pub fn store(self, book: &[u8], out: &mut [u8]) -> Handed
         ensures { λ r. ⌜ resultOf r (now (out .exit)) ≡ stored (now (book .entry)) (self .places) (now (out .entry)) ⌝ }
@@ -196,4 +264,12 @@ pub fn load(book: &[u8], form: &[u8]) -> Handed
             }
         }
     }
+}
+
+// Runs a list of calls from a fresh sheet, each on the sheet that the one before it handed back, then alternatives.
+pub fn replay(book: &[u8], calls: &[u8], out: &mut [u8]) -> HandedList
+    ensures { λ r. ⌜ listResultOf r (now (out .exit)) ≡ alternatives (now (book .entry)) (sheetAfter (now (book .entry)) (callsIn (now (calls .entry)))) (now (out .entry)) ⌝ }
+{
+    let sheet = history::after(book, calls);
+    sheet.alternatives(book, out)
 }

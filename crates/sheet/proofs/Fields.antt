@@ -1,0 +1,90 @@
+-- One answered field more: the total, the lines and their bytes; and what the marks of a pass show of a field. Assumes nothing.
+use mathlib.Core.Path.{_≡_, sym, ap, _∙_}
+use mathlib.Core.Bool.{Bool, true, false}
+use mathlib.Core.List.{List, [], _∷_, _++_, append-nil}
+use Prim.Native.Nat.{ℕ, zero, suc, _+_, _*_, _≤_}
+use native.Mathlib.Nat.{suc-mul}
+use native.Mathlib.Omega.{arith}
+use lib.ListN.{length, length-map}
+use Rattle.format.specs.Basics.{pick}
+use Rattle.format.specs.Format.{Book}
+use Rattle.consistency.specs.Counting.{howMany, those, sumOver, joinOver}
+use Rattle.consistency.specs.Consistency.{codes}
+use Rattle.consistency.specs.Counts.{answered, listed, total, Line, linesOf, lines, lineBytes}
+use Rattle.consistency.proofs.Sums.{many-not, length-those, length-join, sum-over-ext}
+use Rattle.consistency.proofs.Lines.{length-line-bytes}
+use Rattle.sheet.proofs.Upward.{those-more, those-same, rises, sum-append, join-append, line-bytes-append}
+
+-- ---- the answered fields below n
+
+module _ (b : Book) (a : List ℕ) where
+  -- the number of alternatives of field f
+  abbrev pub alternativesOf : ℕ → ℕ
+  alternativesOf f = howMany (codes b f) (listed b a f)
+
+  -- the lines of field f
+  abbrev pub fieldLines : ℕ → List Line
+  fieldLines f = linesOf b (listed b a f) f
+
+  -- the alternatives of the answered fields below n, and the bytes of their lines
+  abbrev pub totalBelow : ℕ → ℕ
+  totalBelow n = sumOver (those n (answered a)) alternativesOf
+
+  abbrev pub bytesBelow : ℕ → List ℕ
+  bytesBelow n = lineBytes (joinOver (those n (answered a)) fieldLines)
+
+  -- the total is over the book's fields
+  pub total-is : (n : ℕ) → length (b .counts) ≡ n → totalBelow n ≡ total b a
+  unfolding total
+  total-is n e = ap totalBelow (sym e)
+
+  -- and so are the lines
+  pub lines-are-below : (n : ℕ) → length (b .counts) ≡ n → bytesBelow n ≡ lineBytes (lines b a)
+  unfolding lines
+  lines-are-below n e = ap bytesBelow (sym e)
+
+  -- two bytes a line
+  pub length-bytes : (n : ℕ) → length (bytesBelow n) ≡ 2 * totalBelow n
+  length-bytes n =
+      length-line-bytes (joinOver (those n (answered a)) fieldLines)
+      ∙ ap (λ (k : ℕ). 2 * k) (length-join (those n (answered a)) fieldLines
+      ∙ sum-over-ext (those n (answered a)) (λ f. length (fieldLines f)) alternativesOf
+      (λ f m. length-map (those (codes b f) (listed b a f)) (λ (c : ℕ). record { field = f; code = c }) ∙ length-those (codes b f) (listed b a f)))
+
+  module _ (f : ℕ) where
+    -- one answered field more
+    pub total-more : answered a f ≡ true → totalBelow (f + 1) ≡ totalBelow f + alternativesOf f
+    total-more e =
+        ap (λ (fs : List ℕ). sumOver fs alternativesOf) (those-more (answered a) f e) ∙ sum-append (those f (answered a)) (f ∷ []) alternativesOf
+        ∙ omega arith
+
+    pub bytes-more : answered a f ≡ true → bytesBelow (f + 1) ≡ bytesBelow f ++ lineBytes (fieldLines f)
+    bytes-more e =
+        ap (λ (fs : List ℕ). lineBytes (joinOver fs fieldLines)) (those-more (answered a) f e)
+        ∙ ap lineBytes (join-append (those f (answered a)) (f ∷ []) fieldLines ∙ ap (λ ls. joinOver (those f (answered a)) fieldLines ++ ls) (append-nil (fieldLines f)))
+        ∙ line-bytes-append (joinOver (those f (answered a)) fieldLines) (fieldLines f)
+
+    -- one field more without an answer
+    pub total-same : answered a f ≡ false → totalBelow (f + 1) ≡ totalBelow f
+    total-same e = ap (λ (fs : List ℕ). sumOver fs alternativesOf) (those-same (answered a) f e)
+
+    pub bytes-same : answered a f ≡ false → bytesBelow (f + 1) ≡ bytesBelow f
+    bytes-same e = ap (λ (fs : List ℕ). lineBytes (joinOver fs fieldLines)) (those-same (answered a) f e)
+
+  -- the total with field n, whether or not it is answered
+  total-step : (n : ℕ) → totalBelow (suc n) ≡ totalBelow n + sumOver (pick (answered a n) (n ∷ []) []) alternativesOf
+  total-step n = sum-append (those n (answered a)) (pick (answered a n) (n ∷ []) []) alternativesOf
+
+  -- more fields do not have fewer alternatives
+  pub total-rises : (m n : ℕ) → m ≤ n → totalBelow m ≤ totalBelow n
+  total-rises m n l = rises totalBelow (λ k. omega (arith, total-step k)) m n l
+
+  at-most-one : (x : Bool) (n : ℕ) → sumOver (pick x (n ∷ []) []) alternativesOf ≤ alternativesOf n
+  at-most-one true n = omega arith
+  at-most-one false n = omega arith
+
+  -- no field has more alternatives than codes
+  pub total-few : (most : ℕ) → ((f : ℕ) → codes b f ≤ most) → (n : ℕ) → totalBelow n ≤ n * most
+  total-few most h zero = omega arith
+  total-few most h (suc n) =
+      omega (arith, total-step n, at-most-one (answered a n) n, many-not (codes b n) (listed b a n), h n, total-few most h n, suc-mul n most)

@@ -1,0 +1,111 @@
+-- `write_lines` meets its contract. The loop's invariant: the lines of the answered fields passed are written, and k is the own case
+-- of the next answered field. Assumes nothing.
+use mathlib.Core.Path.{_≡_, refl, ap, _∙_}
+use Prim.Native.Nat.{_*_, _≤_, _-_}
+use lib.ListN.{length}
+use lib.Seq.{sets, length-sets}
+use Rattle.format.specs.Format.{bookOf}
+use Rattle.format.proofs.Verdict.{verdict-promise}
+use Rattle.sheet.specs.Lists.{ownCase}
+use Rattle.sheet.proofs.Openings.{fields-few}
+use Rattle.sheet.proofs.Fields.{totalBelow, bytesBelow}
+use Rattle.sheet.proofs.FieldTurns.{written-all, field-byte, answered-here, open-here, next-case, same-case, place-without, lines-without, in-marks, lines-fit, place-with, lines-with}
+use borrow.Author.Needs.{needs}
+use native.Mathlib.Omega.{arith}
+use Rattle.sheet.proofs.lists.write_lines.Statement.{statement}
+use Rattle.sheet.proofs.lists.write_lines.Tie as tie
+
+abbrev Inv-loop : tie.InvT-loop
+Inv-loop book marks list fields out₀ answers next₀ k₀ f₀ out next k f = (f ≤ fields) × (k ≡ ownCase answers f) × (next ≡ 2 * totalBelow (bookOf book) answers f)
+    × (out ≡ sets out₀ 0 (bytesBelow (bookOf book) answers f))
+
+abbrev μ-loop : tie.MeasureT-loop
+μ-loop book marks list fields out₀ answers next₀ k₀ f₀ out next k f = fields - f
+
+loop-holds : tie.Need-loop-holds Inv-loop μ-loop
+loop-holds c = (omega arith, refl, refl, refl)
+
+array-read-if1 : tie.Need-array-read-if1 Inv-loop μ-loop
+array-read-if1 c = omega (arith, fields-few _ _ _ (c .before .before .before .before .pre .0 .at))
+
+add-f : tie.Need-add-f Inv-loop μ-loop
+add-f c = search needs
+
+loop-less : tie.Need-loop-less Inv-loop μ-loop
+loop-less c = search needs
+
+loop-again : tie.Need-loop-again Inv-loop μ-loop
+loop-again c =
+    let x = c .before .before .before .before .before .pre .0 in
+    let l = c .before .loop-test .taken in
+    let long : length (c .before .before .before .before .before .args .t2) ≡ 32 = search needs in
+    let e = open-here x l long (c .if1 .taken) in
+    (omega arith, same-case x l e (c .before .before .loop .inv .1), place-without x l e (c .before .before .loop .inv .2), lines-without x l (c .before .before .before .before .before .args .out .now) e (c .before .before .loop .inv .3))
+
+add-wide : tie.Need-add-wide Inv-loop μ-loop
+add-wide c = omega (arith, field-byte (c .before .before .before .before .before .pre .0) (c .before .loop-test .taken), verdict-promise _ (c .before .before .before .before .before .pre .0 .at .passes) .short)
+
+shared-slice-read-wide : tie.Need-shared-slice-read-wide Inv-loop μ-loop
+shared-slice-read-wide c = field-byte (c .before .before .before .before .before .before .pre .0) (c .before .before .loop-test .taken)
+
+wide-requires : tie.Need-wide-requires Inv-loop μ-loop
+wide-requires c κs = search needs
+
+write-field-requires : tie.Need-write-field-requires Inv-loop μ-loop
+write-field-requires c κs =
+    let x = c .before .before .before .before .before .before .before .before .pre .0 in
+    let l = c .before .before .before .before .loop-test .taken in
+    let long : length (c .before .before .before .before .before .before .before .before .args .t2) ≡ 32 = search needs in
+    let e = answered-here x l long (c .before .before .before .if1 .left) in (
+      in-marks x l (c .before .before .before .before .before .loop .inv .1) (c .before .wide .ensures),
+      lines-fit x l (c .before .before .before .before .before .loop .inv .1) (c .before .wide .ensures) e (c .before .before .before .before .before .before .before .before .args .out .now) (c .before .before .before .before .before .before .before .before .pre .1) (c .before .before .before .before .before .loop .inv .2) (c .before .before .before .before .before .loop .inv .3),
+    )
+
+add-k : tie.Need-add-k Inv-loop μ-loop
+add-k c = omega (arith, in-marks (c .before .before .before .before .before .before .before .before .before .before .before .pre .0) (c .before .before .before .before .before .before .before .loop-test .taken) (c .before .before .before .before .before .before .before .before .loop .inv .1) (c .before .before .before .before .wide .ensures) .case-in)
+
+add-f-2 : tie.Need-add-f-2 Inv-loop μ-loop
+add-f-2 c = search needs
+
+loop-less-2 : tie.Need-loop-less-2 Inv-loop μ-loop
+loop-less-2 c = search needs
+
+loop-again-2 : tie.Need-loop-again-2 Inv-loop μ-loop
+loop-again-2 c =
+    let x = c .before .before .before .before .before .before .before .before .before .before .before .pre .0 in
+    let l = c .before .before .before .before .before .before .before .loop-test .taken in
+    let long : length (c .before .before .before .before .before .before .before .before .before .before .before .args .t2) ≡ 32 = search needs in
+    let e = answered-here x l long (c .before .before .before .before .before .before .if1 .left) in (
+      omega arith,
+      next-case x l e (c .before .before .before .before .before .before .before .before .loop .inv .1),
+      place-with x l (c .before .before .before .before .before .before .before .before .loop .inv .1) (c .before .before .before .before .wide .ensures) e (c .before .before .before .before .before .before .before .before .loop .inv .2) (c .before .before .write-field .ensures .0),
+      lines-with x l (c .before .before .before .before .before .before .before .before .loop .inv .1) (c .before .before .before .before .wide .ensures) e (c .before .before .before .before .before .before .before .before .before .before .before .args .out .now) (c .before .before .before .before .before .before .before .before .loop .inv .2) (c .before .before .before .before .before .before .before .before .loop .inv .3) (c .before .before .write-field .ensures .1),
+    )
+
+same-length : tie.Need-same-length Inv-loop μ-loop
+same-length c = ap length (c .before .loop .inv .3) ∙ length-sets _ 0 (bytesBelow (bookOf (c .before .before .before .before .args .book .now)) (c .before .before .before .before .args .t2) (c .before .loop .f))
+
+returns : tie.Need-returns Inv-loop μ-loop
+returns c = written-all (c .before .before .before .before .pre .0) (c .before .before .before .before .args .out .now) (c .loop-test .left) (c .before .loop .inv .0) (c .before .before .before .before .pre .1) (c .before .loop .inv .3)
+
+pub write-lines-spec : {M : Type 1} → statement M
+write-lines-spec =
+    tie.close
+    (tie.spec
+    Inv-loop
+    μ-loop
+    loop-holds
+    array-read-if1
+    add-f
+    loop-less
+    loop-again
+    add-wide
+    shared-slice-read-wide
+    wide-requires
+    write-field-requires
+    add-k
+    add-f-2
+    loop-less-2
+    loop-again-2
+    same-length
+    returns)

@@ -1,0 +1,48 @@
+// The numbers that plain filtering writes.
+ghost use mathlib.Core.Path.{_≡_};
+ghost use mathlib.Core.List.{_++_};
+ghost use Prim.Native.Nat.{_≤_};
+ghost use lib.ListN.{length, take, drop};
+ghost use Rattle.format.specs.Format.{listPlace, bookOf};
+ghost use Rattle.calls.specs.Calls.{masksInto};
+ghost use Rattle.sheet.specs.Opened.{FieldsAt};
+ghost use Rattle.sheet.specs.Shown.{resultOf};
+use super::Answer;
+use super::Handed;
+use super::Reason;
+use super::Sheet;
+use super::refuse;
+
+// Copies the first n numbers. What stands behind them in out stays.
+fn copy_numbers(from: [u32; 32], n: usize, out: &mut [u32])
+    requires { ⌜ (n ≤ 32) × (n ≤ length (now out)) ⌝ }
+    ensures { λ r. ⌜ now (out .exit) ≡ take n from ++ drop n (now (out .entry)) ⌝ }
+{
+    let mut i = 0;
+    while i < n {
+        out[i] = from[i];
+        i += 1;
+    }
+}
+
+// 18, then the masks under these answers, one for each field; the sheet comes back as given.
+pub(crate) fn write_masks(
+    sheet: Sheet,
+    book: &[u8],
+    answers: [u8; 32],
+    fields: usize,
+    out: &mut [u32],
+) -> Handed
+    requires { ⌜ FieldsAt (now book) (listPlace (now book)) fields ⌝ }
+    ensures { λ r. ⌜ resultOf r (now (out .exit)) ≡ masksInto (bookOf (now (book .entry))) (sheet .places) answers (now (out .entry)) ⌝ }
+{
+    if out.len() < fields {
+        return refuse(sheet, Reason::Room, 0);
+    }
+    let numbers = filter::plain(book, &answers);
+    copy_numbers(numbers, fields, out);
+    Handed {
+        answer: Answer::Done,
+        sheet: sheet,
+    }
+}
