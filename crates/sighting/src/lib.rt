@@ -5,10 +5,12 @@ ghost use mathlib.Core.Path.{_≡_};
 ghost use mathlib.Core.List.{List, []};
 ghost use Prim.Native.Nat.{ℕ};
 ghost use Rattle.format.specs.Reading.{reading};
-ghost use Rattle.calls.specs.Calls.{freshSheet, cleared, entered, withdrawn, loaded, stored};
+ghost use Rattle.calls.specs.Calls.{freshSheet, cleared, entered, withdrawn, filtered, alternatives, loaded, stored};
+ghost use Rattle.calls.specs.Histories.{sheetAfter, callsIn};
 ghost use Rattle.sighting.specs.Exported.{Tells, Exports};
 use book::Reading;
 use handed::hand;
+use handed::hand_list;
 use sheet::Sheet;
 
 mod handed;
@@ -93,6 +95,35 @@ pub extern "C" fn sighting_withdraw(
     hand(given.withdraw(book, field), sheet, outcome)
 }
 
+// Plain filtering with one answer relaxed, or none for 255. Cells: place.
+#[no_mangle]
+pub extern "C" fn sighting_filtered(
+    sheet: &mut [u8; 32],
+    book: &[u8],
+    relaxed: u8,
+    out: &mut [u32],
+    outcome: &mut [u64; 1],
+) -> u64
+    ensures { λ r. ⌜ Exports r (now (outcome .exit)) (now (sheet .exit)) (now (out .exit)) (filtered (now (book .entry)) (now (sheet .entry)) relaxed (now (out .entry))) ⌝ }
+{
+    let given = Sheet { places: *sheet };
+    hand(given.filtered(book, relaxed, out), sheet, outcome)
+}
+
+// The alternatives of the answered fields. Cells: place, total, struck.
+#[no_mangle]
+pub extern "C" fn sighting_alternatives(
+    sheet: &mut [u8; 32],
+    book: &[u8],
+    out: &mut [u8],
+    outcome: &mut [u64; 3],
+) -> u64
+    ensures { λ r. ⌜ Exports r (now (outcome .exit)) (now (sheet .exit)) (now (out .exit)) (alternatives (now (book .entry)) (now (sheet .entry)) (now (out .entry))) ⌝ }
+{
+    let given = Sheet { places: *sheet };
+    hand_list(given.alternatives(book, out), sheet, outcome)
+}
+
 // Reads the stored form of a sheet. Cells: place.
 #[no_mangle]
 pub extern "C" fn sighting_load(
@@ -118,4 +149,18 @@ pub extern "C" fn sighting_store(
 {
     let given = Sheet { places: *sheet };
     hand(given.store(book, out), sheet, outcome)
+}
+
+// A list of calls from a fresh sheet, then the alternatives. Cells: place, total, struck.
+#[no_mangle]
+pub extern "C" fn sighting_replay(
+    sheet: &mut [u8; 32],
+    book: &[u8],
+    calls: &[u8],
+    out: &mut [u8],
+    outcome: &mut [u64; 3],
+) -> u64
+    ensures { λ r. ⌜ Exports r (now (outcome .exit)) (now (sheet .exit)) (now (out .exit)) (alternatives (now (book .entry)) (sheetAfter (now (book .entry)) (callsIn (now (calls .entry)))) (now (out .entry))) ⌝ }
+{
+    hand_list(sheet::replay(book, calls, out), sheet, outcome)
 }
