@@ -43,7 +43,7 @@ pub record Printing : Type 0 where
   pub buffer : List ℕ
 
 -- a text that fits stands before what o keeps; one that does not leaves o as it was
-abbrev pub printing : List ℕ → List ℕ → Printing
+unfoldable pub printing : List ℕ → List ℕ → Printing
 printing text o =
     record {
       fits = leb (length text) (length o);
