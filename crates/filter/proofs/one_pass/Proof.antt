@@ -111,15 +111,15 @@ module _ {M : Type 1} (𝓤 : URA M) (H : Heap 𝓤) (A : Atoms 𝓤) (W : Given
   abbrev OwnX : Fml
   OwnX = Answers (κs .1 .0) .own x (pointer x ∷ [])
 
-  abbrev OwnXY : Fml
-  OwnXY = owns (Answers (κs .1 .0) ∷ Marks (κs .1 .1 .0) ∷ []) (x, (y, tt)) (pointer x ∷ [], (pointer y ∷ [], tt))
+  abbrev OwnRest : Fml
+  OwnRest = owns (Answers (κs .1 .0) ∷ Marks (κs .1 .1 .0) ∷ []) (x, (y, tt)) (pointer x ∷ [], (pointer y ∷ [], tt))
 
   abbrev OwnView : Val → Fml
   OwnView u = Viewing (κs .0) .own (viewOf s l f t n) (u ∷ [])
 
   -- what is kept over the first call, and what is kept of that over the second: the bytes and the answers
   abbrev Kept : Item 𝓤
-  Kept = ‵ OwnS ⊛ (‵ OwnXY ⊛ raw Others)
+  Kept = ‵ OwnS ⊛ (‵ OwnRest ⊛ raw Others)
 
   abbrev Left : Item 𝓤
   Left = ‵ OwnS ⊛ ‵ OwnX
