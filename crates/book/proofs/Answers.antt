@@ -1,12 +1,12 @@
 -- From the parts' answers to the whole: what each way through check and read answers. Assumes nothing.
 use mathlib.Core.Path.{_≡_, refl, sym, ap, _∙_}
 use mathlib.Core.List.{List, [], _∷_}
-use Prim.Native.Nat.{ℕ, _+_, _≤_, _<_}
+use Prim.Native.Nat.{ℕ, _≤_, _<_}
 use native.Mathlib.Omega.{arith}
 use lib.ListN.{length}
-use Rattle.format.specs.Format.{rowLimit, tableLimit, listPlace, fieldCount, tableCount, rowTotal, differentTotal, tablesAt, bookOf, bookCounts}
-use Rattle.format.specs.Promise.{place, Promise}
-use Rattle.format.specs.Reading.{Outcome, accepted, refused, Verdict, pass, fail, next, stop, listTest, tableStep, tablesStep, lastTest, verdict, outcome, reading, checking}
+use Rattle.format.specs.Format.{rowLimit, tableLimit, listPlace, fieldCount, tableCount, rowTotal, differentTotal, tablesAt, bookOf}
+use Rattle.format.specs.Promise.{place}
+use Rattle.format.specs.Reading.{Outcome, accepted, refused, Verdict, pass, fail, next, stop, trailerVerdict, listTest, tableStep, tablesStep, lastTest, verdict, outcome, reading, checking}
 use Rattle.format.proofs.Views.{counts-count, tables-count}
 use Rattle.format.proofs.Refusals.{verdict-list, verdict-tables, last-13-left, last-pass, reading-pass, checking-pass, checking-fail}
 use Rattle.format.proofs.Trailer.{trailer-good}
@@ -15,7 +15,7 @@ use Rattle.format.proofs.AllTables.{tables-good}
 use Rattle.format.proofs.Verdict.{verdict-promise}
 use Rattle.format.proofs.Accepted.{checked-verdict}
 use Rattle.book.specs.Bounds.{BodyFits}
-use Rattle.book.specs.Shown.{trailerVerdict}
+use Rattle.book.specs.View.{Viewed}
 
 module _ (s : List ℕ) where
   -- behind a table that passes, the rows so far are within the limit
@@ -27,34 +27,43 @@ module _ (s : List ℕ) where
   -- ---- checking, where the trailer passes
 
   module _ (p : pass ≡ trailerVerdict s) where
+    -- the trailer lies within the bytes
     pub trailer-long : 6 ≤ length s
     trailer-long = trailer-good _ _ _ _ _ _ (sym p) .long
 
+    -- and so does the field list
     pub body-fits : (list fields : ℕ) → list ≡ listPlace s → fields ≡ fieldCount s → BodyFits s list fields
     body-fits list fields el ef =
         let t = trailer-good _ _ _ _ _ _ (sym p) in
         record { short = t .short; list-is = el; fields-is = ef; within = omega (arith, t .whole) }
 
+    -- list, fields and tables: the numbers read from the trailer
     module _ (list fields tables : ℕ) (el : list ≡ listPlace s) (ef : fields ≡ fieldCount s) (et : tables ≡ tableCount s) where
+      -- 7
       pub check-list : (number place : ℕ) → fail number place ≡ listTest s list fields → refused 4 number place ≡ checking s
       check-list number place e = checking-fail s number place (verdict-list s p number place (rw (el, ef) at e))
 
       module _ (l : pass ≡ listTest s list fields) where
+        -- the tables and the last test decide
         tested : lastTest list (tablesStep s list fields tables 0 0) ≡ verdict s
         tested = rw (el, ef, et) (verdict-tables s p (rw (el, ef) at l))
 
+        -- 8 to 12
         pub check-stop : (number place : ℕ) → stop number place ≡ tablesStep s list fields tables 0 0
             → refused 4 number place ≡ checking s
         check-stop number place e = checking-fail s number place (ap (lastTest list) e ∙ tested)
 
         module _ (at rows : ℕ) (e : next at rows ≡ tablesStep s list fields tables 0 0) where
+          -- 13
           pub check-left : at < list → refused 4 13 at ≡ checking s
           check-left h = checking-fail s 13 at (last-13-left list at rows h ∙ (ap (lastTest list) e ∙ tested))
 
+          -- the rows so far, behind the last table, are the book's
           rows-are : rows ≡ rowTotal (bookOf s .tables)
           unfolding bookOf place
           rows-are = omega (arith, tables-good s (tableCount s) 0 0 at rows (sym (rw (el, ef, et) at e)) .total)
 
+          -- accepted
           pub check-good : list ≤ at → accepted (list ∷ fields ∷ tables ∷ rows ∷ []) ≡ checking s
           check-good h =
               let q = last-pass list at rows h ∙ (ap (lastTest list) e ∙ tested) in
@@ -62,6 +71,7 @@ module _ (s : List ℕ) where
 
   -- ---- reading
 
+  -- a refusal is the same, whatever would have been counted
   pub read-bad : (number place : ℕ) → 1 ≤ number → refused 4 number place ≡ checking s → refused 4 number place ≡ reading s
   unfolding checking reading
   read-bad number place h e = e ∙ same (verdict s) _ _ (λ z. absurd (omega (arith, ap (λ (o : Outcome). o .number) e))) refl
@@ -70,12 +80,29 @@ module _ (s : List ℕ) where
       same pass xs ys n d = absurd (n refl)
       same (fail number place) xs ys n d = ap (λ (k : ℕ). refused k number place) d
 
+  -- of an accepted book, with these numbers from checking
   module _ (list fields tables rows : ℕ) (e : accepted (list ∷ fields ∷ tables ∷ rows ∷ []) ≡ checking s) where
+    -- all tests passed
     passed : verdict s ≡ pass
     passed = checked-verdict s (sym (ap (λ (o : Outcome). o .number) e))
 
+    -- the numbers are the trailer's and the book's
     counts-are : list ∷ fields ∷ tables ∷ rows ∷ [] ≡ listPlace s ∷ fieldCount s ∷ tableCount s ∷ rowTotal (bookOf s .tables) ∷ []
     counts-are = ap (λ (o : Outcome). o .counts) (e ∙ sym (checking-pass s (sym passed)))
+
+    -- a view of the bytes with these numbers is a view of the book
+    pub check-viewed : Viewed s list fields tables rows
+    check-viewed =
+        record {
+          numbers =
+              record {
+                promise = verdict-promise s passed;
+                list-is = cc counts-are;
+                fields-is = cc counts-are;
+                tables-is = cc counts-are;
+              };
+          rows-is = cc counts-are;
+        }
 
     -- the tables of an accepted book end within the bytes
     pub read-fits : (tables ≤ tableLimit) × (place s tables ≤ length s)
@@ -84,6 +111,7 @@ module _ (s : List ℕ) where
         let et : tables ≡ tableCount s = cc counts-are in
         rw et (p .tables-few, omega (arith, p .last, p .whole))
 
+    -- its counts, with the different rows of its tables
     pub read-good : (different : ℕ) → different ≡ differentTotal (tablesAt s 0 tables)
         → accepted (fields ∷ tables ∷ rows ∷ different ∷ []) ≡ reading s
     unfolding bookOf

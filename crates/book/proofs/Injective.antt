@@ -1,6 +1,6 @@
 -- An answer is told by what is shown of it: no two answers show the same number, place and counts. Assumes nothing.
 use mathlib.Core.Path.{_≡_, refl, sym, ap, _∙_}
-use mathlib.Core.List.{List, [], _∷_}
+use mathlib.Core.List.{[], _∷_}
 use Prim.Native.Nat.{ℕ, _≤_}
 use native.Mathlib.Omega.{arith}
 use lib.ListN.{getD}
@@ -11,7 +11,7 @@ use Rattle.book.specs.declared.Refusal.the-variants.{Length, Closing, Ve
 use Rattle.book.specs.declared.Reading.{Reading}
 use Rattle.book.specs.declared.Reading.the-variants.{Accepted, Refused}
 use Rattle.book.specs.declared.Checked.{Checked}
-use Rattle.book.specs.declared.Checked.the-variants.{Good, Bad}
+use Rattle.book.specs.declared.Checked.the-variants as checked
 
 -- the kind of a number from 1 to 13
 kindOf : ℕ → Refusal
@@ -37,13 +37,15 @@ numbered Code = (omega arith, refl)
 numbered RowCount = (omega arith, refl)
 numbered LeftOver = (omega arith, refl)
 
+-- an accepted answer's number is no refusal's
 pub number-some : (k : Refusal) → 1 ≤ numberOf k
 number-some k = numbered k .0
 
+-- two kinds have two numbers
 pub number-injective : (j k : Refusal) → numberOf j ≡ numberOf k → j ≡ k
 number-injective j k e = sym (numbered j .1) ∙ ap kindOf e ∙ numbered k .1
 
--- the parts of what is shown
+-- equal answers have equal parts
 numbers : {x y : Outcome} → x ≡ y → x .number ≡ y .number
 numbers e = ap (λ (o : Outcome). o .number) e
 
@@ -53,14 +55,16 @@ places e = ap (λ (o : Outcome). o .place) e
 lists : {x y : Outcome} → x ≡ y → x .counts ≡ y .counts
 lists e = ap (λ (o : Outcome). o .counts) e
 
+-- two readings that show the same are the same
 pub shown-injective : (x y : Reading) → shown x ≡ shown y → x ≡ y
 shown-injective (Accepted f t r d) (Accepted f′ t′ r′ d′) e = cc (lists e)
 shown-injective (Accepted f t r d) (Refused k p) e = absurd (omega (arith, numbers e, number-some k))
 shown-injective (Refused k p) (Accepted f t r d) e = absurd (omega (arith, numbers e, number-some k))
 shown-injective (Refused k p) (Refused k′ p′) e = cc (number-injective k k′ (numbers e), places e)
 
+-- and so are two answers of checking
 pub shownCheck-injective : (x y : Checked) → shownCheck x ≡ shownCheck y → x ≡ y
-shownCheck-injective (Good l f t r) (Good l′ f′ t′ r′) e = cc (lists e)
-shownCheck-injective (Good l f t r) (Bad k p) e = absurd (omega (arith, numbers e, number-some k))
-shownCheck-injective (Bad k p) (Good l f t r) e = absurd (omega (arith, numbers e, number-some k))
-shownCheck-injective (Bad k p) (Bad k′ p′) e = cc (number-injective k k′ (numbers e), places e)
+shownCheck-injective (checked.Good l f t r) (checked.Good l′ f′ t′ r′) e = cc (lists e)
+shownCheck-injective (checked.Good l f t r) (checked.Refused k p) e = absurd (omega (arith, numbers e, number-some k))
+shownCheck-injective (checked.Refused k p) (checked.Good l f t r) e = absurd (omega (arith, numbers e, number-some k))
+shownCheck-injective (checked.Refused k p) (checked.Refused k′ p′) e = cc (number-injective k k′ (numbers e), places e)

@@ -1,16 +1,14 @@
 -- The reader's answers in document 01's terms: its number for each kind of refusal, and number, place and counts for each answer. Assumes nothing.
-use Prim.Native.Nat.{ℕ, _-_}
-use mathlib.Core.List.{List, [], _∷_}
-use lib.ListN.{length}
-use Rattle.format.specs.Format.{byte, listPlace, fieldCount, tableCount, versionOf}
-use Rattle.format.specs.Reading.{Outcome, accepted, refused, Verdict, pass, fail, next, stop, trailerTest}
+use Prim.Native.Nat.{ℕ}
+use mathlib.Core.List.{[], _∷_}
+use Rattle.format.specs.Reading.{Outcome, accepted, refused, Verdict, pass, fail, next, stop}
 use Rattle.format.specs.Reading as format
 use Rattle.book.specs.declared.Refusal.{Refusal}
 use Rattle.book.specs.declared.Refusal.the-variants.{Length, Closing, Version, FieldCount, TableCount, ListPlace, CodeCount, Short, Arity, FieldNumber, Code, RowCount, LeftOver}
 use Rattle.book.specs.declared.Reading.{Reading}
 use Rattle.book.specs.declared.Reading.the-variants.{Accepted, Refused}
 use Rattle.book.specs.declared.Checked.{Checked}
-use Rattle.book.specs.declared.Checked.the-variants.{Good, Bad}
+use Rattle.book.specs.declared.Checked.the-variants as checked
 use Rattle.book.specs.declared.tests.Test.{Test}
 use Rattle.book.specs.declared.tests.Test.the-variants.{Pass, Fail}
 use Rattle.book.specs.declared.tests.Step.{Step}
@@ -37,11 +35,6 @@ abbrev pub verdictOf : Test → Verdict
 verdictOf Pass = pass
 verdictOf (Fail kind place) = fail (numberOf kind) place
 
--- 1 to 6, of the numbers in the trailer of these bytes
-abbrev pub trailerVerdict : List ℕ → Verdict
-trailerVerdict s =
-    trailerTest (length s) (byte s (length s - 1)) (versionOf s) (fieldCount s) (tableCount s) (listPlace s)
-
 -- a table's answer
 abbrev pub stepOf : Step → format.Step
 stepOf (Next at rows) = next at rows
@@ -49,8 +42,8 @@ stepOf (Stop kind place) = stop (numberOf kind) place
 
 -- checking's answer: place of the field list, fields, tables, rows
 abbrev pub shownCheck : Checked → Outcome
-shownCheck (Good list fields tables rows) = accepted (list ∷ fields ∷ tables ∷ rows ∷ [])
-shownCheck (Bad kind place) = refused 4 (numberOf kind) place
+shownCheck (checked.Good list fields tables rows) = accepted (list ∷ fields ∷ tables ∷ rows ∷ [])
+shownCheck (checked.Refused kind place) = refused 4 (numberOf kind) place
 
 -- reading's answer: fields, tables, rows written, different rows
 abbrev pub shown : Reading → Outcome

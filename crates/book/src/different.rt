@@ -2,21 +2,21 @@
 ghost use mathlib.Core.Path.{_≡_};
 ghost use Prim.Native.Nat.{_+_, _*_, _≤_};
 ghost use lib.ListN.{length};
-ghost use Rattle.format.specs.Format.{sameCodes, isIn, different, differentTotal, part, rowsAt, tablesAt, tableLimit};
+ghost use Rattle.format.specs.Format.{tableLimit, sameCodes, isIn, different, differentTotal, part, rowsAt, tablesAt};
 ghost use Rattle.format.specs.Promise.{place};
 use super::bytes::byte;
 use super::bytes::pair;
 
-// Whether the rows of a codes at p and at q are the same.
-fn same_row(s: &[u8], p: usize, q: usize, a: usize) -> bool
-    requires { ⌜ (p + a ≤ length (now s)) × (q + a ≤ length (now s)) ⌝ }
-    ensures { λ r. ⌜ r ≡ sameCodes (part (now (s .entry)) p a) (part (now (s .entry)) q a) ⌝ }
+// Whether the rows of arity codes at p and at q are the same. Rows are compared nowhere else.
+fn same_row(book: &[u8], p: usize, q: usize, arity: usize) -> bool
+    requires { ⌜ (p + arity ≤ length (now book)) × (q + arity ≤ length (now book)) ⌝ }
+    ensures { λ r. ⌜ r ≡ sameCodes (part (now (book .entry)) p arity) (part (now (book .entry)) q arity) ⌝ }
 {
     let mut x = p;
     let mut y = q;
-    let mut left = a;
+    let mut left = arity;
     while 0 < left {
-        if s[x] != s[y] {
+        if book[x] != book[y] {
             return false;
         }
         x += 1;
@@ -26,58 +26,57 @@ fn same_row(s: &[u8], p: usize, q: usize, a: usize) -> bool
     true
 }
 
-// Whether the row of a codes at p is one of the n rows from q on.
-fn is_repeated(s: &[u8], p: usize, q: usize, a: usize, n: usize) -> bool
-    requires { ⌜ (p + a ≤ length (now s)) × (q + n * a ≤ length (now s)) ⌝ }
-    ensures { λ r. ⌜ r ≡ isIn (part (now (s .entry)) p a) (rowsAt (now (s .entry)) a q n) ⌝ }
+// Whether the row of arity codes at p is one of the count rows from q on.
+fn is_repeated(book: &[u8], p: usize, q: usize, arity: usize, count: usize) -> bool
+    requires { ⌜ (p + arity ≤ length (now book)) × (q + count * arity ≤ length (now book)) ⌝ }
+    ensures { λ r. ⌜ r ≡ isIn (part (now (book .entry)) p arity) (rowsAt (now (book .entry)) arity q count) ⌝ }
 {
     let mut y = q;
-    let mut left = n;
+    let mut left = count;
     while 0 < left {
-        if same_row(s, p, y, a) {
+        if same_row(book, p, y, arity) {
             return true;
         }
-        y += a;
+        y += arity;
         left -= 1;
     }
     false
 }
 
-// The number of different rows among the n rows of a codes from start on: a repeated row counts where it stands last.
-fn different_rows(s: &[u8], start: usize, a: usize, n: usize) -> usize
-    requires { ⌜ start + n * a ≤ length (now s) ⌝ }
-    ensures { λ r. ⌜ (r ≡ different (rowsAt (now (s .entry)) a start n)) × (r ≤ n) ⌝ }
+// The number of different rows among the count rows of arity codes from start on. A repeated row counts where it stands last, so
+// that each row is held against the later ones alone.
+fn different_rows(book: &[u8], start: usize, arity: usize, count: usize) -> usize
+    requires { ⌜ start + count * arity ≤ length (now book) ⌝ }
+    ensures { λ r. ⌜ (r ≡ different (rowsAt (now (book .entry)) arity start count)) × (r ≤ count) ⌝ }
 {
-    let mut count = 0;
-    let mut p = start;
-    let mut left = n;
+    let mut found = 0;
+    let mut next = start;
+    let mut left = count;
     while 0 < left {
-        let next = p + a;
+        let row = next;
+        next += arity;
         left -= 1;
-        if is_repeated(s, p, next, a, left) {
-            p = next;
-        } else {
-            count += 1;
-            p = next;
+        if !is_repeated(book, row, next, arity, left) {
+            found += 1;
         }
     }
-    count
+    found
 }
 
 // The number of different rows of all tables, which end within the bytes.
-pub fn different_total(s: &[u8], tables: usize) -> usize
-    requires { ⌜ (tables ≤ tableLimit) × (place (now s) tables ≤ length (now s)) ⌝ }
-    ensures { λ r. ⌜ r ≡ differentTotal (tablesAt (now (s .entry)) 0 tables) ⌝ }
+pub(crate) fn different_total(book: &[u8], tables: usize) -> usize
+    requires { ⌜ (tables ≤ tableLimit) × (place (now book) tables ≤ length (now book)) ⌝ }
+    ensures { λ r. ⌜ r ≡ differentTotal (tablesAt (now (book .entry)) 0 tables) ⌝ }
 {
     let mut at = 0;
     let mut total = 0;
     let mut i = 0;
     while i < tables {
-        let a = byte(s, at);
-        let n = pair(s, at + 1 + a);
-        let start = at + 3 + a;
-        total += different_rows(s, start, a, n);
-        at = start + n * a;
+        let arity = byte(book, at);
+        let count = pair(book, at + 1 + arity);
+        let start = at + 3 + arity;
+        total += different_rows(book, start, arity, count);
+        at = start + count * arity;
         i += 1;
     }
     total

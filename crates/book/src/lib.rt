@@ -1,7 +1,8 @@
 // The reader: whether bytes are a book, and what is counted in it. Document 01, "The book's bytes" and "When a call is turned down".
 ghost use mathlib.Core.Path.{_≡_};
 ghost use Rattle.format.specs.Reading.{reading, checking};
-ghost use Rattle.book.specs.Shown.{shown, shownCheck};
+ghost use Rattle.book.specs.Shown.{numberOf, shown, shownCheck};
+ghost use Rattle.book.specs.View.{viewOf};
 
 mod bytes;
 mod different;
@@ -25,6 +26,27 @@ pub enum Refusal {
     LeftOver,
 }
 
+// Document 01's number of a kind.
+pub fn number(kind: Refusal) -> u64
+    ensures { λ r. ⌜ r ≡ numberOf kind ⌝ }
+{
+    match kind {
+        Refusal::Length => 1,
+        Refusal::Closing => 2,
+        Refusal::Version => 3,
+        Refusal::FieldCount => 4,
+        Refusal::TableCount => 5,
+        Refusal::ListPlace => 6,
+        Refusal::CodeCount => 7,
+        Refusal::Short => 8,
+        Refusal::Arity => 9,
+        Refusal::FieldNumber => 10,
+        Refusal::Code => 11,
+        Refusal::RowCount => 12,
+        Refusal::LeftOver => 13,
+    }
+}
+
 // What reading answers: the counts of an accepted book, or the first refusal and its place.
 pub enum Reading {
     Accepted {
@@ -44,7 +66,29 @@ pub enum Checked {
         tables: usize,
         rows: usize,
     },
-    Bad(Refusal, usize),
+    Refused(Refusal, usize),
+}
+
+// A book, held as one view on the lent bytes: where its field list stands, and its numbers of fields, tables and rows.
+pub struct Book<'a> {
+    pub bytes: &'a [u8],
+    pub list: usize,
+    pub fields: usize,
+    pub tables: usize,
+    pub rows: usize,
+}
+
+// The view on these bytes, of the numbers that checking them answered.
+pub fn view<'a>(bytes: &'a [u8], list: usize, fields: usize, tables: usize, rows: usize) -> Book<'a>
+    ensures { λ b. ⌜ b ≡ viewOf (bytes .entry) list fields tables rows ⌝ }
+{
+    Book {
+        bytes,
+        list,
+        fields,
+        tables,
+        rows,
+    }
 }
 
 // Makes every test. Different rows are counted apart, since only `read` answers their number.
@@ -53,7 +97,7 @@ pub fn check(book: &[u8]) -> Checked
 {
     let trailer = tests::trailer(book);
     if let tests::Test::Fail(kind, place) = trailer {
-        return Checked::Bad(kind, place);
+        return Checked::Refused(kind, place);
     }
     let n = book.len();
     let list = bytes::pair(book, n - 6);
@@ -61,14 +105,14 @@ pub fn check(book: &[u8]) -> Checked
     let tables = bytes::byte(book, n - 3);
     let counts = tests::field_list(book, list, fields);
     if let tests::Test::Fail(kind, place) = counts {
-        return Checked::Bad(kind, place);
+        return Checked::Refused(kind, place);
     }
     let step = tests::tables(book, list, fields, tables);
     match step {
-        tests::Step::Stop(kind, place) => Checked::Bad(kind, place),
+        tests::Step::Stop(kind, place) => Checked::Refused(kind, place),
         tests::Step::Next { at, rows } => {
             if at < list {
-                return Checked::Bad(Refusal::LeftOver, at);
+                return Checked::Refused(Refusal::LeftOver, at);
             }
             Checked::Good {
                 list: list,
@@ -86,7 +130,7 @@ pub fn read(book: &[u8]) -> Reading
 {
     let checked = check(book);
     match checked {
-        Checked::Bad(kind, place) => Reading::Refused(kind, place),
+        Checked::Refused(kind, place) => Reading::Refused(kind, place),
         Checked::Good {
             list: _,
             fields,

@@ -1,9 +1,9 @@
 -- Document 01, "The sheet and its one pass" and "When a call is turned down": every call on a sheet as a function of its input. Assumes nothing.
-use Prim.Native.Nat.{ℕ, _+_, _-_, _*_}
+use Prim.Native.Nat.{ℕ, _-_, _*_}
 use mathlib.Core.List.{List, [], _∷_, _++_}
-use mathlib.Core.Bool.{Bool, true, false, _||_}
+use mathlib.Core.Bool.{Bool, _||_}
 use lib.ListN.{length, getD, take, drop, set, replicate}
-use lib.Dec.{ltb, leb, eqb}
+use lib.Dec.{ltb, eqb}
 use Rattle.format.specs.Basics.{pick, firstBad}
 use Rattle.format.specs.Format.{Book, bookOf}
 use Rattle.format.specs.Reading.{Outcome, refused, accepted, Verdict, pass, fail, verdict}

@@ -1,10 +1,10 @@
 -- Conditions 1 to 3, and what else document 01 says of two calls together. Each is a type; its proof is a value of it (proofs/Condition1.antt,
 -- Condition2.antt, Agreement.antt, Stored.antt, Condition3.antt). Assumes nothing.
-use Prim.Native.Nat.{ℕ, zero, suc, _+_, _*_, _/_, _%_, _^_, _≤_, _<_}
+use Prim.Native.Nat.{ℕ, _+_, _*_, _/_, _%_, _^_, _≤_, _<_}
 use mathlib.Core.Path.{_≡_}
 use mathlib.Core.Logic.{_≢_, _↔_}
 use mathlib.Core.List.{List, [], _∷_, _++_}
-use mathlib.Core.Bool.{Bool, true, false, not}
+use mathlib.Core.Bool.{not}
 use lib.ListN.{length, getD, take, drop, replicate}
 use lib.Dec.{T, eqb}
 use Rattle.format.specs.Basics.{pick}

@@ -1,6 +1,6 @@
 -- Document 01: "The answers after a list of enter, withdraw and clear calls", and the calls themselves one after another. Assumes nothing.
 use Prim.Native.Nat.{ℕ, _<_}
-use mathlib.Core.List.{List, [], _∷_, _++_}
+use mathlib.Core.List.{List, [], _∷_}
 use mathlib.Core.Bool.{Bool, true, false}
 use lib.ListN.{length}
 use lib.Dec.{ltb, eqb}

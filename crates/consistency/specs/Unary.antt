@@ -1,7 +1,6 @@
 -- Source 004 has the answers as unary constraints H beside the book's own: one table with one row for each answer. Assumes nothing.
 use Prim.Native.Nat.{ℕ}
 use mathlib.Core.List.{List, [], _∷_, _++_, map}
-use lib.ListN.{length}
 use Rattle.format.specs.Format.{Table, Book}
 use Rattle.consistency.specs.Consistency.{answer}
 use Rattle.consistency.specs.Counts.{relaxable}

@@ -111,6 +111,7 @@ unfoldable pub size : Book → List ℕ → ℕ → ℕ
 size b M d = standing b M * 65 + howMany 64 (bit d)
 
 module _ {s M W P : List ℕ} {list n d₀ : ℕ} (q : PropagateGiven s M W P list n d₀) where
+  -- each table is queued
   pub propagated-none : d₀ < 2 ^ 64 → PropagatedTo s M M n n d₀
   propagated-none l =
       record {
@@ -161,6 +162,7 @@ module _ {s M W P : List ℕ} {list n d₀ : ℕ} (q : PropagateGiven s M W P li
             supported = λ h hl v. supported-now h hl v (ℕ-discrete h z);
           }
 
+      -- fewer marks stand, or the same marks stand and fewer tables are queued
       pub propagated-less : size (bookOf s) L e < size (bookOf s) N d
       unfolding size
       propagated-less = go (ℕ-discrete u m)
@@ -188,6 +190,7 @@ module _ {s M W P : List ℕ} {list n d₀ : ℕ} (q : PropagateGiven s M W P li
         x .supported i (subst (λ (v : ℕ). i < v) (tables-count s) il) (ap (λ (v : ℕ). bit v i) empty ∙ zero-bit i) j jl k c
         (subst (λ (g : ℕ). T (domainOf N k g c)) (sym e) t)
 
+    -- no table is queued: each supports every mark that stands
     pub propagated-all : Propagated s M N n m
     propagated-all =
         record {

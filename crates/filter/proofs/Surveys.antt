@@ -31,6 +31,7 @@ all-ones k l =
 
 -- ---- a table's fields, one after another
 
+-- no field yet
 pub watched-none : (s W : List ℕ) (at i : ℕ) → Watched s W W at i 0
 watched-none s W at i = record { same-length = refl; there = λ k l. absurd (not-suc-le-zero l); more = λ f h t. t; only = λ f h t. inl t }
 
@@ -115,6 +116,7 @@ pub record SurveyedTo (s W P : List ℕ) (n : ℕ) : Type 0 where
   pub tables : (f i : ℕ) → T (bit (getD W f 0) i) → i < n
   pub placed : (i : ℕ) → i < n → getD P i 0 ≡ place s i
 
+-- no table yet
 pub surveyed-none : {s W P : List ℕ} {tables : ℕ} → SurveyGiven s W P tables → SurveyedTo s W P 0
 surveyed-none q =
     record {
@@ -125,6 +127,7 @@ surveyed-none q =
       placed = λ i l. absurd (not-suc-le-zero l);
     }
 
+-- the first table stands at 0, each next one where the one before ends
 pub place-zero : (s : List ℕ) → 0 ≡ place s 0
 unfolding place
 place-zero s = refl

@@ -23,7 +23,7 @@ pub record WatchGiven (s W : List ℕ) (at arity i : ℕ) : Type 0 where
   pub arity-is : arity ≡ arityAt s at
   pub words : length W ≡ places
 
--- U became W: table i, at `at`, was added to the words of its first j fields, and nothing else
+-- U became W: table i, at `at`, was added to the words of its first j fields, and no other table to any word
 pub record Watched (s U W : List ℕ) (at i j : ℕ) : Type 0 where
   pub same-length : length W ≡ length U
   pub there : (k : ℕ) → k < j → T (bit (getD W (fieldAt s at k) 0) i)
@@ -42,6 +42,7 @@ pub record SurveyGiven (s W P : List ℕ) (tables : ℕ) : Type 0 where
   pub empty : (f : ℕ) → getD W f 0 ≡ 0
   pub room : length P ≡ tableLimit
 
+-- the places of all tables, and the tables of each field
 pub record Surveyed (s W P : List ℕ) : Type 0 where
   pub watches : Watches s W
   pub placed : Placed s P

@@ -22,7 +22,7 @@ fn gather_field(marks: &[u64; 1024], f: usize) -> u32
 }
 
 // The marks of case 0, a number for each field.
-pub fn gather(marks: &[u64; 1024]) -> [u32; 32]
+pub(crate) fn gather(marks: &[u64; 1024]) -> [u32; 32]
     ensures { λ r. ⌜ r ≡ tabulate (λ f. mask codeLimit (domainOf (now (marks .entry)) 0 f)) places 0 ⌝ }
 {
     let mut numbers = [0u32; 32];

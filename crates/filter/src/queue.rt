@@ -20,7 +20,7 @@ fn watch_table(book: &[u8], watch: &mut [u64; 32], at: usize, arity: usize, i: u
 }
 
 // The tables' places, and for each field the word of the tables that have it.
-pub fn survey(book: &[u8], watch: &mut [u64; 32], places: &mut [usize; 64], tables: usize)
+pub(crate) fn survey(book: &[u8], watch: &mut [u64; 32], places: &mut [usize; 64], tables: usize)
     requires { ⌜ SurveyGiven (now book) (now watch) (now places) tables ⌝ }
     ensures { λ r. ⌜ Surveyed (now (book .entry)) (now (watch .exit)) (now (places .exit)) ⌝ }
 {
@@ -37,7 +37,7 @@ pub fn survey(book: &[u8], watch: &mut [u64; 32], places: &mut [usize; 64], tabl
 }
 
 // A queue of the first n tables.
-pub fn first_tables(n: usize) -> u64
+pub(crate) fn first_tables(n: usize) -> u64
     requires { ⌜ n ≤ 64 ⌝ }
     ensures { λ r. ⌜ r ≡ 2 ^ n - 1 ⌝ }
 {
@@ -67,7 +67,7 @@ fn next_table(queue: u64, from: usize) -> usize
 
 // Takes tables out of the queue, round and round, until none is left: each strikes what it does not support, and queues the other
 // tables with a field that lost a mark.
-pub fn propagate(
+pub(crate) fn propagate(
     book: &[u8],
     marks: &mut [u64; 1024],
     watch: &[u64; 32],

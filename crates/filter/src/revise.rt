@@ -14,19 +14,19 @@ use super::support::support;
 use super::support::wide;
 
 // The cases in which each code still looks for a row that supports it, and the number of codes that have such a case.
-pub struct Need {
-    pub cases: [u64; 32],
-    pub waiting: usize,
+struct Need {
+    cases: [u64; 32],
+    waiting: usize,
 }
 
 // The strikes so far, and the tables to look at again.
-pub struct Pass {
-    pub struck: u32,
-    pub queue: u64,
+pub(crate) struct Pass {
+    pub(crate) struck: u32,
+    pub(crate) queue: u64,
 }
 
 // The cases in which each of the k codes of field f stands.
-pub fn looking(marks: &[u64; 1024], f: usize, k: usize) -> Need
+fn looking(marks: &[u64; 1024], f: usize, k: usize) -> Need
     requires { ⌜ (f < 32) × (k ≤ 32) ⌝ }
     ensures { λ r. ⌜ Looks (now (marks .entry)) f k (r .cases) × Counted (r .cases) (r .waiting) ⌝ }
 {
@@ -47,7 +47,7 @@ pub fn looking(marks: &[u64; 1024], f: usize, k: usize) -> Need
 
 // Of the cases looked for, those in which no row of the table supports the code in column j. It stops early where no code
 // needs a row any more.
-pub fn unsupported(book: &[u8], marks: &[u64; 1024], t: Shape, j: usize, need: Need) -> [u64; 32]
+fn unsupported(book: &[u8], marks: &[u64; 1024], t: Shape, j: usize, need: Need) -> [u64; 32]
     requires { ⌜ InTable (now book) t × ((j < t .arity) × Counted (need .cases) (need .waiting)) ⌝ }
     ensures { λ r. ⌜ Unsupported (now (marks .entry)) (tableAt (now (book .entry)) (t .at)) j (need .cases) r ⌝ }
 {
@@ -91,7 +91,7 @@ fn cases_in(word: u64) -> u32
 }
 
 // Strikes the cases `left` of the k codes of field f, and counts them.
-pub fn strike(marks: &mut [u64; 1024], left: &[u64; 32], f: usize, k: usize, s: u32) -> u32
+fn strike(marks: &mut [u64; 1024], left: &[u64; 32], f: usize, k: usize, s: u32) -> u32
     requires { ⌜ (length (now marks) ≡ 1024) × ((f < 32) × ((k ≤ 32) × (s ≤ 1000000))) ⌝ }
     ensures { λ r. ⌜ Struck (now (marks .entry)) (now (marks .exit)) (now (left .entry)) f k s r ⌝ }
 {
@@ -105,7 +105,7 @@ pub fn strike(marks: &mut [u64; 1024], left: &[u64; 32], f: usize, k: usize, s: 
 }
 
 // Strikes each mark of field f that no row of the table supports in column j, f's column; the field has k codes.
-pub fn revise(
+fn revise(
     book: &[u8],
     marks: &mut [u64; 1024],
     t: Shape,
@@ -124,7 +124,7 @@ pub fn revise(
 
 // Revises the columns of table i, which stands at `at`, one after another. The other tables with a field that lost a mark
 // join the queue; table i itself need not, since a row that supports a mark in one column keeps its marks in the others.
-pub fn sweep(
+pub(crate) fn sweep(
     book: &[u8],
     marks: &mut [u64; 1024],
     watch: &[u64; 32],

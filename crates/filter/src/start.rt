@@ -8,13 +8,13 @@ ghost use Rattle.filter.specs.Start.{CasesAre, casesBelow, startWord, St
 use super::support::wide;
 
 // The cases: all of them, and for each field those that relax it.
-pub struct OwnCases {
-    pub words: [u64; 32],
-    pub all: u64,
+pub(crate) struct OwnCases {
+    pub(crate) words: [u64; 32],
+    pub(crate) all: u64,
 }
 
 // Nothing relaxed, then each answered field by itself, in their order.
-pub fn own_cases(answers: [u8; 32], fields: usize) -> OwnCases
+pub(crate) fn own_cases(answers: [u8; 32], fields: usize) -> OwnCases
     requires { ⌜ fields ≤ places ⌝ }
     ensures { λ r. ⌜ CasesAre answers (r .words) (r .all) (casesBelow fields answers) ⌝ }
 {
@@ -73,7 +73,7 @@ fn clear(marks: &mut [u64; 1024])
 }
 
 // All marks that the answers allow, and the count of those that they forbid.
-pub fn start(
+pub(crate) fn start(
     book: &[u8],
     answers: [u8; 32],
     own: &[u64; 32],

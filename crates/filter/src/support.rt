@@ -5,20 +5,20 @@ ghost use Rattle.format.specs.Format.{tableAt};
 ghost use Rattle.filter.specs.Support.{InTable, firstFrom, rowCases};
 
 // A table's place, number of fields, place of its first row, and number of rows.
-pub struct Shape {
-    pub at: usize,
-    pub arity: usize,
-    pub first: usize,
-    pub rows: usize,
+pub(crate) struct Shape {
+    pub(crate) at: usize,
+    pub(crate) arity: usize,
+    pub(crate) first: usize,
+    pub(crate) rows: usize,
 }
 
 // The first supporting row, with the cases that it supports.
-pub enum Found {
+pub(crate) enum Found {
     Row(usize, u64),
     Nothing,
 }
 
-pub fn wide(x: u8) -> usize
+pub(crate) fn wide(x: u8) -> usize
     ensures { λ r. ⌜ r ≡ x ⌝ }
 {
     x as usize
@@ -26,7 +26,7 @@ pub fn wide(x: u8) -> usize
 
 // The first row at or after `from` that supports its own code in column j in at least one of the cases that need[code] asks
 // for, with those cases. A row is given up at its first code that is struck in every case still asked for.
-pub fn support(
+pub(crate) fn support(
     book: &[u8],
     marks: &[u64; 1024],
     need: &[u64; 32],

@@ -1,12 +1,12 @@
 -- Document 01, "When a call is turned down": what an answer says, and what reading a book answers for any bytes. Assumes nothing.
-use Prim.Native.Nat.{ℕ, zero, suc, _+_, _-_, _*_, _%_}
+use Prim.Native.Nat.{ℕ, zero, suc, _+_, _-_, _%_}
 use mathlib.Core.Path.{_≡_}
 use mathlib.Core.List.{List, [], _∷_}
-use mathlib.Core.Bool.{Bool, true, false, _&&_, _||_}
-use lib.ListN.{length, getD, replicate}
+use mathlib.Core.Bool.{Bool, _&&_, _||_}
+use lib.ListN.{length, replicate}
 use lib.Dec.{ltb, leb, eqb}
 use Rattle.format.specs.Basics.{pick, between, firstBad}
-use Rattle.format.specs.Format.{Book, fieldLimit, codeLimit, arityLimit, tableLimit, rowLimit, lengthLimit, closingByte, rowTotal, bookCounts, byte, le16, listPlace, fieldCount, tableCount, versionOf, arityAt, rowsOf, firstRow, tableEnd, bookOf}
+use Rattle.format.specs.Format.{fieldLimit, codeLimit, arityLimit, tableLimit, rowLimit, lengthLimit, closingByte, rowTotal, bookCounts, byte, listPlace, fieldCount, tableCount, versionOf, arityAt, rowsOf, firstRow, tableEnd, bookOf}
 
 -- An answer in the paper's terms. number: 0 if accepted, else the refusal's. "All counts in it are 0" of a refusal
 pub record Outcome : Type 0 where

@@ -1,12 +1,12 @@
 -- Each way through alternatives and plain filtering: the tests passed so far and the one that fails give the refusal, all passed give the
 -- result. A law's name has the refusal's number. Assumes nothing.
-use mathlib.Core.Path.{_≡_, refl, sym, _∙_}
+use mathlib.Core.Path.{_≡_, sym, _∙_}
 use mathlib.Core.List.{List, [], _∷_, _++_}
 use Prim.Native.Nat.{ℕ, _*_, _≤_, _<_}
 use native.Mathlib.Omega.{arith}
 use lib.ListN.{length, getD, set, drop}
 use borrow.Author.Tests.{lt-ltb, le-ltb, eq-eqb, ne-eqb}
-use Rattle.format.specs.Format.{listPlace, bookOf}
+use Rattle.format.specs.Format.{bookOf}
 use Rattle.format.specs.Reading.{fail}
 use Rattle.consistency.specs.Consistency.{places, answer}
 use Rattle.consistency.specs.Counts.{total, struck, lines, lineBytes, masks}
@@ -39,10 +39,6 @@ module _ (bytes s o : List ℕ) where
         on-ready 2 bytes s o _ (p .passes) _ (simp (le-ltb (length o) (2 * total (bookOf bytes) s) room, total-is, d, w))
 
 -- ---- plain filtering
-
--- the field list is where the trailer says
-pub fields-at-list : {bytes : List ℕ} {list fields : ℕ} → FieldsAt bytes list fields → FieldsAt bytes (listPlace bytes) fields
-fields-at-list at = record { passes = at .passes; list-is = refl; fields-is = at .fields-is }
 
 module _ (bytes s a o : List ℕ) {list fields : ℕ} (at : FieldsAt bytes list fields) where
   -- fewer numbers lent than fields

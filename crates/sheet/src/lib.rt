@@ -31,6 +31,21 @@ pub enum Reason {
     Length,
 }
 
+// Document 01's number of a reason.
+pub fn number(reason: Reason) -> u64
+    ensures { λ r. ⌜ r ≡ numberOf reason ⌝ }
+{
+    match reason {
+        Reason::Book(kind) => book::number(kind),
+        Reason::Fault => 14,
+        Reason::Field => 15,
+        Reason::Code => 16,
+        Reason::NoAnswer => 17,
+        Reason::Room => 18,
+        Reason::Length => 19,
+    }
+}
+
 // The answer of a call that counts nothing: a refusal has its reason and its place.
 pub enum Answer {
     Done,
@@ -101,7 +116,12 @@ impl Sheet {
         let opened = opened::open(book, places);
         match opened {
             Opened::Turned(reason, place) => refuse(self, reason, place),
-            Opened::Ready { list, fields } => {
+            Opened::Ready {
+                list,
+                fields,
+                tables: _,
+                rows: _,
+            } => {
                 let f = field as usize;
                 if fields <= f {
                     return refuse(self, Reason::Field, 0);
@@ -127,7 +147,12 @@ impl Sheet {
         let opened = opened::open(book, places);
         match opened {
             Opened::Turned(reason, place) => refuse(self, reason, place),
-            Opened::Ready { list: _, fields } => {
+            Opened::Ready {
+                list: _,
+                fields,
+                tables: _,
+                rows: _,
+            } => {
                 let f = field as usize;
                 if fields <= f {
                     return refuse(self, Reason::Field, 0);
@@ -153,9 +178,14 @@ impl Sheet {
         let opened = opened::open(book, places);
         match opened {
             Opened::Turned(reason, place) => refuse(self, reason, place),
-            Opened::Ready { list: _, fields } => {
+            Opened::Ready {
+                list,
+                fields,
+                tables,
+                rows,
+            } => {
                 if relaxed == 255 {
-                    return masks::write_masks(self, book, places, fields, out);
+                    return masks::write_masks(self, book, list, fields, tables, rows, places, out);
                 }
                 let f = relaxed as usize;
                 if fields <= f {
@@ -166,7 +196,7 @@ impl Sheet {
                 }
                 let mut answers = places;
                 answers[f] = 255;
-                masks::write_masks(self, book, answers, fields, out)
+                masks::write_masks(self, book, list, fields, tables, rows, answers, out)
             }
         }
     }
@@ -179,9 +209,22 @@ impl Sheet {
         let opened = opened::open(book, places);
         match opened {
             Opened::Turned(reason, place) => refuse_list(self, reason, place),
-            Opened::Ready { list, fields } => {
+            Opened::Ready {
+                list,
+                fields,
+                tables,
+                rows,
+            } => {
                 let mut marks = [0u64; 1024];
-                let struck = filter::one_pass(book, &places, &mut marks);
+                let struck = filter::one_pass(
+                    book,
+                    list,
+                    fields,
+                    tables,
+                    rows,
+                    &places,
+                    &mut marks,
+                );
                 let total = lists::count_lines(book, places, &marks, list, fields);
                 let needed = 2 * total;
                 if out.len() < needed {
@@ -207,7 +250,12 @@ impl Sheet {
         let opened = opened::open(book, places);
         match opened {
             Opened::Turned(reason, place) => refuse(self, reason, place),
-            Opened::Ready { list: _, fields } => {
+            Opened::Ready {
+                list: _,
+                fields,
+                tables: _,
+                rows: _,
+            } => {
                 if out.len() < fields {
                     return refuse(self, Reason::Room, 0);
                 }
@@ -227,7 +275,7 @@ pub fn load(book: &[u8], form: &[u8]) -> Handed
 {
     let checked = book::check(book);
     match checked {
-        Checked::Bad(kind, place) => refuse(Sheet::fresh(), Reason::Book(kind), place),
+        Checked::Refused(kind, place) => refuse(Sheet::fresh(), Reason::Book(kind), place),
         Checked::Good {
             list,
             fields,

@@ -8,47 +8,54 @@ use borrow.Author.Needs.{needs}
 use native.Mathlib.Omega.{arith}
 use Rattle.book.proofs.different.is_repeated.Statement.{statement}
 use Rattle.book.proofs.different.is_repeated.Tie as tie
-use Rattle.book.proofs.different.is_repeated.Reads as reads
-use Rattle.book.proofs.different.is_repeated.Lts as lts
-use Rattle.book.proofs.different.same_row.Reads as same-row-reads
 
 abbrev Inv-loop : tie.InvT-loop
-Inv-loop s p q a n y₀ left₀ y left = (y + left * a ≤ length s) × (isIn (part s p a) (rowsAt s a y left) ≡ isIn (part s p a) (rowsAt s a q n))
+Inv-loop book p q arity count y₀ left₀ y left = (y + left * arity ≤ length book)
+    × (isIn (part book p arity) (rowsAt book arity y left) ≡ isIn (part book p arity) (rowsAt book arity q count))
 
 abbrev μ-loop : tie.MeasureT-loop
-μ-loop s p q a n y₀ left₀ y left = left
+μ-loop book p q arity count y₀ left₀ y left = left
 
--- src/different.rt:36:5
 loop-holds : tie.Need-loop-holds Inv-loop μ-loop
 loop-holds c = (c .before .pre .1, refl)
 
--- src/different.rt:37:12
 same-row-requires : tie.Need-same-row-requires Inv-loop μ-loop
-same-row-requires c κs = (c .before .before .before .pre .0, omega (arith, one-less (c .before .loop .left) (c .before .before .before .args .a) (c .loop-test .taken)))
+same-row-requires c κs =
+    let l = c .before .before .before in
+    (l .pre .0, omega (arith, one-less (c .before .loop .left) (l .args .arity) (c .loop-test .taken)))
 
--- src/different.rt:38:13
 returns : tie.Need-returns Inv-loop μ-loop
-returns c = repeat-yes (c .before .before .before .before .before .args .s .now) _ (c .before .before .before .before .before .args .a) (c .before .before .before .loop .y) _ (c .before .before .loop-test .taken) _ (c .before .same-row .ensures) (c .if1 .taken) ∙ c .before .before .before .loop .inv .1
+returns c =
+    let l = c .before .before .before in
+    let a = (l .before .before .args) in
+    repeat-yes (a .book .now) _ (a .arity) (l .loop .y) _ (c .before .before .loop-test .taken) _ (c .before .same-row .ensures) (c .if1 .taken)
+    ∙ l .loop .inv .1
 
--- src/different.rt:40:9
 add-y : tie.Need-add-y Inv-loop μ-loop
-add-y c = omega (arith, one-less (c .before .before .before .loop .left) (c .before .before .before .before .before .args .a) (c .before .before .loop-test .taken))
+add-y c =
+    let l = c .before .before .before in
+    omega (arith, one-less (l .loop .left) (l .before .before .args .arity) (c .before .before .loop-test .taken))
 
--- src/different.rt:41:9
 sub-left : tie.Need-sub-left Inv-loop μ-loop
 sub-left c = search needs
 
--- src/different.rt:36:5
 loop-less : tie.Need-loop-less Inv-loop μ-loop
 loop-less c = search needs
 
--- src/different.rt:36:5
 loop-again : tie.Need-loop-again Inv-loop μ-loop
-loop-again c = (omega (arith, one-less (c .before .before .before .loop .left) (c .before .before .before .before .before .args .a) (c .before .before .loop-test .taken)), repeat-on (c .before .before .before .before .before .args .s .now) _ (c .before .before .before .before .before .args .a) (c .before .before .before .loop .y) _ (c .before .before .loop-test .taken) _ (c .before .same-row .ensures) (c .if1 .left) ∙ c .before .before .before .loop .inv .1)
+loop-again c =
+    let l = c .before .before .before in
+    let a = (l .before .before .args) in
+    let n = one-less (l .loop .left) (a .arity) (c .before .before .loop-test .taken) in (
+      omega arith,
+      repeat-on (a .book .now) _ (a .arity) (l .loop .y) _ (c .before .before .loop-test .taken) _ (c .before .same-row .ensures) (c .if1 .left)
+          ∙ l .loop .inv .1,
+    )
 
--- src/different.rt:30:1
 returns-2 : tie.Need-returns-2 Inv-loop μ-loop
-returns-2 c = repeat-end (c .before .before .before .args .s .now) _ (c .before .before .before .args .a) (c .before .loop .y) _ (c .loop-test .left) ∙ c .before .loop .inv .1
+returns-2 c =
+    let l = c .before .before .before in
+    repeat-end (l .args .book .now) _ (l .args .arity) (c .before .loop .y) _ (c .loop-test .left) ∙ c .before .loop .inv .1
 
 pub is-repeated-spec : {M : Type 1} → statement M
 is-repeated-spec =

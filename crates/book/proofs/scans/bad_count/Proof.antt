@@ -6,51 +6,49 @@ use Rattle.format.specs.Reading.{countOk}
 use Rattle.format.proofs.Scans.{bad-on, bad-here, bad-none}
 use Rattle.book.proofs.Turns.{count-none, count-many, count-good}
 use borrow.Author.Needs.{needs}
-use native.Mathlib.Omega.{arith}
 use Rattle.book.proofs.scans.bad_count.Statement.{statement}
 use Rattle.book.proofs.scans.bad_count.Tie as tie
-use Rattle.book.proofs.scans.bad_count.Reads as reads
-use Rattle.book.proofs.scans.bad_count.Lts as lts
 
 abbrev Inv-loop : tie.InvT-loop
-Inv-loop s list end i₀ i = (i ≤ end) × (firstBad (countOk s) i end ≡ firstBad (countOk s) list end)
+Inv-loop book list end i₀ i = (i ≤ end) × (firstBad (countOk book) i end ≡ firstBad (countOk book) list end)
 
 abbrev μ-loop : tie.MeasureT-loop
-μ-loop s list end i₀ i = end - i
+μ-loop book list end i₀ i = end - i
 
--- src/scans.rt:18:5
 loop-holds : tie.Need-loop-holds Inv-loop μ-loop
 loop-holds c = (search needs, refl)
 
--- src/scans.rt:19:12
 shared-slice-read-if1 : tie.Need-shared-slice-read-if1 Inv-loop μ-loop
 shared-slice-read-if1 c = search needs
 
--- src/scans.rt:20:13
 returns : tie.Need-returns Inv-loop μ-loop
-returns c = bad-here _ _ _ (c .before .before .loop-test .taken) (count-none (c .before .before .before .before .args .s .now) _ (c .if1 .taken)) ∙ c .before .before .before .loop .inv .1
+returns c =
+    let l = c .before .before .before in
+    bad-here _ _ _ (c .before .before .loop-test .taken) (count-none (l .before .args .book .now) _ (c .if1 .taken)) ∙ l .loop .inv .1
 
--- src/scans.rt:22:25
 shared-slice-read-if2 : tie.Need-shared-slice-read-if2 Inv-loop μ-loop
 shared-slice-read-if2 c = search needs
 
--- src/scans.rt:23:13
 returns-2 : tie.Need-returns-2 Inv-loop μ-loop
-returns-2 c = bad-here _ _ _ (c .before .before .before .before .loop-test .taken) (count-many (c .before .before .before .before .before .before .args .s .now) _ (c .before .before .if1 .left) (c .if2 .taken)) ∙ c .before .before .before .before .before .loop .inv .1
+returns-2 c =
+    let l = c .before .before .before .before in
+    bad-here _ _ _ (l .loop-test .taken) (count-many (l .before .before .args .book .now) _ (c .before .before .if1 .left) (c .if2 .taken)) ∙
+    l .before .loop .inv .1
 
--- src/scans.rt:25:9
 add-i : tie.Need-add-i Inv-loop μ-loop
 add-i c = search needs
 
--- src/scans.rt:18:5
 loop-less : tie.Need-loop-less Inv-loop μ-loop
 loop-less c = search needs
 
--- src/scans.rt:18:5
 loop-again : tie.Need-loop-again Inv-loop μ-loop
-loop-again c = (search needs, bad-on _ _ _ (c .before .before .before .before .loop-test .taken) (count-good (c .before .before .before .before .before .before .args .s .now) _ (c .before .before .if1 .left) (c .if2 .left)) ∙ c .before .before .before .before .before .loop .inv .1)
+loop-again c =
+    let l = c .before .before .before .before in (
+      search needs,
+      bad-on _ _ _ (l .loop-test .taken)
+          (count-good (l .before .before .args .book .now) _ (c .before .before .if1 .left) (c .if2 .left)) ∙ l .before .loop .inv .1,
+    )
 
--- src/scans.rt:13:1
 returns-3 : tie.Need-returns-3 Inv-loop μ-loop
 returns-3 c = bad-none _ _ _ (c .loop-test .left) ∙ c .before .loop .inv .1
 

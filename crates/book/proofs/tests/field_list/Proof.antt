@@ -1,26 +1,18 @@
 -- `book::tests::field_list` meets its contract: both ways through the test. Assumes nothing.
 use Rattle.format.proofs.Refusals.{list-7-count, list-pass}
 use borrow.Author.Needs.{needs}
-use native.Mathlib.Omega.{arith}
 use Rattle.book.proofs.tests.field_list.Statement.{statement}
 use Rattle.book.proofs.tests.field_list.Tie as tie
-use Rattle.book.proofs.tests.field_list.Reads as reads
-use Rattle.book.proofs.tests.field_list.Lts as lts
-use Rattle.book.proofs.scans.bad_count.Reads as bad-count-reads
 
--- src/tests.rt:85:15
 add-end : tie.Need-add-end
 add-end c = search needs
 
--- src/tests.rt:86:9
 bad-count-requires : tie.Need-bad-count-requires
 bad-count-requires c κs = search needs
 
--- src/tests.rt:88:9
 returns : tie.Need-returns
 returns c = list-7-count _ _ _ _ (c .before .bad-count .ensures) (c .if1 .taken)
 
--- src/tests.rt:81:1
 returns-2 : tie.Need-returns-2
 returns-2 c = list-pass _ _ _ _ (c .before .bad-count .ensures) (c .if1 .left)
 

@@ -1,6 +1,5 @@
 -- `filter::queue::propagate` meets its contract. The invariant: a table that is not in the queue supports every mark that stands, in every
 -- case. The measure: 65 for each mark that stands, and the tables in the queue. Assumes nothing.
-use mathlib.Core.Path.{refl}
 use Prim.Native.Nat.{_<_}
 use Rattle.format.specs.Format.{bookOf}
 use Rattle.filter.proofs.Propagation.{PropagatedTo, size, index-small, propagated-none, sweep-asks, propagated-more, propagated-less, propagated-all}

@@ -1,6 +1,5 @@
 -- `filter::queue::watch_table` meets its contract. The invariant: the table has been added to the words of the fields passed. Assumes nothing.
-use mathlib.Core.Path.{_≡_, refl}
-use Prim.Native.Nat.{ℕ, _≤_, _-_}
+use Prim.Native.Nat.{_≤_, _-_}
 use Rattle.filter.specs.Queue.{Watched}
 use Rattle.filter.proofs.Surveys.{watched-none, field-read, index-small, field-small, watched-more, watched-all}
 use borrow.Author.Needs.{needs}
