@@ -5,6 +5,7 @@ pub mod CallLists
 pub mod Listing
 pub mod Cases
 pub mod AlikeCalls
+pub mod Examples
 pub mod Written
 pub mod Condition3
 pub mod Condition1

@@ -23,13 +23,13 @@ use Rattle.calls.proofs.Sheets.{accepted-within}
 -- ---- what an accepted call says
 
 -- of a load: the book passes, the form has a byte a field, and no place of the sheet read is at fault
-record Loads (bytes form : List ℕ) (r : Result) : Type 0 where
-  passes : verdict bytes ≡ pass
-  whole : length form ≡ length (bookOf bytes .counts)
-  no-fault : places ≤ faultOf (bookOf bytes) (sheetFrom form)
-  result : r ≡ done [] (sheetFrom form) []
+pub record Loads (bytes form : List ℕ) (r : Result) : Type 0 where
+  pub passes : verdict bytes ≡ pass
+  pub whole : length form ≡ length (bookOf bytes .counts)
+  pub no-fault : places ≤ faultOf (bookOf bytes) (sheetFrom form)
+  pub result : r ≡ done [] (sheetFrom form) []
 
-load-accepted : (bytes form : List ℕ) → loaded bytes form .outcome .number ≡ 0 → Loads bytes form (loaded bytes form)
+pub load-accepted : (bytes form : List ℕ) → loaded bytes form .outcome .number ≡ 0 → Loads bytes form (loaded bytes form)
 unfolding loaded
 load-accepted bytes form =
     let n : ℕ = length (bookOf bytes .counts) in

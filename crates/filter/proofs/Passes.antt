@@ -47,9 +47,11 @@ module _ (s a own : List ℕ) (all : ℕ) (g : RunGiven s a own all) (list field
   start-given = record { promise = g .promise; list-is = h .list-is; fields-is = h .fields-is; within = own-within (g .are) }
 
   module _ (M W P : List ℕ) (r d : ℕ) (x : Started (bookOf s) a own all M r) (w : Surveyed s W P) (de : d ≡ 2 ^ tables - 1) where
+    -- the queue has the book's tables
     queue-bit : (i : ℕ) → bit d i ≡ ltb i (tableCount s)
     queue-bit i = ap (λ (z : ℕ). bit z i) de ∙ low-bits tables i ∙ ap (ltb i) (h .tables-is)
 
+    -- at most 64 cases, 32 fields and 32 codes each
     cases-few : ones all ≤ 64
     cases-few = subst (λ (z : ℕ). z ≤ 64) (sym (ap ones (g .are .all-is) ∙ ones-ones (length (g .cases)))) (g .are .few)
 
@@ -90,6 +92,7 @@ module _ (s a own : List ℕ) (all fields : ℕ) (p : Promise s) (fe : fields �
   pub one-pass-given : RunGiven s a own all
   one-pass-given = record { promise = p; cases = casesBelow fields a; are = x }
 
+  -- the book's number of fields is the trailer's
   are-cases : CasesAre a own all (casesOf (bookOf s) a)
   are-cases = subst (λ (n : ℕ). CasesAre a own all (casesBelow n a)) (fe ∙ sym (counts-count s (p .whole))) x
 
@@ -107,6 +110,7 @@ module _ (s a own : List ℕ) (p : Promise s) (z : (f : ℕ) → getD own f 0 �
   plain-given = record { promise = p; cases = a ∷ []; are = one-case a own z }
 
   module _ (N : List ℕ) (r : ℕ) (y : Ran (bookOf s) a own 1 N r) where
+    -- each field's number
     number-is : (f : ℕ) → f < places → maskOf N f ≡ mask codeLimit (largest (bookOf s) a f)
     number-is f l =
         mask-ext codeLimit (domainOf N 0 f) (largest (bookOf s) a f)

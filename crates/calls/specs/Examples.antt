@@ -1,0 +1,87 @@
+-- Document 01, "Examples to hold": E1 to E8 as one table. Assumes nothing.
+use Prim.Native.Nat.{ℕ}
+use mathlib.Core.Path.{_≡_}
+use mathlib.Core.List.{List, [], _∷_, map}
+use mathlib.Core.Bool.{Bool, true, false, _&&_}
+use lib.ListN.{length, getD, replicate}
+use Rattle.format.specs.Format.{Table, Book, encode, isIn}
+use Rattle.format.specs.Reading.{Outcome, refused, accepted, reading}
+use Rattle.format.specs.Examples.{e1}
+use Rattle.calls.specs.Calls.{loaded, filtered, alternatives}
+
+-- the rows of a table that makes two fields of two codes differ
+abbrev pub differing : List (List ℕ)
+differing = (0 ∷ 1 ∷ []) ∷ (1 ∷ 0 ∷ []) ∷ []
+
+-- E4: "three fields of two codes, three tables making each pair differ"
+abbrev pub e4 : Book
+e4 =
+    record {
+      version = 1;
+      counts = 2 ∷ 2 ∷ 2 ∷ [];
+      tables = record { fields = 0 ∷ 1 ∷ []; rows = differing } ∷ record { fields = 0 ∷ 2 ∷ []; rows = differing } ∷ record { fields = 1 ∷ 2 ∷ []; rows = differing } ∷ [];
+    }
+
+-- E6: "two fields of two codes; one table, on field 1, with no rows"
+abbrev pub e6 : Book
+e6 = record { version = 1; counts = 2 ∷ 2 ∷ []; tables = record { fields = 1 ∷ []; rows = [] } ∷ [] }
+
+abbrev pub e7 : List ℕ
+e7 = 1 ∷ 0 ∷ 0 ∷ 1 ∷ 0 ∷ 1 ∷ 229 ∷ []
+
+-- "E7 without its last byte"
+abbrev pub e8 : List ℕ
+e8 = 1 ∷ 0 ∷ 0 ∷ 1 ∷ 0 ∷ 1 ∷ []
+
+-- a book's bytes and a stored sheet; what reading answers; the standing codes as plain filtering's numbers; the lines' bytes; and total
+-- and struck, or the refusal
+pub record Example : Type 0 where
+  pub book : List ℕ
+  pub form : List ℕ
+  pub read : Outcome
+  pub standing : List ℕ
+  pub pairs : List ℕ
+  pub listing : Outcome
+
+abbrev pub examples : List Example
+examples =
+    record { book = e1; form = 0 ∷ 1 ∷ 255 ∷ []; read = accepted (3 ∷ 2 ∷ 8 ∷ 7 ∷ []); standing = 1 ∷ 2 ∷ 2 ∷ []; pairs = 0 ∷ 0 ∷ 0 ∷ 1 ∷ 1 ∷ 0 ∷ 1 ∷ 1 ∷ []; listing = accepted (4 ∷ 11 ∷ []) }
+    ∷ record { book = e1; form = 1 ∷ 0 ∷ 255 ∷ []; read = accepted (3 ∷ 2 ∷ 8 ∷ 7 ∷ []); standing = 0 ∷ 0 ∷ 0 ∷ []; pairs = 0 ∷ 0 ∷ 1 ∷ 1 ∷ 1 ∷ 2 ∷ []; listing = accepted (3 ∷ 17 ∷ []) }
+    ∷ record { book = e1; form = 255 ∷ 255 ∷ 255 ∷ []; read = accepted (3 ∷ 2 ∷ 8 ∷ 7 ∷ []); standing = 3 ∷ 7 ∷ 7 ∷ []; pairs = []; listing = accepted (0 ∷ 0 ∷ []) }
+    ∷ record { book = encode e4; form = 255 ∷ 255 ∷ 255 ∷ []; read = accepted (3 ∷ 3 ∷ 6 ∷ 6 ∷ []); standing = 3 ∷ 3 ∷ 3 ∷ []; pairs = []; listing = accepted (0 ∷ 0 ∷ []) }
+    ∷ record { book = encode e4; form = 0 ∷ 255 ∷ 255 ∷ []; read = accepted (3 ∷ 3 ∷ 6 ∷ 6 ∷ []); standing = 0 ∷ 0 ∷ 0 ∷ []; pairs = 0 ∷ 0 ∷ 0 ∷ 1 ∷ []; listing = accepted (2 ∷ 6 ∷ []) }
+    ∷ record { book = encode e6; form = 0 ∷ 255 ∷ []; read = accepted (2 ∷ 1 ∷ 0 ∷ 0 ∷ []); standing = 1 ∷ 0 ∷ []; pairs = 0 ∷ 0 ∷ 0 ∷ 1 ∷ []; listing = accepted (2 ∷ 5 ∷ []) }
+    ∷ record { book = e7; form = 0 ∷ []; read = accepted (1 ∷ 0 ∷ 0 ∷ 0 ∷ []); standing = 1 ∷ []; pairs = 0 ∷ 0 ∷ []; listing = accepted (1 ∷ 0 ∷ []) }
+    ∷ record { book = e8; form = 0 ∷ []; read = refused 4 2 5; standing = []; pairs = []; listing = refused 2 2 5 }
+    ∷ []
+
+-- the row as the calls answer it: plain filtering into numbers that were 9, alternatives into bytes that were 9
+abbrev pub answered : Example → Example
+answered e =
+    record {
+      book = e .book;
+      form = e .form;
+      read = reading (e .book);
+      standing = filtered (e .book) (loaded (e .book) (e .form) .sheet) 255 (replicate (length (e .standing)) 9) .buffer;
+      pairs = alternatives (e .book) (loaded (e .book) (e .form) .sheet) (replicate (length (e .pairs)) 9) .buffer;
+      listing = alternatives (e .book) (loaded (e .book) (e .form) .sheet) (replicate (length (e .pairs)) 9) .outcome;
+    }
+
+abbrev pub ExamplesHold : Type 0
+ExamplesHold = map answered examples ≡ examples
+
+-- "no full reading exists": a reading of three fields is full when each table has the row of its codes for the table's fields
+abbrev pub rowFor : List ℕ → List ℕ → List ℕ
+rowFor reading [] = []
+rowFor reading (f ∷ fs) = getD reading f 0 ∷ rowFor reading fs
+
+abbrev pub isFull : List Table → List ℕ → Bool
+isFull [] reading = true
+isFull (t ∷ ts) reading = isIn (rowFor reading (t .fields)) (t .rows) && isFull ts reading
+
+abbrev pub readingsOfE4 : List (List ℕ)
+readingsOfE4 =
+    (0 ∷ 0 ∷ 0 ∷ []) ∷ (0 ∷ 0 ∷ 1 ∷ []) ∷ (0 ∷ 1 ∷ 0 ∷ []) ∷ (0 ∷ 1 ∷ 1 ∷ []) ∷ (1 ∷ 0 ∷ 0 ∷ []) ∷ (1 ∷ 0 ∷ 1 ∷ []) ∷ (1 ∷ 1 ∷ 0 ∷ []) ∷ (1 ∷ 1 ∷ 1 ∷ []) ∷ []
+
+abbrev pub NoneFull : Type 0
+NoneFull = map (isFull (e4 .tables)) readingsOfE4 ≡ replicate 8 false

@@ -1,0 +1,16 @@
+pub mod E1Text
+pub mod Digits
+pub mod Writing
+pub mod Numbers
+pub mod Lines
+pub mod Turns
+pub mod Places
+pub mod Pieces
+pub mod OpenLines
+pub mod Counts
+pub mod Sizes
+pub mod SheetPart
+pub mod Contents
+pub mod Texts
+pub mod HeldTexts
+pub mod Printing

@@ -1,0 +1,62 @@
+-- Copying the text to the buffer where it fits, and reading it there. Assumes nothing.
+use mathlib.Core.Path.{_≡_, sym, ap, _∙_}
+use mathlib.Core.Bool.{Bool, true}
+use mathlib.Core.List.{List, _++_}
+use Prim.Native.Nat.{ℕ, _+_, _≤_, _<_}
+use native.Mathlib.Nat.{zero-add}
+use native.Mathlib.Omega.{arith}
+use borrow.Author.Tests.{le-leb, lt-leb}
+use lib.ListN.{length, take, drop, length-append}
+use lib.Seq.{sets, sets-eq, take-at}
+use lib.Dec.{leb}
+use Rattle.format.specs.Basics.{pick}
+use Rattle.report.specs.Report.{Printing, printing, shown}
+use Rattle.report.specs.Writes.{Puts}
+use Rattle.report.specs.declared.Printed.{Printed}
+use Rattle.report.specs.declared.Printed.the-variants.{Written, TooShort}
+
+-- what is written at the start of a buffer stands before what the buffer keeps
+from-start : (o text : List ℕ) → length text ≤ length o → sets o 0 text ≡ text ++ drop (length text) o
+from-start o text l =
+    let e : 0 + length text ≡ length text = zero-add (length text) in
+    sets-eq text o 0 (omega arith) ∙ ap (λ (k : ℕ). text ++ drop k o) e
+
+-- the text, composed in a buffer z with room for it
+module _ (text z z′ : List ℕ) (n : ℕ) (p : Puts z 0 text z′ n) where
+  size : n ≡ length text
+  size = p .behind ∙ zero-add (length text)
+
+  -- it does not fit in o
+  pub too-short : (o : List ℕ) → length o < n → shown (TooShort n) o ≡ printing text o
+  unfolding printing
+  too-short o l = rw (size, lt-leb (length text) (length o) (omega (arith, size)))
+
+  module _ (room : length text ≤ length z) where
+    -- its first n bytes are the text
+    composed : take n z′ ≡ text
+    composed = ap (take n) (p .written ∙ from-start z text room) ∙ take-at text (drop (length text) z) n (sym size)
+
+    -- so there are n of them
+    pub composed-length : n ≡ length (take n z′)
+    composed-length = size ∙ ap length (sym composed)
+
+    -- it fits, and is copied
+    pub copied : (o o′ : List ℕ) (r : ℕ) → n ≤ length o → Puts o 0 (take n z′) o′ r → shown (Written n) o′ ≡ printing text o
+    unfolding printing
+    copied o o′ r l q =
+        let l′ : length text ≤ length o = omega (arith, size) in
+        let e : o′ ≡ text ++ drop (length text) o = q .written ∙ ap (λ (t : List ℕ). sets o 0 t) composed ∙ from-start o text l′ in
+        rw (size, e, le-leb (length text) (length o) l′)
+
+-- a text that was written stands at the start of the buffer: what a caller that reads it there needs
+pub written-counts : (text o o′ : List ℕ) (r : Printed) (n : ℕ) → r ≡ Written n → shown r o′ ≡ printing text o
+    → (n ≤ length o′) × (n ≡ length (take n o′))
+unfolding printing
+written-counts text o o′ r n w h =
+    let e : shown (Written n) o′ ≡ printing text o = sym (ap (λ (x : Printed). shown x o′) w) ∙ h in
+    let long : n ≡ length text = ap (λ (p : Printing). p .size) e in
+    let fits : leb (length text) (length o) ≡ true = sym (ap (λ (p : Printing). p .fits) e) in
+    let whole : o′ ≡ text ++ drop (length text) o =
+    ap (λ (p : Printing). p .buffer) e ∙ ap (λ (t : Bool). pick t (text ++ drop (length text) o) o) fits in
+    let first : take n o′ ≡ text = ap (take n) whole ∙ take-at text (drop (length text) o) n (sym long) in
+    (omega (arith, ap length whole, length-append text (drop (length text) o)), long ∙ ap length (sym first))

@@ -1,0 +1,57 @@
+-- What report leaves, and what the printed lines say: "the open lines are exactly the unanswered fields' codes in the largest arc-consistent subdomain", each once, by
+-- field then code; the header's total is the number of alt lines. And how long a text can be. Assumes nothing.
+use Prim.Native.Nat.{ℕ, _≤_, _<_}
+use mathlib.Core.Path.{_≡_}
+use mathlib.Core.Logic.{_↔_}
+use mathlib.Core.Bool.{Bool, true, false, not}
+use mathlib.Core.List.{List, _++_}
+use lib.ListN.{length, drop}
+use lib.Dec.{T, leb}
+use Rattle.format.specs.Basics.{pick}
+use Rattle.format.specs.Format.{Book}
+use Rattle.consistency.specs.Consistency.{Subdomain, IsLargest}
+use Rattle.consistency.specs.Counts.{answered, Line, lines, total}
+use Rattle.consistency.specs.Order.{In, InOrder}
+use Rattle.report.specs.Text.{openLines, reportText}
+use Rattle.report.specs.declared.Printed.{Printed}
+use Rattle.report.specs.declared.Printed.the-variants.{Written, TooShort}
+
+-- "Each open: unanswered field and standing code, by field then code": whatever S is the largest, its codes and no others
+pub record ShowsOpen (b : Book) (s : List ℕ) (ls : List Line) : Type 0 where
+  pub in-order : InOrder ls
+  pub exactly : (S : Subdomain) → IsLargest b s S
+      → (l : Line) → In l ls ↔ ((l .field < length (b .counts)) × (T (not (answered s (l .field))) × T (S (l .field) (l .code))))
+
+abbrev pub OpenLinesAre : Type 0
+OpenLinesAre = (b : Book) (s : List ℕ) → ShowsOpen b s (openLines b s)
+
+-- "Sheet: answered fields, total, struck. Each alt: field, code": the total printed is the number of alt lines printed
+abbrev pub TotalIsLines : Type 0
+TotalIsLines = (b : Book) (s : List ℕ) → total b s ≡ length (lines b s)
+
+-- the most bytes of a text: "book 32 64 4096 4096", "sheet 32 1024 33792", and 1,024 lines such as "open 31 31", each with its newline
+abbrev pub textLimit : ℕ
+textLimit = 11305
+
+abbrev pub TextFits : Type 0
+TextFits = (bytes form : List ℕ) → length (reportText bytes form) ≤ textLimit
+
+-- what report leaves: whether the text fits in the buffer, how long it is, and the buffer's contents
+pub record Printing : Type 0 where
+  pub fits : Bool
+  pub size : ℕ
+  pub buffer : List ℕ
+
+-- a text that fits stands before what o keeps; one that does not leaves o as it was
+unfoldable pub printing : List ℕ → List ℕ → Printing
+printing text o =
+    record {
+      fits = leb (length text) (length o);
+      size = length text;
+      buffer = pick (leb (length text) (length o)) (text ++ drop (length text) o) o;
+    }
+
+-- the answer of report, with the buffer's contents
+abbrev pub shown : Printed → List ℕ → Printing
+shown (Written n) o = record { fits = true; size = n; buffer = o }
+shown (TooShort n) o = record { fits = false; size = n; buffer = o }

@@ -1,0 +1,92 @@
+// The whole text that the desk prints. Document 01, "Examples to hold".
+ghost use mathlib.Core.Path.{_≡_};
+ghost use Prim.Native.Nat.{_≤_};
+ghost use lib.ListN.{length};
+ghost use Rattle.format.specs.Format.{bookOf};
+ghost use Rattle.report.specs.Text.{sheetText, reportText};
+ghost use Rattle.report.specs.Report.{textLimit, printing, shown};
+ghost use Rattle.report.specs.Writes.{Room, Puts};
+ghost use Rattle.report.specs.Opens.{Stands};
+use book::Reading;
+use sheet::Answer;
+use sheet::Listing;
+use sheet::Sheet;
+
+mod lists;
+mod parts;
+mod writers;
+
+// No text is longer.
+const TEXT_LIMIT: usize = 11305;
+
+// As many alternatives as a book has codes, two bytes each.
+const PAIR_BYTES: usize = 2048;
+
+const FIELDS: usize = 32;
+
+const NONE_RELAXED: u8 = 255;
+
+// The text's length, and whether it was written.
+pub enum Printed {
+    Written(usize),
+    TooShort(usize),
+}
+
+// The sheet's line, the lines of alternatives and the open lines, of a book and a sheet that pass.
+fn put_held(out: &mut [u8], at: usize, book: &[u8], held: Sheet, fields: usize) -> usize
+    requires { ⌜ Stands (now book) (held .places) fields × Room (now out) at (sheetText (held .places) (bookOf (now book))) ⌝ }
+    ensures { λ r. ⌜ Puts (now (out .entry)) at (sheetText (held .places) (bookOf (now (book .entry)))) (now (out .exit)) r ⌝ }
+{
+    let mut pairs = [0; PAIR_BYTES];
+    let mut masks = [0; FIELDS];
+    let listed = held.alternatives(book, &mut pairs);
+    held.filtered(book, NONE_RELAXED, &mut masks);
+    let places = held.places;
+    let listing = listed.answer;
+    match listing {
+        // never: the book and the sheet pass, and there is room for all pairs
+        Listing::Unlisted(_, _) => at,
+        Listing::Listed { total, struck } => parts::put_sheet(out, at, &places, fields, &pairs, total, struck as usize, &masks),
+    }
+}
+
+// Writes the text at the start of a buffer that has room for any.
+fn put_text(out: &mut [u8], book: &[u8], form: &[u8]) -> usize
+    requires { ⌜ textLimit ≤ length (now out) ⌝ }
+    ensures { λ r. ⌜ Puts (now (out .entry)) 0 (reportText (now (book .entry)) (now (form .entry))) (now (out .exit)) r ⌝ }
+{
+    let reading = book::read(book);
+    match reading {
+        Reading::Refused(kind, place) => parts::put_refused(out, book::number(kind) as usize, place),
+        Reading::Accepted {
+            fields,
+            tables,
+            rows,
+            different,
+        } => {
+            let loaded = sheet::load(book, form);
+            let answer = loaded.answer;
+            let held = loaded.sheet;
+            match answer {
+                Answer::Refused(reason, place) => parts::put_refused(out, sheet::number(reason) as usize, place),
+                Answer::Done => {
+                    let at = parts::put_book(out, fields, tables, rows, different);
+                    put_held(out, at, book, held, fields)
+                }
+            }
+        }
+    }
+}
+
+// Prints what the desk says of a book and of a stored sheet. A text that does not fit is not written.
+pub fn report(book: &[u8], form: &[u8], out: &mut [u8]) -> Printed
+    ensures { λ r. ⌜ shown r (now (out .exit)) ≡ printing (reportText (now (book .entry)) (now (form .entry))) (now (out .entry)) ⌝ }
+{
+    let mut text = [0; TEXT_LIMIT];
+    let length = put_text(&mut text, book, form);
+    if out.len() < length {
+        return Printed::TooShort(length);
+    }
+    writers::put_word(out, 0, &text[..length]);
+    Printed::Written(length)
+}
