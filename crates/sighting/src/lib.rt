@@ -7,10 +7,13 @@ ghost use Prim.Native.Nat.{ℕ};
 ghost use Rattle.format.specs.Reading.{reading};
 ghost use Rattle.calls.specs.Calls.{freshSheet, cleared, entered, withdrawn, filtered, alternatives, loaded, stored};
 ghost use Rattle.calls.specs.Histories.{sheetAfter, callsIn};
-ghost use Rattle.sighting.specs.Exported.{Tells, Exports};
+ghost use Rattle.report.specs.Report.{printing};
+ghost use Rattle.report.specs.Text.{reportText};
+ghost use Rattle.sighting.specs.Exported.{Tells, Exports, Prints};
 use book::Reading;
 use handed::hand;
 use handed::hand_list;
+use report::Printed;
 use sheet::Sheet;
 
 mod handed;
@@ -163,4 +166,27 @@ pub extern "C" fn sighting_replay(
     ensures { λ r. ⌜ Exports r (now (outcome .exit)) (now (sheet .exit)) (now (out .exit)) (alternatives (now (book .entry)) (sheetAfter (now (book .entry)) (callsIn (now (calls .entry)))) (now (out .entry))) ⌝ }
 {
     hand_list(sheet::replay(book, calls, out), sheet, outcome)
+}
+
+// The text that the desk prints for a book and a stored sheet. Cells: its length.
+#[no_mangle]
+pub extern "C" fn sighting_report(
+    book: &[u8],
+    form: &[u8],
+    out: &mut [u8],
+    outcome: &mut [u64; 1],
+) -> u64
+    ensures { λ r. ⌜ Prints r (now (outcome .exit)) (now (out .exit)) (printing (reportText (now (book .entry)) (now (form .entry))) (now (out .entry))) ⌝ }
+{
+    let printed = report::report(book, form, out);
+    match printed {
+        Printed::Written(length) => {
+            *outcome = [length as u64];
+            0
+        }
+        Printed::TooShort(length) => {
+            *outcome = [length as u64];
+            18
+        }
+    }
 }
