@@ -1,6 +1,6 @@
 -- Conditions 1 to 3, and what else document 01 says of two calls together. Each is a type; its proof is a value of it (proofs/Condition1.antt,
 -- Condition2.antt, Agreement.antt, Stored.antt, Condition3.antt). Assumes nothing.
-use Prim.Native.Nat.{ℕ, _+_, _*_, _/_, _%_, _^_, _≤_, _<_}
+use Prim.Native.Nat.{ℕ, _+_, _*_, _^_, _≤_, _<_}
 use mathlib.Core.Path.{_≡_}
 use mathlib.Core.Logic.{_≢_, _↔_}
 use mathlib.Core.List.{List, [], _∷_, _++_}
@@ -12,7 +12,7 @@ use Rattle.format.specs.Format.{Book, bookOf}
 use Rattle.format.specs.Reading.{accepted, Accepted}
 use Rattle.consistency.specs.Counting.{sumOver, those}
 use Rattle.consistency.specs.Consistency.{places, Subdomain, codes, relax, IsLargest}
-use Rattle.consistency.specs.Counts.{codesIn, outside, answered, Line, lineBytes}
+use Rattle.consistency.specs.Counts.{bit, codesIn, outside, answered, Line, lineBytes}
 use Rattle.consistency.specs.Order.{InOrder, In}
 use Rattle.consistency.specs.Alike.{Alike}
 use Rattle.calls.specs.Calls.{Result, freshSheet, done, entered, withdrawn, cleared, filtered, alternatives, loaded, stored}
@@ -85,7 +85,7 @@ Condition1 = (bytes s : List ℕ) (q : Request) → resultOf bytes s q .outcome 
 
 -- bit c of the number that plain filtering writes for field f
 abbrev pub Shows : List ℕ → ℕ → ℕ → Type 0
-Shows o f c = T (eqb (getD o f 0 / 2 ^ c % 2) 1)
+Shows o f c = T (bit (getD o f 0) c)
 
 abbrev pub Condition2-open : Type 0
 Condition2-open =

@@ -4,7 +4,7 @@ use mathlib.Core.Path.{_≡_, sym, ap, _∙_, subst}
 use mathlib.Core.Logic.{_⊎_, inl, inr}
 use mathlib.Core.Bool.{Bool, true, false, _&&_}
 use mathlib.Core.List.{List, [], _∷_, _++_, map}
-use Prim.Native.Nat.{ℕ, zero, suc, _+_, _<_}
+use Prim.Native.Nat.{ℕ, zero, suc, _<_}
 use native.Mathlib.Nat.{le-trans, zero-add}
 use native.Mathlib.Decide.{decLt}
 use native.Mathlib.Omega.{arith}
@@ -19,13 +19,13 @@ use Rattle.format.proofs.Views.{counts-count}
 use Rattle.consistency.specs.Counting.{howMany, those, sumBelow}
 use Rattle.consistency.specs.Consistency.{Subdomain, places, codes, relax}
 use Rattle.consistency.specs.Largest.{largest}
-use Rattle.consistency.specs.Counts.{outside, answered, relaxable, mask, struck}
+use Rattle.consistency.specs.Counts.{bit, outside, answered, relaxable, mask, struck}
 use Rattle.consistency.proofs.Booleans.{T-true, T-false, below-suc}
 use Rattle.consistency.proofs.Sums.{sum-ext, length-those, length-tabulate, tabulate-at}
 use Rattle.consistency.proofs.CodeCounts.{field-in, outside-ext}
 use Rattle.consistency.proofs.Masks.{mask-bit}
 use Rattle.consistency.proofs.Largest.{largest-is}
-use Rattle.filter.specs.Words.{bit, wordAt, domainOf}
+use Rattle.filter.specs.Words.{wordAt, domainOf}
 use Rattle.filter.specs.Cases.{casesOf, marksOf, plainOf}
 use Rattle.filter.proofs.Bits.{zero-bit}
 use Rattle.filter.proofs.Words.{domain-bit}

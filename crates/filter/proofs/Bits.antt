@@ -12,9 +12,9 @@ use lib.Pow.{shr-shr, shl-exact, pow-pos, pow-mono, shr-le}
 use lib.Count.{ones, ones-step, trailingZeros, under}
 use Rattle.format.specs.Basics.{pick}
 use Rattle.consistency.specs.Counting.{howMany}
+use Rattle.consistency.specs.Counts.{bit}
 use Rattle.consistency.proofs.Booleans.{T-ext, T-false}
 use Rattle.consistency.proofs.Sums.{many-ext}
-use Rattle.filter.specs.Words.{bit}
 use Rattle.filter.proofs.Tallies.{many-front, many-add}
 
 two : zero < 2

@@ -10,9 +10,10 @@ use lib.ListN.{length, getD}
 use Rattle.format.specs.Format.{Book, codeLimit}
 use Rattle.consistency.specs.Consistency.{places}
 use Rattle.consistency.specs.Largest.{largest}
+use Rattle.consistency.specs.Counts.{bit}
 use Rattle.consistency.proofs.Sums.{length-tabulate, tabulate-at}
 use Rattle.consistency.proofs.Masks.{mask-bit}
-use Rattle.filter.specs.Words.{bit, wordAt}
+use Rattle.filter.specs.Words.{wordAt}
 use Rattle.filter.specs.Cases.{caseWord, marksOf}
 use Rattle.filter.proofs.Stores.{word-in}
 

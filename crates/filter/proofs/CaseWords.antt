@@ -3,7 +3,7 @@ use mathlib.Core.Path.{_≡_, refl, sym, ap, _∙_, subst, subst₂}
 use mathlib.Core.Logic.{_⊎_, inl, inr}
 use mathlib.Core.Bool.{Bool, true, false, not}
 use mathlib.Core.List.{List, [], _∷_, _++_, map, map-append, append-nil}
-use Prim.Native.Nat.{ℕ, zero, suc, _+_, _-_, _^_, _≤_, _<_}
+use Prim.Native.Nat.{ℕ, zero, suc, _+_, _^_, _≤_, _<_}
 use native.Mathlib.Nat.{pow-suc}
 use native.Mathlib.Numerals.{add-one}
 use native.Mathlib.Decide.{ℕ-discrete}
@@ -16,9 +16,8 @@ use lib.Dec.{T, eqb, ltb, eqb→eq}
 use Rattle.format.specs.Basics.{pick}
 use Rattle.consistency.specs.Counting.{those}
 use Rattle.consistency.specs.Consistency.{places, answer, relax}
-use Rattle.consistency.specs.Counts.{answered}
+use Rattle.consistency.specs.Counts.{bit, answered}
 use Rattle.consistency.proofs.Booleans.{true-T, false-T, T-false, below-suc}
-use Rattle.filter.specs.Words.{bit}
 use Rattle.filter.specs.Start.{CasesAre, casesBelow}
 use Rattle.filter.proofs.Bits.{zero-bit, one-bit, low-bits}
 use Rattle.filter.proofs.Lists.{answer-at}

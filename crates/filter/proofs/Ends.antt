@@ -18,10 +18,10 @@ use Rattle.format.specs.Promise.{Promise}
 use Rattle.consistency.specs.Counting.{sumOver}
 use Rattle.consistency.specs.Consistency.{places, relax}
 use Rattle.consistency.specs.Largest.{largest}
-use Rattle.consistency.specs.Counts.{outside, relaxable, struck}
+use Rattle.consistency.specs.Counts.{bit, outside, relaxable, struck}
 use Rattle.consistency.proofs.Booleans.{T-false}
 use Rattle.consistency.proofs.Masks.{mask-bit}
-use Rattle.filter.specs.Words.{bit, wordAt, domainOf, standing}
+use Rattle.filter.specs.Words.{wordAt, domainOf, standing}
 use Rattle.filter.specs.Cases.{casesOf, caseWord, marksOf, outsideOver}
 use Rattle.filter.specs.Start.{CasesAre, Started}
 use Rattle.filter.specs.Queue.{Propagated}

@@ -15,9 +15,10 @@ use Rattle.format.specs.Basics.{pick}
 use Rattle.format.specs.Format.{Table, codeLimit, tableAt}
 use Rattle.consistency.specs.Consistency.{Subdomain, Support, codeOf}
 use Rattle.consistency.specs.Largest.{rowSupports}
+use Rattle.consistency.specs.Counts.{bit}
 use Rattle.consistency.proofs.Booleans.{T-ext, true-T, false-T, and-in, and-left, and-right, eq→eqb}
 use Rattle.consistency.proofs.Supports.{row-in, row-there, row-others}
-use Rattle.filter.specs.Words.{bit, domainOf}
+use Rattle.filter.specs.Words.{domainOf}
 use Rattle.filter.specs.declared.support.Shape.{Shape}
 use Rattle.filter.specs.declared.support.Found.{Found}
 use Rattle.filter.specs.declared.support.Found.the-variants.{Row, Nothing}

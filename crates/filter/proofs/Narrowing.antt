@@ -17,7 +17,8 @@ use Rattle.format.specs.Format.{Table, codeLimit}
 use Rattle.consistency.specs.Counting.{allBelow}
 use Rattle.consistency.specs.Consistency.{fieldOf, codeOf}
 use Rattle.consistency.specs.Largest.{rowSupports}
-use Rattle.filter.specs.Words.{bit, wordAt, domainOf}
+use Rattle.consistency.specs.Counts.{bit}
+use Rattle.filter.specs.Words.{wordAt, domainOf}
 use Rattle.filter.specs.Support.{narrowed, rowCases}
 use Rattle.filter.proofs.Bits.{bit-and}
 use Rattle.filter.proofs.Words.{domain-bit}

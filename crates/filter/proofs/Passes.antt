@@ -13,9 +13,9 @@ use Rattle.book.specs.View.{Numbered}
 use Rattle.consistency.specs.Counting.{sumBelow, tabulate}
 use Rattle.consistency.specs.Consistency.{places, codes}
 use Rattle.consistency.specs.Largest.{largest}
-use Rattle.consistency.specs.Counts.{mask, struck}
+use Rattle.consistency.specs.Counts.{bit, mask, struck}
 use Rattle.consistency.proofs.Masks.{mask-ext}
-use Rattle.filter.specs.Words.{bit, wordAt, domainOf}
+use Rattle.filter.specs.Words.{wordAt, domainOf}
 use Rattle.filter.specs.Cases.{casesOf, marksOf, plainOf}
 use Rattle.filter.specs.Revise.{Room}
 use Rattle.filter.specs.Queue.{SurveyGiven, Surveyed, PropagateGiven, Propagated}

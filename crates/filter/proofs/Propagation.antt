@@ -17,9 +17,10 @@ use Rattle.format.specs.Promise.{Promise, place}
 use Rattle.format.proofs.Views.{tables-count, table-view, table-field, table-arity}
 use Rattle.consistency.specs.Counting.{howMany}
 use Rattle.consistency.specs.Consistency.{fieldOf, codeOf, nth, Support, ArcConsistent}
+use Rattle.consistency.specs.Counts.{bit}
 use Rattle.consistency.proofs.Booleans.{T-true, T-false, true-T, false-T, and-in, and-left}
 use Rattle.consistency.proofs.Loops.{loop-ends}
-use Rattle.filter.specs.Words.{bit, wordAt, domainOf, standing}
+use Rattle.filter.specs.Words.{wordAt, domainOf, standing}
 use Rattle.filter.specs.Revise.{Removal, TableSupported, Watches, Swept}
 use Rattle.filter.specs.Asks.{SweepAsks}
 use Rattle.filter.specs.Queue.{PropagateGiven, Propagated}

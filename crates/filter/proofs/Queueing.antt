@@ -11,7 +11,8 @@ use lib.Dec.{T, eqb, eqb→eq, not-T}
 use lib.ListN.{getD}
 use Rattle.format.specs.Format.{codeLimit, tableCount, tableLimit}
 use Rattle.consistency.proofs.Booleans.{T-false, false-T, and-in, and-left, or-left, or-right, or-out}
-use Rattle.filter.specs.Words.{bit, wordAt}
+use Rattle.consistency.specs.Counts.{bit}
+use Rattle.filter.specs.Words.{wordAt}
 use Rattle.filter.specs.Revise.{OnlyField, Watches, Queued}
 use Rattle.filter.proofs.Bits.{Within, bit-or, one-bit, shl-one, bit-without, bits-below}
 

@@ -14,9 +14,10 @@ use lib.Seq.{getD-set-same, getD-set-other}
 use Rattle.format.specs.Format.{Table, codeLimit}
 use Rattle.consistency.specs.Consistency.{Support, codeOf}
 use Rattle.consistency.specs.Largest.{rowSupports}
+use Rattle.consistency.specs.Counts.{bit}
 use Rattle.consistency.proofs.Booleans.{T-false, false-T, T-or-not, and-in, and-left, and-right, below-suc}
 use Rattle.consistency.proofs.Supports.{row-in, row-there, row-others}
-use Rattle.filter.specs.Words.{bit, domainOf}
+use Rattle.filter.specs.Words.{domainOf}
 use Rattle.filter.specs.declared.support.Found.the-variants.{Nothing}
 use Rattle.filter.specs.Support.{rowCases}
 use Rattle.filter.specs.Revise.{Unsupported}

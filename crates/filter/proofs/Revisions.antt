@@ -11,9 +11,10 @@ use lib.ListN.{length, getD}
 use Rattle.format.specs.Format.{Table, codeLimit, fieldCount, bookOf, tableAt}
 use Rattle.format.proofs.Views.{counts-count, counts-view}
 use Rattle.consistency.specs.Consistency.{Support, HoldsAll, places, fieldOf, codes}
+use Rattle.consistency.specs.Counts.{bit}
 use Rattle.consistency.proofs.Booleans.{T-false, false-T, T-or-not}
 use Rattle.consistency.proofs.Supports.{support-grows}
-use Rattle.filter.specs.Words.{bit, wordAt, domainOf, standing}
+use Rattle.filter.specs.Words.{wordAt, domainOf, standing}
 use Rattle.filter.specs.declared.support.Shape.{Shape}
 use Rattle.filter.specs.Revise.{Unsupported, Revised}
 use Rattle.filter.specs.Asks.{Looks, Struck, ReviseAsks}

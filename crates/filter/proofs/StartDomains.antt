@@ -15,10 +15,11 @@ use Rattle.format.specs.Promise.{Promise}
 use Rattle.format.proofs.Views.{counts-count}
 use Rattle.consistency.specs.Consistency.{places, codes, answer, OfBook, WithinAnswers, HoldsAll}
 use Rattle.consistency.specs.Largest.{has, start, allowed}
+use Rattle.consistency.specs.Counts.{bit}
 use Rattle.consistency.proofs.Booleans.{false-T}
 use Rattle.consistency.proofs.Rounds.{start-at, start-within, start-holds-all}
 use Rattle.consistency.proofs.CodeCounts.{field-in}
-use Rattle.filter.specs.Words.{bit, wordAt, domainOf}
+use Rattle.filter.specs.Words.{wordAt, domainOf}
 use Rattle.filter.specs.Start.{CasesAre, startWord, Started}
 use Rattle.filter.proofs.Bits.{zero-bit}
 use Rattle.filter.proofs.Words.{domain-bit}

@@ -17,8 +17,9 @@ use Rattle.format.specs.Format.{Book, codeLimit, fieldCount, byte, bookOf}
 use Rattle.format.proofs.Views.{counts-count, counts-view}
 use Rattle.consistency.specs.Counting.{howMany, sumBelow}
 use Rattle.consistency.specs.Consistency.{places, codes, answer}
+use Rattle.consistency.specs.Counts.{bit}
 use Rattle.consistency.proofs.CodeCounts.{field-in}
-use Rattle.filter.specs.Words.{bit, wordAt, standing}
+use Rattle.filter.specs.Words.{wordAt, standing}
 use Rattle.filter.specs.Start.{startWord, StartsField, FieldStarted, Starts, Started}
 use Rattle.consistency.proofs.Sums.{sum-ext}
 use Rattle.filter.proofs.Lists.{answer-at, zeros}

@@ -16,7 +16,8 @@ use Rattle.format.specs.Basics.{pick}
 use Rattle.format.specs.Format.{codeLimit}
 use Rattle.consistency.specs.Counting.{howMany, sumBelow}
 use Rattle.consistency.specs.Consistency.{places}
-use Rattle.filter.specs.Words.{bit, wordAt}
+use Rattle.consistency.specs.Counts.{bit}
+use Rattle.filter.specs.Words.{wordAt}
 use Rattle.filter.specs.Start.{startWord, StartsField, FieldStarted}
 use Rattle.filter.proofs.Bits.{Within, ones-many, many-without}
 use Rattle.consistency.proofs.Sums.{sum-ext}

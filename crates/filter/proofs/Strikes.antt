@@ -12,8 +12,9 @@ use lib.Seq.{getD-set-same, getD-set-other}
 use Rattle.format.specs.Format.{codeLimit}
 use Rattle.consistency.specs.Counting.{howMany, sumBelow}
 use Rattle.consistency.specs.Consistency.{places}
+use Rattle.consistency.specs.Counts.{bit}
 use Rattle.consistency.proofs.Booleans.{below-suc}
-use Rattle.filter.specs.Words.{bit, wordAt}
+use Rattle.filter.specs.Words.{wordAt}
 use Rattle.filter.specs.Asks.{Struck}
 use Rattle.filter.proofs.Tallies.{many-le}
 

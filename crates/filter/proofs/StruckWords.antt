@@ -14,9 +14,10 @@ use lib.Seq.{ext-getD}
 use Rattle.format.specs.Format.{Book, codeLimit}
 use Rattle.consistency.specs.Counting.{howMany, sumBelow}
 use Rattle.consistency.specs.Consistency.{Inside, codes}
+use Rattle.consistency.specs.Counts.{bit}
 use Rattle.consistency.proofs.Booleans.{and-in, and-left, and-right}
 use Rattle.consistency.proofs.Sums.{sum-ext}
-use Rattle.filter.specs.Words.{bit, wordAt, domainOf, standing}
+use Rattle.filter.specs.Words.{wordAt, domainOf, standing}
 use Rattle.filter.specs.Revise.{OnlyField}
 use Rattle.filter.specs.Asks.{Struck}
 use Rattle.filter.proofs.Tallies.{many-none, sum-add, sum-none, sum-change}

@@ -17,8 +17,8 @@ use lib.Dec.{T, eqb, eqb→eq, eqb-refl}
 use Rattle.format.specs.Format.{tableLimit, byte, listPlace, tableCount, arityAt, rowsOf, tableEnd}
 use Rattle.format.specs.Promise.{place, fieldAt}
 use Rattle.consistency.specs.Consistency.{places}
+use Rattle.consistency.specs.Counts.{bit}
 use Rattle.consistency.proofs.Booleans.{or-left, or-right, or-out, false-T}
-use Rattle.filter.specs.Words.{bit}
 use Rattle.filter.specs.Queue.{WatchGiven, Watched, SurveyGiven, Surveyed}
 use Rattle.filter.proofs.Bits.{bit-or, one-bit, zero-bit, shl-one}
 use Rattle.filter.proofs.Limits.{fields-few}

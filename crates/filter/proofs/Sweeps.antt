@@ -12,8 +12,8 @@ use Rattle.format.specs.Format.{Table, lengthLimit, byte, listPlace, fieldCount
 use Rattle.format.specs.Promise.{TablePromise}
 use Rattle.format.proofs.Views.{table-view}
 use Rattle.consistency.specs.Consistency.{places, fieldOf, nth}
+use Rattle.consistency.specs.Counts.{bit}
 use Rattle.consistency.proofs.Booleans.{below-suc}
-use Rattle.filter.specs.Words.{bit}
 use Rattle.filter.specs.declared.support.Shape.{Shape}
 use Rattle.filter.specs.Support.{InTable, shapeAt}
 use Rattle.filter.specs.Revise.{Removal, Revised, ColumnSupported, TableSupported, Queued, Swept}

@@ -13,12 +13,12 @@ use Rattle.format.specs.Format.{Book, codeLimit}
 use Rattle.consistency.specs.Counting.{howMany, sumBelow}
 use Rattle.consistency.specs.Consistency.{codes}
 use Rattle.consistency.specs.Largest.{largest}
-use Rattle.consistency.specs.Counts.{outside}
+use Rattle.consistency.specs.Counts.{bit, outside}
 use Rattle.consistency.proofs.Booleans.{T-false}
 use Rattle.consistency.proofs.Sums.{many-ext, many-sum, many-not, sum-ext}
 use Rattle.consistency.proofs.CodeCounts.{outside-ext}
 use Rattle.filter.specs.Cases.{outsideOver}
-use Rattle.filter.specs.Words.{bit, wordAt, domainOf, standing}
+use Rattle.filter.specs.Words.{wordAt, domainOf, standing}
 use Rattle.filter.proofs.Tallies.{sum-add}
 use Rattle.filter.proofs.Words.{domain-bit}
 

@@ -7,7 +7,8 @@ use borrow.Author.Tests.{lt-ltb}
 use lib.Dec.{T, ltb, ltb→lt}
 use Rattle.format.specs.Format.{codeLimit}
 use Rattle.consistency.proofs.Booleans.{and-left}
-use Rattle.filter.specs.Words.{bit, wordAt, domainOf}
+use Rattle.consistency.specs.Counts.{bit}
+use Rattle.filter.specs.Words.{wordAt, domainOf}
 
 module _ (M : List ℕ) (k f c : ℕ) where
   -- code c of field f is in the subdomain of case k where bit k of its word is set

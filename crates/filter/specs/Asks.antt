@@ -11,8 +11,9 @@ use Rattle.format.specs.Format.{codeLimit, listPlace, tableCount, bookOf}
 use Rattle.format.specs.Promise.{Promise, place, fieldAt, countAt}
 use Rattle.consistency.specs.Counting.{howMany, sumBelow}
 use Rattle.consistency.specs.Consistency.{places, OfBook}
+use Rattle.consistency.specs.Counts.{bit}
 use Rattle.filter.specs.declared.support.Shape.{Shape}
-use Rattle.filter.specs.Words.{bit, wordAt, domainOf}
+use Rattle.filter.specs.Words.{wordAt, domainOf}
 use Rattle.filter.specs.Support.{InTable}
 use Rattle.filter.specs.Revise.{Room, Watches}
 

@@ -9,7 +9,8 @@ use Rattle.format.specs.Format.{tableLimit, tableCount, arityAt, listPlace, boo
 use Rattle.format.specs.Promise.{Promise, place, fieldAt}
 use Rattle.consistency.specs.Consistency.{places, Inside, WithinAnswers, HoldsAll}
 use Rattle.consistency.specs.Largest.{largest}
-use Rattle.filter.specs.Words.{bit, domainOf, standing}
+use Rattle.consistency.specs.Counts.{bit}
+use Rattle.filter.specs.Words.{domainOf, standing}
 use Rattle.filter.specs.Revise.{Watches}
 use Rattle.filter.specs.Asks.{Marks}
 

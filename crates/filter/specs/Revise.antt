@@ -9,7 +9,8 @@ use lib.Dec.{T}
 use Rattle.format.specs.Format.{Table, Book, codeLimit, tableCount, arityAt, bookOf}
 use Rattle.format.specs.Promise.{place, fieldAt}
 use Rattle.consistency.specs.Consistency.{Support, Inside, HoldsAll, fieldOf, nth}
-use Rattle.filter.specs.Words.{bit, wordAt, domainOf, standing}
+use Rattle.consistency.specs.Counts.{bit}
+use Rattle.filter.specs.Words.{wordAt, domainOf, standing}
 
 -- Marks M became N and the count of strikes s became t: "strikes marks and counts each as it is struck"
 pub record Removal (b : Book) (M N : List ℕ) (s t : ℕ) : Type 0 where

@@ -12,8 +12,8 @@ use Rattle.format.specs.Promise.{Promise}
 use Rattle.book.specs.View.{Numbered}
 use Rattle.consistency.specs.Counting.{howMany, those, sumBelow}
 use Rattle.consistency.specs.Consistency.{places, codes, answer, relax}
-use Rattle.consistency.specs.Counts.{answered}
-use Rattle.filter.specs.Words.{bit, wordAt, standing}
+use Rattle.consistency.specs.Counts.{bit, answered}
+use Rattle.filter.specs.Words.{wordAt, standing}
 use Rattle.filter.specs.Cases.{marksOf, outsideOver}
 
 -- ---- the cases

@@ -1,16 +1,13 @@
 -- The marks of all cases, one 64-bit word for each field and code: bit k of it is the mark of case k. Assumes nothing.
-use Prim.Native.Nat.{ℕ, _+_, _*_, _/_, _%_, _^_}
+use Prim.Native.Nat.{ℕ, _+_, _*_}
 use mathlib.Core.List.{List}
-use mathlib.Core.Bool.{Bool, _&&_}
+use mathlib.Core.Bool.{_&&_}
 use lib.ListN.{length, getD}
-use lib.Dec.{eqb, ltb}
+use lib.Dec.{ltb}
 use Rattle.format.specs.Format.{Book, codeLimit}
 use Rattle.consistency.specs.Counting.{howMany, sumBelow}
 use Rattle.consistency.specs.Consistency.{Subdomain, codes}
-
--- bit k of w is set
-abbrev pub bit : ℕ → ℕ → Bool
-bit w k = eqb (w / 2 ^ k % 2) 1
+use Rattle.consistency.specs.Counts.{bit}
 
 -- the word of field f and code c
 abbrev pub wordAt : List ℕ → ℕ → ℕ → ℕ

@@ -3,7 +3,7 @@ ghost use mathlib.Core.Path.{_≡_};
 ghost use mathlib.Core.Logic.{_≢_};
 ghost use Prim.Native.Nat.{_-_, _^_, _≤_, _<_};
 ghost use lib.Dec.{T};
-ghost use Rattle.filter.specs.Words.{bit};
+ghost use Rattle.consistency.specs.Counts.{bit};
 ghost use Rattle.filter.specs.Queue.{WatchGiven, Watched, SurveyGiven, Surveyed, PropagateGiven, Propagated};
 use super::revise::sweep;
 use super::support::wide;

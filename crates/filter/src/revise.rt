@@ -4,7 +4,7 @@ ghost use Prim.Native.Nat.{_^_, _≤_, _<_};
 ghost use lib.ListN.{length};
 ghost use Rattle.format.specs.Format.{tableAt, bookOf};
 ghost use Rattle.consistency.specs.Counting.{howMany};
-ghost use Rattle.filter.specs.Words.{bit};
+ghost use Rattle.consistency.specs.Counts.{bit};
 ghost use Rattle.filter.specs.Support.{InTable};
 ghost use Rattle.filter.specs.Revise.{Unsupported, Revised, Swept};
 ghost use Rattle.filter.specs.Asks.{Looks, Counted, Struck, ReviseAsks, SweepAsks};

@@ -1,7 +1,7 @@
 // Writing the lines of alternatives and of open codes.
 ghost use mathlib.Core.List.{[], _∷_, _++_};
 ghost use Prim.Native.Nat.{_*_, _≤_, _<_};
-ghost use lib.ListN.{length, getD};
+ghost use lib.ListN.{length};
 ghost use Rattle.report.specs.Text.{spaced, linesText};
 ghost use Rattle.report.specs.Writes.{Room, Puts, pairLines, maskLines, openIn};
 use super::writers::put_line;

@@ -2,7 +2,6 @@
 ghost use mathlib.Core.Path.{_≡_};
 ghost use Prim.Native.Nat.{_+_, _<_};
 ghost use mathlib.Core.List.{[], _∷_, _++_};
-ghost use lib.ListN.{length};
 ghost use Rattle.report.specs.Text.{decimal, spaced};
 ghost use Rattle.report.specs.Writes.{Room, Puts};
 

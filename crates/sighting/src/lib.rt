@@ -2,8 +2,7 @@
 // A sheet is an array of 32 bytes, which every call on a sheet writes whole with the sheet that it hands back. A call returns its outcome's
 // number, 0 where it is accepted, and writes the place and the counts into the cells lent for them.
 ghost use mathlib.Core.Path.{_≡_};
-ghost use mathlib.Core.List.{List, []};
-ghost use Prim.Native.Nat.{ℕ};
+ghost use mathlib.Core.List.{[]};
 ghost use Rattle.format.specs.Reading.{reading};
 ghost use Rattle.calls.specs.Calls.{freshSheet, cleared, entered, withdrawn, filtered, alternatives, loaded, stored};
 ghost use Rattle.calls.specs.Histories.{sheetAfter, callsIn};
