@@ -65,13 +65,13 @@ sets-append o at (x ∷ xs) ys =
 
 module _ (p : ℕ → Bool) (f n : ℕ) where
   -- two bytes for each code
-  pub length-lines-below : length (lineBytes (linesBelow n p f)) ≡ 2 * howMany n p
+  length-lines-below : length (lineBytes (linesBelow n p f)) ≡ 2 * howMany n p
   length-lines-below =
       length-line-bytes (linesBelow n p f)
       ∙ ap (λ k. 2 * k) (length-map (those n p) (λ (c : ℕ). record { field = f; code = c }) ∙ length-those n p)
 
   -- one code more, listed
-  pub lines-more : p n ≡ true → lineBytes (linesBelow (n + 1) p f) ≡ lineBytes (linesBelow n p f) ++ (f ∷ n ∷ [])
+  lines-more : p n ≡ true → lineBytes (linesBelow (n + 1) p f) ≡ lineBytes (linesBelow n p f) ++ (f ∷ n ∷ [])
   lines-more e =
       ap (λ cs. lineBytes (map (λ (c : ℕ). record { field = f; code = c }) cs)) (those-more p n e)
       ∙ ap lineBytes (map-append (λ (c : ℕ). record { field = f; code = c }) (those n p) (n ∷ []))
