@@ -60,9 +60,11 @@ module _ (b : Book) (a : List ℕ) (f : ℕ) (l : f < length (b .counts)) (t : T
   abbrev pub caseOf : ℕ
   caseOf = suc (howMany f (answered a))
 
+  -- f's place among the answered fields
   rank : (howMany f (answered a) < length (relaxable b a)) × (getD (relaxable b a) (howMany f (answered a)) 0 ≡ f)
   rank = those-at (length (b .counts)) (answered a) f l t
 
+  -- it is one of the cases, and its answers are those without f's
   pub case-in : caseOf < length (casesOf b a)
   case-in = omega (arith, rank .0, length-map (relaxable b a) (relax a))
 
@@ -77,6 +79,7 @@ module _ (b : Book) (a : List ℕ) (f : ℕ) (l : f < length (b .counts)) (t : T
 abbrev pub plainDomain : Book → List ℕ → Subdomain
 plainDomain b a f c = bit (getD (plainOf b a) f 0) c
 
+-- the number of field f
 plain-number : (b : Book) (a : List ℕ) (f : ℕ) → f < places → getD (plainOf b a) f 0 ≡ mask codeLimit (largest b a f)
 plain-number b a f l =
     tabulate-at (λ g. mask codeLimit (largest b a g)) places 0 f 0 l ∙ ap (λ (g : ℕ). mask codeLimit (largest b a g)) (zero-add f)
@@ -89,6 +92,7 @@ module _ (s : List ℕ) (p : Promise s) where
       let l : c < codes (bookOf s) f = largest-is (bookOf s) a .fits .of-book f c t in
       n (omega (arith, field-in (bookOf s) f c l, counts-count s (p .whole), fields-few s p)) (le-trans l (codes-few s p f)))
 
+  -- it is the largest
   pub plain-largest : (a : List ℕ) (f c : ℕ) → plainDomain (bookOf s) a f c ≡ largest (bookOf s) a f c
   plain-largest a f c = at (decLt f places)
     where

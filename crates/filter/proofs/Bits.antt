@@ -46,6 +46,7 @@ xor-digit (suc zero) (suc zero) l m = refl
 xor-digit (suc zero) (suc (suc y)) l m = no-digit y m
 xor-digit (suc (suc x)) y l m = no-digit x l
 
+-- a bit of the and, of the or, and of the exclusive or
 pub bit-and : (a b k : ℕ) → bit (bitAnd a b) k ≡ (bit a k && bit b k)
 bit-and a b k =
     ap (λ (x : ℕ). eqb (x % 2) 1) (and-shr a b k) ∙ ap (λ (x : ℕ). eqb x 1) (and-mod (a / 2 ^ k) (b / 2 ^ k) 1)
@@ -110,10 +111,11 @@ low-bit m = go (m / 1 % 2) (m % 2) (mod-lt m two) (omega arith)
 half-lt : (d m : ℕ) → m < 2 ^ suc d → m / 2 < 2 ^ d
 half-lt d m l = omega (arith, pow-suc 2 d)
 
-pub zero-ones : ones 0 ≡ 0
+zero-ones : ones 0 ≡ 0
 unfolding ones
 zero-ones = refl
 
+-- count_ones counts the bits
 pub ones-many : (d m : ℕ) → m < 2 ^ d → ones m ≡ howMany d (bit m)
 ones-many zero m l = ap ones (let e : m ≡ 0 = omega arith in e) ∙ zero-ones
 ones-many (suc d) m l =
@@ -179,6 +181,7 @@ many-without w u h =
 
 -- ---- the lowest bit set
 
+-- trailing_zeros is the place of a bit
 pub lowest : (d m : ℕ) → 1 ≤ m → m < 2 ^ d → (trailingZeros d m < d) × (bit m (trailingZeros d m) ≡ true)
 unfolding trailingZeros
 lowest zero m h l = absurd (let e : m < 1 = l in omega arith)

@@ -17,7 +17,7 @@ use Rattle.format.specs.Basics.{pick}
 use Rattle.consistency.specs.Counting.{those}
 use Rattle.consistency.specs.Consistency.{places, answer, relax}
 use Rattle.consistency.specs.Counts.{answered}
-use Rattle.consistency.proofs.Booleans.{true-T, T-false, below-suc}
+use Rattle.consistency.proofs.Booleans.{true-T, false-T, T-false, below-suc}
 use Rattle.filter.specs.Words.{bit}
 use Rattle.filter.specs.Start.{CasesAre, casesBelow}
 use Rattle.filter.proofs.Bits.{zero-bit, one-bit, low-bits}
@@ -26,9 +26,6 @@ use Rattle.filter.proofs.Lists.{answer-at}
 -- a word that is 0 has no case
 no-case : (w k : ℕ) → w ≡ 0 → bit w k ≡ false
 no-case w k e = ap (λ (z : ℕ). bit z k) e ∙ zero-bit k
-
-false-not : (x : Bool) → x ≡ false → T x → ⊥
-false-not x e t = subst T e t
 
 -- the bits of `all` are the cases, and a field is relaxed in cases only
 pub all-bit : {a own : List ℕ} {all : ℕ} {cs : List (List ℕ)} → CasesAre a own all cs → (k : ℕ) → bit all k ≡ ltb k (length cs)
@@ -45,7 +42,7 @@ one-case a own z =
       some = omega arith;
       few = omega arith;
       all-is = refl;
-      within = λ f k t. absurd (false-not (bit (getD own f 0) k) (no-case (getD own f 0) k (z f)) t);
+      within = λ f k t. absurd (false-T (no-case (getD own f 0) k (z f)) t);
       answers = answers;
     }
   where
@@ -56,9 +53,11 @@ one-case a own z =
 -- one case more, which relaxes f
 module _ (a own : List ℕ) (all : ℕ) (cs : List (List ℕ)) (f : ℕ) (x : CasesAre a own all cs) (al : f < length a) (ol : f < length own)
     (none : getD own f 0 ≡ 0) (few : length cs < 64) where
+  -- its bit is the next one
   own-is : all + 1 ≡ 2 ^ length cs
   own-is = omega (arith, x .all-is, pow-pos (length cs))
 
+  -- the words and the cases with it
   abbrev own′ : List ℕ
   own′ = set own f (all + 1)
 
@@ -68,12 +67,14 @@ module _ (a own : List ℕ) (all : ℕ) (cs : List (List ℕ)) (f : ℕ) (x : Ca
   length′ : length cs′ ≡ length cs + 1
   length′ = length-append cs (relax a f ∷ [])
 
+  -- f is relaxed in it alone, and the other fields where they were
   here : (k : ℕ) → bit (getD own′ f 0) k ≡ eqb k (length cs)
   here k = ap (λ (z : ℕ). bit z k) (getD-set-same own f (all + 1) 0 ol ∙ own-is) ∙ one-bit (length cs) k
 
   elsewhere : (g k : ℕ) → (g ≡ f → ⊥) → bit (getD own′ g 0) k ≡ bit (getD own g 0) k
   elsewhere g k m = ap (λ (z : ℕ). bit z k) (getD-set-other own f g (all + 1) 0 m)
 
+  -- no field is relaxed outside the cases
   within′ : (g k : ℕ) → T (bit (getD own′ g 0) k) → k < length cs′
   within′ g k t = at (ℕ-discrete g f)
     where
@@ -107,6 +108,7 @@ module _ (a own : List ℕ) (all : ℕ) (cs : List (List ℕ)) (f : ℕ) (x : Ca
           ∙ ap (λ (t : Bool). pick t 255 (answer a g))
           (sym (elsewhere g (length cs) m ∙ T-false (λ t. let h : length cs < length cs = x .within g (length cs) t in omega arith)))
 
+  -- the answers of each case
   answers′ : (k g : ℕ) → g < places → (k ≡ length cs) ⊎ (k < length cs) → answer (getD cs′ k []) g ≡ pick (bit (getD own′ g 0) k) 255 (answer a g)
   answers′ k g m (inl e) =
       subst (λ (z : ℕ). answer (getD cs′ z []) g ≡ pick (bit (getD own′ g 0) z) 255 (answer a g)) (sym e)
@@ -135,6 +137,7 @@ pub record CasesBelow (a own : List ℕ) (all f : ℕ) : Type 0 where
   pub few : length (casesBelow f a) ≤ f + 1
   pub are : CasesAre a own all (casesBelow f a)
 
+-- no field yet
 pub cases-none : (a own : List ℕ) → length a ≡ places → length own ≡ places → ((f : ℕ) → getD own f 0 ≡ 0) → CasesBelow a own 1 0
 cases-none a own l m z = record { sheet = l; size = m; later = λ g h. z g; few = omega arith; are = one-case a own z }
 
@@ -143,6 +146,7 @@ pub cases-same : {a own own′ : List ℕ} {all all′ f : ℕ} → own′ ≡ o
 cases-same {a} {f = f} e d x = subst₂ (λ (o : List ℕ) (n : ℕ). CasesBelow a o n f) (sym e) (sym d) x
 
 module _ (a own : List ℕ) (all f : ℕ) (x : CasesBelow a own all f) (l : f < places) where
+  -- the cases' words have room for one more
   pub own-fits : all + (all + 1) < 2 ^ 64
   own-fits =
       let p : 2 ^ length (casesBelow f a) ≤ 2 ^ 33 = pow-mono (let q : length (casesBelow f a) ≤ 33 = omega (arith, x .few) in q) in
@@ -155,12 +159,14 @@ module _ (a own : List ℕ) (all f : ℕ) (x : CasesBelow a own all f) (l : f < 
       ∙ ap (λ (t : Bool). a ∷ map (relax a) (those f (answered a) ++ pick t (f ∷ []) [])) e
       ∙ ap (λ (z : List (List ℕ)). a ∷ z) (map-append (relax a) (those f (answered a)) (pick t (f ∷ []) []))
 
+  -- whether f has an answer, as its byte says
   answered-is : (e : getD a f 0 ≡ 255 → ⊥) → answered a f ≡ true
   answered-is e = ap not (ne-eqb (answer a f) 255 (λ z. e (answer-at a f (omega (arith, x .sheet)) ∙ z)))
 
   open-is : getD a f 0 ≡ 255 → answered a f ≡ false
   open-is e = ap not (eq-eqb (answer a f) 255 (sym (answer-at a f (omega (arith, x .sheet))) ∙ e))
 
+  -- a field with an answer has a case, a field without one has none
   pub cases-answered : (getD a f 0 ≡ 255 → ⊥) → CasesBelow a (set own f (all + 1)) (all + (all + 1)) (f + 1)
   cases-answered e =
       let n : casesBelow (f + 1) a ≡ casesBelow f a ++ (relax a f ∷ []) = next-cases true (answered-is e) in
@@ -185,5 +191,6 @@ module _ (a own : List ℕ) (all f : ℕ) (x : CasesBelow a own all f) (l : f < 
         are = subst (λ (z : List (List ℕ)). CasesAre a own all z) (sym n) (x .are);
       }
 
+-- all fields
 pub cases-done : (a own : List ℕ) (all f fields : ℕ) → CasesBelow a own all f → f ≡ fields → CasesAre a own all (casesBelow fields a)
 cases-done a own all f fields x e = subst (λ (n : ℕ). CasesAre a own all (casesBelow n a)) e (x .are)

@@ -10,7 +10,7 @@ use lib.ListN.{length}
 use Rattle.format.specs.Format.{Table, Book}
 use Rattle.consistency.specs.Consistency.{Support, fieldOf, codeOf}
 use Rattle.consistency.proofs.Booleans.{T-or-not}
-use Rattle.filter.specs.Words.{bit, wordAt, domainOf}
+use Rattle.filter.specs.Words.{bit, domainOf}
 use Rattle.filter.specs.Revise.{Revised, ColumnSupported}
 use Rattle.filter.proofs.Words.{domain-bit, domain-small}
 

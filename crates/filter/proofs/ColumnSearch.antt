@@ -1,10 +1,10 @@
 -- The search for rows for all codes of a column: what holds between two questions, and each way on. Assumes nothing.
-use mathlib.Core.Path.{_≡_, sym, ap, _∙_, subst}
+use mathlib.Core.Path.{_≡_, sym, _∙_, subst}
 use mathlib.Core.List.{List}
 use Prim.Native.Nat.{ℕ, _+_, _-_, _*_, _≤_, _<_, zero-le}
 use native.Mathlib.Omega.{arith}
 use lib.Bits.{bitXor}
-use lib.ListN.{length, getD, set, length-set}
+use lib.ListN.{length, getD, set}
 use Rattle.format.specs.Format.{codeLimit, byte, tableAt}
 use Rattle.filter.specs.declared.support.Shape.{Shape}
 use Rattle.filter.specs.declared.support.Found.{Found}
@@ -15,7 +15,7 @@ use Rattle.filter.specs.Asks.{Counted}
 use Rattle.filter.proofs.Firsts.{FirstAt, FirstIs}
 use Rattle.filter.proofs.Shapes.{rows-of, code-is, codes-small}
 use Rattle.filter.proofs.RowSearch.{own-in, search-is}
-use Rattle.filter.proofs.Needs.{needing-none, needing-less, needing-kept}
+use Rattle.filter.proofs.Needs.{needing-none, counted-less, counted-kept}
 use Rattle.filter.proofs.Remaining.{Remaining, remaining-start, remaining-next, remaining-end, remaining-zero, taken-some}
 
 -- between two questions: the rows below from are passed, and waiting counts the codes with a case that remains
@@ -39,17 +39,21 @@ module _ {s : List ℕ} {t : Shape} (q : InTable s t) {j : ℕ} (jl : j < t .ari
 
   -- the answer of a question
   module _ {x : Found} (e : x ≡ firstFrom (t .rows - from) from (rowCases M left (tableAt s (t .at)) j)) where
+    answer : FirstIs (length (tableAt s (t .at) .rows)) from (rowCases M left (tableAt s (t .at)) j) x
+    answer = search-is s t q from (rowCases M left (tableAt s (t .at)) j) x (h .from-in) e
+
     -- no row supports anything that remains
     pub searching-ends : x ≡ Nothing → Unsupported M (tableAt s (t .at)) j need left
     searching-ends d =
         remaining-end M (tableAt s (t .at)) j (codes-small s t q) need left from (h .remaining)
-        (subst (FirstIs _ from (rowCases M left (tableAt s (t .at)) j)) d (search-is s t q from (rowCases M left (tableAt s (t .at)) j) x (h .from-in) e))
+        (subst (FirstIs (length (tableAt s (t .at) .rows)) from (rowCases M left (tableAt s (t .at)) j)) d answer)
 
     -- row r supports its own code in the cases v
     module _ {r v : ℕ} (d : x ≡ Row r v) where
       found : FirstAt (length (tableAt s (t .at) .rows)) from (rowCases M left (tableAt s (t .at)) j) r v
-      found = subst (FirstIs _ from (rowCases M left (tableAt s (t .at)) j)) d (search-is s t q from (rowCases M left (tableAt s (t .at)) j) x (h .from-in) e)
+      found = subst (FirstIs (length (tableAt s (t .at) .rows)) from (rowCases M left (tableAt s (t .at)) j)) d answer
 
+      -- it is one of the rows left
       pub row-later : from ≤ r
       row-later = found .later
 
@@ -57,6 +61,7 @@ module _ {s : List ℕ} {t : Shape} (q : InTable s t) {j : ℕ} (jl : j < t .ari
       row-below = subst (r <_) (rows-of s t q) (found .below)
 
       module _ {c : ℕ} (ce : c ≡ byte s (t .first + r * t .arity + j)) where
+        -- c is its code in column j
         pub code-below : c < codeLimit
         code-below = own-in s t q r j row-below jl c ce
 
@@ -76,17 +81,9 @@ module _ {s : List ℕ} {t : Shape} (q : InTable s t) {j : ℕ} (jl : j < t .ari
         -- its cases are taken out, and they were the last
         pub searching-less : bitXor (getD left c 0) v ≡ 0 → {w : ℕ} → w ≡ waiting - 1
             → Searching s t j M need (set left c (bitXor (getD left c 0) v)) w (r + 1)
-        searching-less z k =
-            on (record {
-              full = simp length-set (h .counted .full);
-              are = k ∙ ap (_- 1) (h .counted .are) ∙ needing-less left (h .counted .full) c (bitXor (getD left c 0) v) code-below had-some z;
-            })
+        searching-less z k = on (counted-less (h .counted) c (bitXor (getD left c 0) v) code-below had-some z k)
 
         -- its cases are taken out, and some remain
         pub searching-kept : (bitXor (getD left c 0) v ≡ 0 → ⊥) → {w : ℕ} → w ≡ waiting
             → Searching s t j M need (set left c (bitXor (getD left c 0) v)) w (r + 1)
-        searching-kept n k =
-            on (record {
-              full = simp length-set (h .counted .full);
-              are = k ∙ h .counted .are ∙ needing-kept left (h .counted .full) c (bitXor (getD left c 0) v) code-below had-some n;
-            })
+        searching-kept n k = on (counted-kept (h .counted) c (bitXor (getD left c 0) v) code-below had-some n k)

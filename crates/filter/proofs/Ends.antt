@@ -34,6 +34,7 @@ use Rattle.filter.proofs.StartDomains.{started-cases, started-holds-all
 
 -- ---- words by their bits
 
+-- a number is below its power of two
 below-power : (n : ℕ) → n < 2 ^ n
 below-power zero = omega arith
 below-power (suc n) = omega (arith, below-power n, pow-suc 2 n)
@@ -49,6 +50,7 @@ bits-same v w h = bit-ext (v + w) v w (below v (omega arith)) (below w (omega ar
 
 module _ (s a own : List ℕ) (all : ℕ) (M : List ℕ) (r : ℕ) (N : List ℕ) (m : ℕ) (p : Promise s) (x : Started (bookOf s) a own all M r)
     (y : Propagated s M N r m) (cs : List (List ℕ)) (z : CasesAre a own all cs) where
+  -- in a case, the largest subdomain; outside the cases, nothing
   ended-in : (k f c : ℕ) → k < length cs → domainOf N k f c ≡ largest (bookOf s) (getD cs k []) f c
   ended-in k f c l =
       y .is-largest k (getD cs k []) (started-holds-all s a own all M r p x cs z k l) (started-within s a own all M r p x cs z k l) f c
@@ -57,6 +59,7 @@ module _ (s a own : List ℕ) (all : ℕ) (M : List ℕ) (r : ℕ) (N : List ℕ
   ended-out k f c l =
       T-false (λ t. let h : k < length cs = started-cases s a own all M r p x cs z k f c (y .inside k f c t) in omega arith)
 
+  -- so each bit of a word is that of the case's word
   word-bits : (f c k : ℕ) → c < codeLimit → bit (wordAt N f c) k ≡ bit (caseWord (bookOf s) cs f c) k
   word-bits f c k l =
       sym (domain-bit N k f c l) ∙ at (decLt k (length cs))
@@ -66,6 +69,7 @@ module _ (s a own : List ℕ) (all : ℕ) (M : List ℕ) (r : ℕ) (N : List ℕ
       at (yes h) = ended-in k f c h ∙ ap (_&& largest (bookOf s) (getD cs k []) f c) (sym (lt-ltb k (length cs) h))
       at (no n) = ended-out k f c (omega arith) ∙ ap (_&& largest (bookOf s) (getD cs k []) f c) (sym (le-ltb k (length cs) (omega arith)))
 
+  -- the words at the end
   pub marks-ended : N ≡ marksOf (bookOf s) cs
   marks-ended =
       ext-getD 0 N (marksOf (bookOf s) cs) (size ∙ sym (marks-length (bookOf s) cs))
@@ -84,6 +88,7 @@ module _ (s a own : List ℕ) (all : ℕ) (M : List ℕ) (r : ℕ) (N : List ℕ
       y .counts ∙ add-comm (standing (bookOf s) M) r ∙ x .counts
       ∙ ap (λ (n : ℕ). n * allCodes (bookOf s)) (ap ones (z .all-is) ∙ ones-ones (length cs))
 
+  -- the count at the end
   pub count-ended : m ≡ outsideOver (bookOf s) cs
   count-ended =
       count-outside (bookOf s) N (codes-few s p) (length cs) (z .few)
@@ -92,6 +97,7 @@ module _ (s a own : List ℕ) (all : ℕ) (M : List ℕ) (r : ℕ) (N : List ℕ
 
 -- ---- the cases of the one pass
 
+-- over the cases that relax one field each
 outside-relaxed : (b : Book) (a fs : List ℕ) → outsideOver b (map (relax a) fs) ≡ sumOver fs (λ f. outside b (largest b (relax a f)))
 outside-relaxed b a [] = refl
 outside-relaxed b a (f ∷ fs) = ap (outside b (largest b (relax a f)) +_) (outside-relaxed b a fs)

@@ -7,16 +7,15 @@ use Prim.Native.Nat.{ℕ, _-_, _^_, _<_, zero-le}
 use native.Mathlib.Nat.{le-trans, le-suc}
 use native.Mathlib.Decide.{ℕ-discrete}
 use native.Mathlib.Omega.{arith}
-use borrow.Author.Tests.{eq-eqb, ne-eqb}
+use borrow.Author.Tests.{eq-eqb}
 use lib.Dec.{T, eqb, eqb→eq}
 use lib.ListN.{length, getD}
 use lib.Pow.{pow-pos}
 use Rattle.format.specs.Basics.{pick}
 use Rattle.format.specs.Format.{Table, codeLimit, tableAt}
-use Rattle.consistency.specs.Counting.{allBelow}
-use Rattle.consistency.specs.Consistency.{Subdomain, Support, fieldOf, codeOf}
+use Rattle.consistency.specs.Consistency.{Subdomain, Support, codeOf}
 use Rattle.consistency.specs.Largest.{rowSupports}
-use Rattle.consistency.proofs.Booleans.{T-ext, true-T, T-true, false-T, and-in, and-left, and-right, eq→eqb}
+use Rattle.consistency.proofs.Booleans.{T-ext, true-T, false-T, and-in, and-left, and-right, eq→eqb}
 use Rattle.consistency.proofs.Supports.{row-in, row-there, row-others}
 use Rattle.filter.specs.Words.{bit, domainOf}
 use Rattle.filter.specs.declared.support.Shape.{Shape}
@@ -94,7 +93,8 @@ module _ (M : List ℕ) (t : Table) (j c k : ℕ) (need : List ℕ) (one : OneMa
         there i b =
             let a = asked need c k one own i (and-left (bit (getD need own 0) i) (rowSupports (domainOf M i) t j own r) b) in
             and-in (supports r) (eqb i k)
-            (subst T (ap₂ (λ (x y : ℕ). rowSupports (domainOf M x) t j y r) (a .1) (a .0)) (and-right (bit (getD need own 0) i) (rowSupports (domainOf M i) t j own r) b))
+            (subst T (ap₂ (λ (x y : ℕ). rowSupports (domainOf M x) t j y r) (a .1) (a .0))
+            (and-right (bit (getD need own 0) i) (rowSupports (domainOf M i) t j own r) b))
             (eq→eqb (a .1))
 
         back : (i : ℕ) → T (supports r && eqb i k) → T (bit (getD need own 0) i && rowSupports (domainOf M i) t j own r)
@@ -118,6 +118,8 @@ module _ (M : List ℕ) (t : Table) (j c k : ℕ) (need : List ℕ) (one : OneMa
 
 -- Document 01's question, of a table of an accepted book: need asks for one code in one case, and the search begins at row 0
 module _ (s : List ℕ) (t : Shape) (q : InTable s t) (M : List ℕ) (j c k : ℕ) (need : List ℕ) (one : OneMark need c k) where
-  pub first-row : (x : Found) → x ≡ firstFrom (t .rows - 0) 0 (rowCases M need (tableAt s (t .at)) j) → FirstRow (domainOf M k) (tableAt s (t .at)) j c k x
+  -- the answer is the first supporting row of the table, or nothing where it has none
+  pub first-row : (x : Found) → x ≡ firstFrom (t .rows - 0) 0 (rowCases M need (tableAt s (t .at)) j)
+      → FirstRow (domainOf M k) (tableAt s (t .at)) j c k x
   first-row x e =
       answer M (tableAt s (t .at)) j c k need one (codes-small s t q) x (search-is s t q 0 (rowCases M need (tableAt s (t .at)) j) x zero-le e)

@@ -1,5 +1,5 @@
 -- The first number at which g is not 0: one number on, a stop, the end; what an answer says. Assumes nothing.
-use mathlib.Core.Path.{_≡_, refl, sym, ap, ap₂, _∙_, subst}
+use mathlib.Core.Path.{_≡_, refl, sym, ap, _∙_, subst}
 use mathlib.Core.Logic.{_⊎_, inl, inr}
 use Prim.Native.Nat.{ℕ, zero, suc, _+_, _-_, _≤_, _<_}
 use native.Mathlib.Nat.{eq-or-lt-of-le}
@@ -53,6 +53,7 @@ pub record FirstAt (n from : ℕ) (g : ℕ → ℕ) (r v : ℕ) : Type 0 where
   pub some : v ≡ 0 → ⊥
   pub none : (q : ℕ) → from ≤ q → q < r → g q ≡ 0
 
+-- what each answer says
 abbrev pub FirstIs : ℕ → ℕ → (ℕ → ℕ) → Found → Type 0
 FirstIs n from g (Row r v) = FirstAt n from g r v
 FirstIs n from g Nothing = (q : ℕ) → from ≤ q → q < n → g q ≡ 0
@@ -84,7 +85,10 @@ is-from (suc m) from g = go (ℕ-discrete (g from) 0) (is-from m (from + 1) g)
 
     go : Dec (g from ≡ 0) → FirstIs (from + 1 + m) (from + 1) g (firstFrom m (from + 1) g)
         → FirstIs (from + suc m) from g (pick (eqb (g from) 0) (firstFrom m (from + 1) g) (Row from (g from)))
-    go (yes e) h = rw (eq-eqb (g from) 0 e) (is-next (from + suc m) from g (firstFrom m (from + 1) g) e (subst (λ (x : ℕ). FirstIs x (from + 1) g (firstFrom m (from + 1) g)) n h))
+    go (yes e) h =
+        rw (eq-eqb (g from) 0 e)
+        (is-next (from + suc m) from g (firstFrom m (from + 1) g) e
+        (subst (λ (x : ℕ). FirstIs x (from + 1) g (firstFrom m (from + 1) g)) n h))
     go (no e) h =
         rw (ne-eqb (g from) 0 e)
         (record { later = omega arith; below = omega arith; value = refl; some = e; none = λ q l k. absurd (omega arith) })

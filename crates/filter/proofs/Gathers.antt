@@ -30,6 +30,7 @@ maskOf M f = mask codeLimit (domainOf M 0 f)
 -- ---- a field, code by code
 
 module _ (M : List ℕ) (f c n : ℕ) (l : c < codeLimit) (e : n ≡ mask c (domainOf M 0 f)) where
+  -- the code's bit, and room for it
   shifted : 1 * 2 ^ c % 2 ^ 32 ≡ 2 ^ c
   shifted = shl-exact {a = 1} 1 c 32 (lit< tt) (omega arith) ∙ one-mul (2 ^ c)
 
@@ -38,6 +39,7 @@ module _ (M : List ℕ) (f c n : ℕ) (l : c < codeLimit) (e : n ≡ mask c (dom
       let p : 2 ^ suc c ≤ 2 ^ 32 = pow-mono (let h : suc c ≤ 32 = l in h) in
       omega (arith, e, shifted, mask-lt c (domainOf M 0 f), pow-suc 2 c)
 
+  -- one code more
   next : (m : ℕ) (t : Bool) → domainOf M 0 f c ≡ t → m ≡ n + pick t (2 ^ c) 0 → m ≡ mask (c + 1) (domainOf M 0 f)
   next m t d h =
       h ∙ ap₂ (λ (x : ℕ) (y : Bool). x + pick y (2 ^ c) 0) e (sym d) ∙ ap (λ (k : ℕ). mask k (domainOf M 0 f)) (sym (add-one c))
@@ -52,6 +54,7 @@ module _ (M : List ℕ) (f c n : ℕ) (l : c < codeLimit) (e : n ≡ mask c (dom
       next m false (domain-bit M 0 f c l ∙ ne-eqb (wordAt M f c / 1 % 2) 1 (λ (q : wordAt M f c / 1 % 2 ≡ 1). h (omega arith)))
       (d ∙ sym (add-zero n))
 
+-- all codes
 pub mask-all : (M : List ℕ) (f c n : ℕ) → n ≡ mask c (domainOf M 0 f) → c ≡ codeLimit → n ≡ mask codeLimit (domainOf M 0 f)
 mask-all M f c n e d = e ∙ ap (λ (k : ℕ). mask k (domainOf M 0 f)) d
 
@@ -62,6 +65,7 @@ pub record Gathered (M N : List ℕ) (f : ℕ) : Type 0 where
   pub size : length N ≡ places
   pub numbers : (g : ℕ) → g < f → getD N g 0 ≡ maskOf M g
 
+-- no field yet, one more, all
 pub gather-none : (M N : List ℕ) → length N ≡ places → Gathered M N 0
 gather-none M N l = record { size = l; numbers = λ g h. absurd (omega arith) }
 

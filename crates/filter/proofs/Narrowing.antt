@@ -1,5 +1,5 @@
 -- The cases in which a row supports its own code: column by column, and bit by bit. Assumes nothing.
-use mathlib.Core.Path.{_≡_, refl, sym, ap, ap₂, _∙_, subst}
+use mathlib.Core.Path.{_≡_, refl, sym, ap, ap₂, _∙_}
 use mathlib.Core.Logic.{_≢_}
 use mathlib.Core.Bool.{Bool, true, false, _&&_, _||_}
 use mathlib.Core.List.{List}
@@ -47,7 +47,7 @@ module _ (M : List ℕ) (t : Table) (j r : ℕ) where
     zero-stays false v = refl
 
     -- once no case is left, none comes back
-    pub narrowed-zero : (i k : ℕ) → narrowed M t j r w i ≡ 0 → narrowed M t j r w (k + i) ≡ 0
+    narrowed-zero : (i k : ℕ) → narrowed M t j r w i ≡ 0 → narrowed M t j r w (k + i) ≡ 0
     unfolding narrowed
     narrowed-zero i zero e = ap (narrowed M t j r w) (let x : 0 + i ≡ i = omega arith in x) ∙ e
     narrowed-zero i (suc k) e =

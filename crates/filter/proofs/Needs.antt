@@ -5,23 +5,29 @@ use mathlib.Core.Bool.{Bool, true, false, not}
 use mathlib.Core.List.{List}
 use Prim.Native.Nat.{ℕ, zero, suc, _+_, _-_, _≤_, _<_}
 use native.Mathlib.Nat.{not-suc-le-zero}
-use native.Mathlib.Decide.{ℕ-discrete, decLt}
+use native.Mathlib.Decide.{decLt}
 use native.Mathlib.Omega.{arith}
 use borrow.Author.Tests.{eq-eqb, ne-eqb, eqb-true, not-false}
 use lib.Dec.{eqb}
-use lib.ListN.{length, getD, set, replicate, List·getD-eq-default}
+use lib.ListN.{length, getD, set, replicate, length-set, List·getD-eq-default}
 use lib.Seq.{getD-set-same, getD-set-other}
 use Rattle.format.specs.Basics.{pick}
 use Rattle.format.specs.Format.{codeLimit}
 use Rattle.consistency.proofs.Booleans.{below-suc}
 use Rattle.filter.specs.Words.{wordAt}
-use Rattle.filter.specs.Asks.{Looks, needing}
+use Rattle.filter.specs.Asks.{Looks, Counted, needing}
 use Rattle.filter.proofs.Tallies.{many-change, many-none}
 
 -- ---- how many codes have a case
 
 abbrev some : ℕ → Bool
 some w = not (eqb w 0)
+
+none : (x : ℕ) → x ≡ 0 → some x ≡ false
+none x e = ap not (eq-eqb x 0 e)
+
+one : (x : ℕ) → (x ≡ 0 → ⊥) → some x ≡ true
+one x n = ap not (ne-eqb x 0 n)
 
 module _ (need : List ℕ) (full : length need ≡ codeLimit) where
   -- no code has a case
@@ -43,25 +49,30 @@ module _ (need : List ℕ) (full : length need ≡ codeLimit) where
         (λ d h n. ap some (getD-set-other need c d w 0 n))
         ∙ ap (λ (z : Bool). needing need + pick z 1 0) (ap some (getD-set-same need c w 0 (omega arith)) ∙ d)
 
-    none : (x : ℕ) → x ≡ 0 → some x ≡ false
-    none x e = ap not (eq-eqb x 0 e)
+-- the count of the codes with a case, where the word of code c becomes w
+module _ {need : List ℕ} {waiting : ℕ} (k : Counted need waiting) (c w : ℕ) (l : c < codeLimit) where
+  counted : {x : ℕ} → x ≡ needing (set need c w) → Counted (set need c w) x
+  counted e = record { full = length-set need c w ∙ k .full; are = e }
 
-    one : (x : ℕ) → (x ≡ 0 → ⊥) → some x ≡ true
-    one x n = ap not (ne-eqb x 0 n)
+  -- a code without a case gets some
+  pub counted-more : getD need c 0 ≡ 0 → (w ≡ 0 → ⊥) → {x : ℕ} → x ≡ waiting + 1 → Counted (set need c w) x
+  counted-more e n d =
+      counted (d ∙ (let r = needing-set need (k .full) c w l false true (none (getD need c 0) e) (one w n) in omega (arith, k .are)))
 
-    -- a code without a case gets some, or stays without
-    pub needing-more : getD need c 0 ≡ 0 → (w ≡ 0 → ⊥) → needing need + 1 ≡ needing (set need c w)
-    needing-more e n = omega (arith, needing-set false true (none (getD need c 0) e) (one w n))
+  -- or stays without
+  pub counted-still : getD need c 0 ≡ 0 → w ≡ 0 → {x : ℕ} → x ≡ waiting → Counted (set need c w) x
+  counted-still e n d =
+      counted (d ∙ (let r = needing-set need (k .full) c w l false false (none (getD need c 0) e) (none w n) in omega (arith, k .are)))
 
-    pub needing-still : getD need c 0 ≡ 0 → w ≡ 0 → needing need ≡ needing (set need c w)
-    needing-still e n = omega (arith, needing-set false false (none (getD need c 0) e) (none w n))
+  -- a code with a case loses the last one
+  pub counted-less : (getD need c 0 ≡ 0 → ⊥) → w ≡ 0 → {x : ℕ} → x ≡ waiting - 1 → Counted (set need c w) x
+  counted-less e n d =
+      counted (d ∙ (let r = needing-set need (k .full) c w l true false (one (getD need c 0) e) (none w n) in omega (arith, k .are)))
 
-    -- a code with a case loses the last one, or keeps some
-    pub needing-less : (getD need c 0 ≡ 0 → ⊥) → w ≡ 0 → needing need - 1 ≡ needing (set need c w)
-    needing-less e n = omega (arith, needing-set true false (one (getD need c 0) e) (none w n))
-
-    pub needing-kept : (getD need c 0 ≡ 0 → ⊥) → (w ≡ 0 → ⊥) → needing need ≡ needing (set need c w)
-    needing-kept e n = omega (arith, needing-set true true (one (getD need c 0) e) (one w n))
+  -- or keeps some
+  pub counted-kept : (getD need c 0 ≡ 0 → ⊥) → (w ≡ 0 → ⊥) → {x : ℕ} → x ≡ waiting → Counted (set need c w) x
+  counted-kept e n d =
+      counted (d ∙ (let r = needing-set need (k .full) c w l true true (one (getD need c 0) e) (one w n) in omega (arith, k .are)))
 
 -- ---- the words of a field, code by code
 
@@ -74,9 +85,10 @@ looks-none M f = record { words = λ c l. absurd (not-suc-le-zero l); beyond = �
     zeros (suc n) zero = refl
     zeros (suc n) (suc c) = zeros n c
 
-pub needing-zero : 0 ≡ needing (replicate codeLimit 0)
+-- no code has a case yet
+pub counted-none : Counted (replicate codeLimit 0) 0
 unfolding needing
-needing-zero = refl
+counted-none = record { full = refl; are = refl }
 
 -- one code more
 pub looks-next : (M : List ℕ) (f k : ℕ) (need : List ℕ) → length need ≡ codeLimit → k < codeLimit → Looks M f k need → (w : ℕ) → w ≡ wordAt M f k

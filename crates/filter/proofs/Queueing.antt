@@ -40,7 +40,8 @@ module _ (s W : List ℕ) (i f : ℕ) (few : tableCount s ≤ tableLimit) (il : 
     joined-same : (h : ℕ) → h ≢ i → bit (bitOr e rest) h ≡ false → (g c : ℕ) → T (bit (getD W g 0) h) → c < codeLimit
         → Dec (g ≡ f) → wordAt P g c ≡ wordAt M g c
     joined-same h n z g c b l (yes r) =
-        absurd (false-T z (subst T (sym (bit-or e rest h)) (or-right (bit e h) (bit rest h) (rest-has h n (subst (λ (x : ℕ). T (bit (getD W x 0) h)) r b)))))
+        absurd (false-T z (subst T (sym (bit-or e rest h))
+        (or-right (bit e h) (bit rest h) (rest-has h n (subst (λ (x : ℕ). T (bit (getD W x 0) h)) r b)))))
     joined-same h n z g c b l (no r) =
         only g c l r ∙ q .same h n (T-false (λ v. false-T z (subst T (sym (bit-or e rest h)) (or-left (bit e h) (bit rest h) v)))) g c b l
 

@@ -32,7 +32,7 @@ other false y p e = absurd p
 
 module _ (M : List ℕ) (t : Table) (j : ℕ) where
   -- row r of t supports code c in column j in case k
-  abbrev pub Supports : ℕ → ℕ → ℕ → Type 0
+  abbrev Supports : ℕ → ℕ → ℕ → Type 0
   Supports c k r = T (rowSupports (domainOf M k) t j c r)
 
   -- of the cases of need, left has those in which no row below from supports the code, and all others are supported
@@ -53,7 +53,8 @@ module _ (M : List ℕ) (t : Table) (j : ℕ) where
   module _ (small : (r i : ℕ) → r < length (t .rows) → i < length (t .fields) → codeOf t r i < codeLimit) (need left : List ℕ) (from : ℕ)
       (h : Remaining need left from) where
     -- a row supports its own code in the cases asked for that its word has
-    row-has : (r k : ℕ) → r < length (t .rows) → bit (rowCases M left t j r) k ≡ (bit (getD left (codeOf t r j) 0) k && rowSupports (domainOf M k) t j (codeOf t r j) r)
+    row-has : (r k : ℕ) → r < length (t .rows)
+        → bit (rowCases M left t j r) k ≡ (bit (getD left (codeOf t r j) 0) k && rowSupports (domainOf M k) t j (codeOf t r j) r)
     row-has r k l = cases-bit M t j r (λ i. small r i l) left k
 
     -- a row that supports a case asked for has it in its word
@@ -107,7 +108,8 @@ module _ (M : List ℕ) (t : Table) (j : ℕ) where
           ap (λ (x : ℕ). bit x k) (sym (f .value)) ∙ row-has r k (f .below)
           ∙ ap (λ (x : ℕ). bit (getD left x 0) k && rowSupports (domainOf M k) t j x r) (sym ce)
 
-      pub taken-within : Within v (getD left c 0)
+      -- its cases are among those that remain
+      taken-within : Within v (getD left c 0)
       taken-within k b = and-left (bit (getD left c 0) k) (rowSupports (domainOf M k) t j c r) (subst T (v-bit k) b)
 
       -- so the code had a case
@@ -139,7 +141,9 @@ module _ (M : List ℕ) (t : Table) (j : ℕ) where
       gone d k b u =
           let e : d ≡ c = sym (row-there (domainOf M k) t j d r u) ∙ sym ce in
           let b′ : T (bit (getD next c 0) k) = subst (λ (x : ℕ). T (bit (getD next x 0) k)) e b in
-          let w : T (bit v k) = subst T (sym (v-bit k)) (and-in (bit (getD left c 0) k) (rowSupports (domainOf M k) t j c r) (less c k b′) (subst (λ (x : ℕ). Supports x k r) e u)) in
+          let u′ : Supports c k r = subst (λ (x : ℕ). Supports x k r) e u in
+          let w : T (bit v k) =
+          subst T (sym (v-bit k)) (and-in (bit (getD left c 0) k) (rowSupports (domainOf M k) t j c r) (less c k b′) u′) in
           T-not (bit v k) (and-right (bit (getD left c 0) k) (not (bit v k)) (subst T (here k) b′)) w
 
       -- what was taken out is supported by row r
@@ -155,6 +159,7 @@ module _ (M : List ℕ) (t : Table) (j : ℕ) where
               (sym (here k) ∙ ap (λ (x : ℕ). bit (getD next x 0) k) (sym q) ∙ e))))
           go (no n) = absurd (false-T (ap (λ (x : ℕ). bit x k) (sym (elsewhere d n)) ∙ e) b)
 
+      -- the rows below r + 1 are passed
       pub remaining-next : Remaining need next (r + 1)
       remaining-next =
           record {

@@ -1,23 +1,21 @@
 -- A column is revised when the cases without support are struck from the words of its field. Assumes nothing.
-use mathlib.Core.Path.{_≡_, refl, sym, ap, ap₂, _∙_, subst}
-use mathlib.Core.Logic.{_⊎_, inl, inr, _≢_, ⊎-elim}
-use mathlib.Core.Bool.{Bool, true, false, not, _&&_}
+use mathlib.Core.Path.{_≡_, sym, ap, _∙_, subst}
+use mathlib.Core.Logic.{_⊎_, inl, inr}
+use mathlib.Core.Bool.{not}
 use mathlib.Core.List.{List}
-use Prim.Native.Nat.{ℕ, _+_, _-_, _*_, _≤_, _<_}
+use Prim.Native.Nat.{ℕ, _+_, _≤_, _<_}
 use native.Mathlib.Decide.{ℕ-discrete, decLt}
 use native.Mathlib.Omega.{arith}
 use lib.Dec.{T, T-not}
 use lib.ListN.{length, getD}
-use Rattle.format.specs.Format.{Table, Book, codeLimit, fieldCount, bookOf, tableAt}
-use Rattle.format.specs.Promise.{fieldAt, countAt}
-use Rattle.format.proofs.Views.{tables-count, table-view, counts-count, counts-view}
-use Rattle.consistency.specs.Consistency.{Support, Subdomain, Inside, HoldsAll, places, fieldOf, nth, codes}
-use Rattle.consistency.proofs.Booleans.{T-false, false-T, T-or-not, and-in, and-left, and-right}
+use Rattle.format.specs.Format.{Table, codeLimit, fieldCount, bookOf, tableAt}
+use Rattle.format.proofs.Views.{counts-count, counts-view}
+use Rattle.consistency.specs.Consistency.{Support, HoldsAll, places, fieldOf, codes}
+use Rattle.consistency.proofs.Booleans.{T-false, false-T, T-or-not}
 use Rattle.consistency.proofs.Supports.{support-grows}
 use Rattle.filter.specs.Words.{bit, wordAt, domainOf, standing}
 use Rattle.filter.specs.declared.support.Shape.{Shape}
-use Rattle.filter.specs.Support.{InTable}
-use Rattle.filter.specs.Revise.{Removal, OnlyField, Unsupported, Revised}
+use Rattle.filter.specs.Revise.{Unsupported, Revised}
 use Rattle.filter.specs.Asks.{Looks, Struck, ReviseAsks}
 use Rattle.filter.proofs.StruckWords.{LeftOf, others, stood, stays, elsewhere, inside, still, counts}
 use Rattle.filter.proofs.Bits.{Within, zero-bit}
@@ -36,6 +34,7 @@ module _ {s M : List ℕ} {t : Shape} {j f k n : ℕ} (a : ReviseAsks s M t j f 
   codes-of : codes (bookOf s) f ≡ k
   codes-of = counts-view s f known ∙ sym (a .codes-are)
 
+  -- f and its codes have words among the marks
   pub few : k ≤ codeLimit
   few = omega (arith, codes-of, codes-few s (a .table .promise) f)
 
@@ -108,7 +107,8 @@ module _ {s M N need left : List ℕ} {t : Shape} {j f k n u : ℕ} (a : ReviseA
           grows = omega (arith, h .counted);
           holds = holds;
           inside = inside (few a) lefts h;
-          counts = counts (few a) lefts h (bookOf s) (omega (arith, known a, counts-count s (a .table .promise .whole))) (codes-of a) (codes-few s (a .table .promise));
+          counts = counts (few a) lefts h (bookOf s) (omega (arith, known a, counts-count s (a .table .promise .whole))) (codes-of a)
+              (codes-few s (a .table .promise));
           still = still (few a) lefts h;
         };
         only = others (few a) lefts h;

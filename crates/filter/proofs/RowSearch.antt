@@ -6,8 +6,8 @@ use Prim.Native.Nat.{ℕ, _+_, _-_, _*_, _≤_, _<_}
 use native.Mathlib.Omega.{arith}
 use lib.Bits.{bitAnd}
 use lib.ListN.{length, getD}
-use Rattle.format.specs.Format.{codeLimit, byte, tableAt}
-use Rattle.consistency.specs.Consistency.{fieldOf, codeOf}
+use Rattle.format.specs.Format.{byte, tableAt}
+use Rattle.consistency.specs.Consistency.{codeOf}
 use Rattle.filter.specs.Words.{wordAt}
 use Rattle.filter.specs.declared.support.Shape.{Shape}
 use Rattle.filter.specs.declared.support.Found.{Found}
@@ -42,6 +42,7 @@ module _ (s : List ℕ) (t : Shape) (q : InTable s t) where
         ap₂ bitAnd ve (ap₂ (wordAt M) (fe ∙ field-is s t q i il) (ce ∙ code-is s t q r i rl il))
         ∙ sym (narrowed-and M (tableAt s (t .at)) j r w i ij)
 
+    -- column j itself is left out
     pub column-skip : (i v w : ℕ) → i ≡ j → v ≡ narrowed M (tableAt s (t .at)) j r w i → v ≡ narrowed M (tableAt s (t .at)) j r w (i + 1)
     column-skip i v w ij ve = ve ∙ sym (narrowed-skip M (tableAt s (t .at)) j r w i ij)
 
@@ -58,7 +59,8 @@ module _ (s : List ℕ) (t : Shape) (q : InTable s t) where
       row-given-up i il = cases-none M (tableAt s (t .at)) j r need w (i + 1) asked (omega (arith, arity-of s t q))
 
       -- all columns passed
-      pub row-passed : (v i : ℕ) → v ≡ narrowed M (tableAt s (t .at)) j r w i → i ≤ t .arity → t .arity ≤ i → rowCases M need (tableAt s (t .at)) j r ≡ v
+      pub row-passed : (v i : ℕ) → v ≡ narrowed M (tableAt s (t .at)) j r w i → i ≤ t .arity → t .arity ≤ i
+          → rowCases M need (tableAt s (t .at)) j r ≡ v
       row-passed v i ve lo hi =
           cases-are M (tableAt s (t .at)) j r need w v asked
           (ve ∙ ap (narrowed M (tableAt s (t .at)) j r w) (let e : i ≡ length (tableAt s (t .at) .fields) = omega (arith, arity-of s t q) in e))

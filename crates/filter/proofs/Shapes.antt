@@ -1,15 +1,15 @@
 -- The shape of a table of an accepted book: where its rows and fields stand in the bytes, and how large they are. Assumes nothing.
-use mathlib.Core.Path.{_≡_, refl, sym, ap, _∙_, subst}
+use mathlib.Core.Path.{_≡_, sym, ap, _∙_, subst}
 use mathlib.Core.Logic.{⊎-elim, _≢_}
 use mathlib.Core.List.{List, []}
-use Prim.Native.Nat.{ℕ, zero, suc, _+_, _-_, _*_, _≤_, _<_}
+use Prim.Native.Nat.{ℕ, zero, suc, _+_, _*_, _≤_, _<_}
 use native.Mathlib.Nat.{le-trans, not-suc-le-zero, mul-le-mul-right}
 use native.Mathlib.Numerals.{add-one}
 use native.Mathlib.Decide.{decLt}
 use native.Mathlib.Omega.{arith}
 use lib.ListN.{length}
-use Rattle.format.specs.Format.{Table, codeLimit, byte, listPlace, fieldCount, arityAt, rowsOf, firstRow, tableEnd, tableAt, bookOf}
-use Rattle.format.specs.Promise.{Promise, TablePromise, place, fieldAt, codeAt, countAt}
+use Rattle.format.specs.Format.{Table, codeLimit, byte, fieldCount, arityAt, rowsOf, firstRow, tableEnd, tableAt, bookOf}
+use Rattle.format.specs.Promise.{TablePromise, fieldAt, codeAt, countAt}
 use Rattle.format.proofs.Views.{tables-count, table-view, table-rows, table-code, table-field, table-arity}
 use Rattle.consistency.specs.Consistency.{places, fieldOf, codeOf, nth}
 use Rattle.consistency.proofs.Booleans.{below-suc}
@@ -22,13 +22,15 @@ module _ (s : List ℕ) (t : Shape) (q : InTable s t) where
   abbrev pub of : Table
   of = tableAt s (t .at)
 
-  pub promised : TablePromise s (t .at)
+  -- the reader's promise about it
+  promised : TablePromise s (t .at)
   promised = subst (TablePromise s) (sym (q .at-is)) (q .promise .tables (q .index) (q .index-in))
 
+  -- the shape's numbers are those of the bytes
   pub arity-is : t .arity ≡ arityAt s (t .at)
   arity-is = ap (λ (x : Shape). x .arity) (q .shape)
 
-  pub start-is : t .first ≡ firstRow s (t .at)
+  start-is : t .first ≡ firstRow s (t .at)
   start-is = ap (λ (x : Shape). x .first) (q .shape)
 
   pub rows-are : t .rows ≡ rowsOf s (t .at)
@@ -55,6 +57,7 @@ module _ (s : List ℕ) (t : Shape) (q : InTable s t) where
   pub field-in : (i : ℕ) → i < t .arity → t .at + 1 + i + 6 ≤ length s
   field-in i l = omega (arith, start-is, arity-is, end-in)
 
+  -- the bytes there are the table's fields and codes
   pub field-is : (i : ℕ) → i < t .arity → byte s (t .at + 1 + i) ≡ fieldOf of i
   field-is i l = sym (table-field s (t .at) i (omega (arith, arity-is)))
 
@@ -67,7 +70,7 @@ module _ (s : List ℕ) (t : Shape) (q : InTable s t) where
   pub field-known : (i : ℕ) → i < t .arity → fieldOf of i < fieldCount s
   field-known i l = subst (λ (x : ℕ). x < fieldCount s) (field-is i l) (promised .known i (omega (arith, arity-is)))
 
-  -- fields rise, so those of two columns differ
+  -- fields rise
   rise : (i l : ℕ) → i < l → l < arityAt s (t .at) → fieldAt s (t .at) i < fieldAt s (t .at) l
   rise i zero h m = absurd (not-suc-le-zero h)
   rise i (suc l) h m =
@@ -76,6 +79,7 @@ module _ (s : List ℕ) (t : Shape) (q : InTable s t) where
       ⊎-elim (λ (e : i ≡ l). subst (λ (x : ℕ). fieldAt s (t .at) x < fieldAt s (t .at) (suc l)) (sym e) step)
       (λ (k : i < l). le-trans (rise i l k (omega arith)) (omega arith)) (below-suc h)
 
+  -- so those of two columns differ
   pub fields-apart : (i l : ℕ) → i < t .arity → l < t .arity → i ≢ l → fieldOf of i ≢ fieldOf of l
   fields-apart i l il ll n e = go (decLt i l)
     where
@@ -87,12 +91,13 @@ module _ (s : List ℕ) (t : Shape) (q : InTable s t) where
       go (no h) = let r : fieldAt s (t .at) l < fieldAt s (t .at) i = rise l i (omega arith) (omega (arith, arity-is)) in omega (arith, same)
 
   -- a code is one of its field's
-  pub code-known : (r i : ℕ) → r < t .rows → i < t .arity → codeOf of r i < countAt s (fieldOf of i)
+  code-known : (r i : ℕ) → r < t .rows → i < t .arity → codeOf of r i < countAt s (fieldOf of i)
   code-known r i rl il =
       let l : i < arityAt s (t .at) = omega (arith, arity-is) in
       let h : codeAt s (t .at) r i < countAt s (fieldAt s (t .at) i) = promised .codes r i (omega (arith, rows-are)) l in
       rw (table-code s (t .at) r i (omega (arith, rows-are)) l, table-field s (t .at) i l) h
 
+  -- so each field has a place in a sheet, and each code a bit
   pub field-small : (i : ℕ) → i < t .arity → fieldOf of i < places
   field-small i l = omega (arith, field-known i l, fields-few s (q .promise))
 

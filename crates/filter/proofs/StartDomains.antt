@@ -51,6 +51,7 @@ module _ (s a own : List ℕ) (all : ℕ) (M : List ℕ) (r : ℕ) (p : Promise 
       at (yes l) = domain-bit M k f c l ∙ ap (λ (w : ℕ). bit w k) (word-lacking f c l h (decLt f places)) ∙ zero-bit k
       at (no n) = ap (_&& bit (wordAt M f c) k) (le-ltb c codeLimit (omega arith))
 
+  -- the marks are codes of the book
   pub started-of-book : (k : ℕ) → OfBook (bookOf s) (domainOf M k)
   started-of-book k f c t = at (decLt c (codes (bookOf s) f))
     where
@@ -87,6 +88,7 @@ module _ (s a own : List ℕ) (all : ℕ) (M : List ℕ) (r : ℕ) (p : Promise 
         relaxed false = or-false (eqb (answer a f) 255 || eqb c (answer a f))
 
     module _ (k : ℕ) (kl : k < length cs) where
+      -- the marks of case k are the book's codes that its answers allow
       pub started-domain : (f c : ℕ) → domainOf M k f c ≡ has (start (bookOf s) (getD cs k [])) f c
       started-domain f c = at (decLt c (codes (bookOf s) f)) ∙ sym (start-at (bookOf s) (getD cs k []) f c)
         where

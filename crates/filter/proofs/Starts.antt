@@ -24,6 +24,7 @@ use Rattle.filter.proofs.Stores.{word-in, stored-here, stored-elsewhere
 
 -- ---- one word
 
+-- a test or one that passes
 pub or-true : (x : Bool) → (x || true) ≡ true
 or-true true = refl
 or-true false = refl
@@ -47,6 +48,7 @@ module _ (x c all own : ℕ) where
       choose true = p
       choose false = q
 
+  -- a start has cases only
   pub word-within : Within own all → Within (startWord x c all own) all
   word-within h = start-either (λ w. Within w all) (λ k t. t) h
 
@@ -69,6 +71,7 @@ field-none M f x all own s =
 -- one code more
 module _ (M N : List ℕ) (f k x all own s t c : ℕ) (q : StartsField M f k all own s) (y : FieldStarted M N f c x all own s t) (l : c < k)
     (al : all < 2 ^ 64) (ol : own < 2 ^ 64) where
+  -- c is a code that a field can have
   code-in : c < codeLimit
   code-in = le-trans l (q .codes-in)
 
@@ -77,6 +80,7 @@ module _ (M N : List ℕ) (f k x all own s t c : ℕ) (q : StartsField M f k all
   start-in = word-in f c (q .field-in) code-in
 
   module _ (w : ℕ) (e : w ≡ startWord x c all own) where
+    -- the word fits
     w-small : w < 2 ^ 64
     w-small = subst (λ (z : ℕ). z < 2 ^ 64) (sym e) (start-either x c all own (λ z. z < 2 ^ 64) al ol)
 
@@ -87,6 +91,7 @@ module _ (M N : List ℕ) (f k x all own s t c : ℕ) (q : StartsField M f k all
     w-count : ones (bitXor all w) + howMany 64 (bit w) ≡ ones all
     w-count = start-count all w al w-small (subst (λ (z : ℕ). Within z all) (sym e) (word-within x c all own (q .within)))
 
+    -- the words with it
     abbrev P : List ℕ
     P = set N (f * codeLimit + c) w
 

@@ -1,5 +1,5 @@
 -- Cases struck from the words of a field's codes, code by code. Assumes nothing.
-use mathlib.Core.Path.{_≡_, refl, sym, ap, ap₂, _∙_, subst}
+use mathlib.Core.Path.{_≡_, refl, sym, ap, _∙_, subst}
 use mathlib.Core.Logic.{_⊎_, inl, inr}
 use mathlib.Core.List.{List}
 use Prim.Native.Nat.{ℕ, suc, _+_, _*_, _^_, _≤_, _<_}
@@ -53,6 +53,7 @@ module _ {M N left : List ℕ} {f s : ℕ} (c : ℕ) {u : ℕ} (words : length M
       go : (u s x y : ℕ) → u ≡ s + x → u + y ≡ s + (x + y)
       go u s x y e = omega arith
 
+  -- the cases of code c are struck too
   pub struck-next : {r : ℕ} → r ≡ cases c → Struck M (set N (f * codeLimit + c) v) left f (c + 1) s (u + r)
   struck-next {r} e =
       record {

@@ -71,9 +71,11 @@ module _ {M N left : List ℕ} {f k n u : ℕ} (few : k ≤ codeLimit) (w : Left
       subst T (sym (domain-bit N i f c cl ∙ word-bit c i cl))
       (and-in (bit (wordAt M f c) i) (not (bit (getD left c 0) i)) (subst T (domain-bit M i f c cl) b) (not-T (bit (getD left c 0) i) n))
 
+  -- a mark of another field stands where it stood
   pub elsewhere : (i g d : ℕ) → g ≢ f → d < codeLimit → domainOf N i g d ≡ domainOf M i g d
   elsewhere i g d n dl = domain-bit N i g d dl ∙ ap (λ (y : ℕ). bit y i) (others g d dl n) ∙ sym (domain-bit M i g d dl)
 
+  -- no mark stands that did not
   pub inside : (i : ℕ) → Inside (domainOf N i) (domainOf M i)
   inside i g d b = go (ℕ-discrete g f)
     where
@@ -83,7 +85,7 @@ module _ {M N left : List ℕ} {f k n u : ℕ} (few : k ≤ codeLimit) (w : Left
 
   -- ---- how many
 
-  -- where none is struck, the marks are the same
+  -- where nothing was counted, nothing is left
   none-left : u ≡ n → (c : ℕ) → c < k → getD left c 0 ≡ 0
   none-left e c l =
       bit-ext 64 (getD left c 0) 0 (h .small c l) (lit< tt)
@@ -95,6 +97,7 @@ module _ {M N left : List ℕ} {f k n u : ℕ} (few : k ≤ codeLimit) (w : Left
       same : (x : ℕ) → u ≡ n + x → x ≡ 0
       same x d = omega arith
 
+  -- and the marks are the same
   pub still : u ≡ n → N ≡ M
   still e = ext-getD 0 N M (h .same-length) (λ i m. at i (decLt i (f * codeLimit)) (decLt i (f * codeLimit + k)))
     where
@@ -121,6 +124,7 @@ module _ {M N left : List ℕ} {f k n u : ℕ} (few : k ≤ codeLimit) (w : Left
         (λ c l. ap (λ (y : ℕ). howMany 64 (bit y) + howMany 64 (bit (getD left c 0))) (h .gone c (subst (c <_) all l))
         ∙ many-without (wordAt M f c) (getD left c 0) (w .word c))
 
+    -- so of the whole book
     pub counts : standing b N + u ≡ standing b M + n
     unfolding standing
     counts =

@@ -1,24 +1,23 @@
 -- A table swept column by column: what holds behind each column, and each way on. Assumes nothing.
 use mathlib.Core.Path.{_≡_, refl, sym, ap, ap₂, _∙_, subst}
-use mathlib.Core.Logic.{_⊎_, inl, inr, _≢_, ⊎-elim}
+use mathlib.Core.Logic.{_⊎_, inl, inr, _≢_}
 use mathlib.Core.List.{List, []}
-use Prim.Native.Nat.{ℕ, suc, _+_, _-_, _*_, _%_, _^_, _≤_, _<_}
+use Prim.Native.Nat.{ℕ, suc, _+_, _*_, _%_, _^_, _≤_, _<_}
 use native.Mathlib.Nat.{not-suc-le-zero, mul-one, mul-le-mul-left}
-use native.Mathlib.Decide.{ℕ-discrete, decLt}
 use native.Mathlib.Omega.{arith}
 use lib.Bits.{bitOr, bitXor}
 use lib.Dec.{T}
 use lib.ListN.{length, getD}
 use Rattle.format.specs.Format.{Table, lengthLimit, byte, listPlace, fieldCount, arityAt, rowsOf, bookOf, tableAt}
-use Rattle.format.specs.Promise.{Promise, TablePromise, place, fieldAt}
-use Rattle.format.proofs.Views.{table-view, table-field, table-arity}
+use Rattle.format.specs.Promise.{TablePromise}
+use Rattle.format.proofs.Views.{table-view}
 use Rattle.consistency.specs.Consistency.{places, fieldOf, nth}
 use Rattle.consistency.proofs.Booleans.{below-suc}
 use Rattle.filter.specs.Words.{bit}
 use Rattle.filter.specs.declared.support.Shape.{Shape}
 use Rattle.filter.specs.Support.{InTable, shapeAt}
 use Rattle.filter.specs.Revise.{Removal, Revised, ColumnSupported, TableSupported, Queued, Swept}
-use Rattle.filter.specs.Asks.{Marks, ReviseAsks, SweepAsks}
+use Rattle.filter.specs.Asks.{ReviseAsks, SweepAsks}
 use Rattle.filter.proofs.Removals.{removal-none, removal-then, removal-room}
 use Rattle.filter.proofs.Shapes.{arity-is, arity-of, field-is, field-known, fields-apart}
 use Rattle.filter.proofs.Limits.{fields-few}
@@ -32,6 +31,7 @@ pub record SweptTo (s W M N : List ℕ) (i at j n m d e : ℕ) : Type 0 where
   pub queued : Queued s W M N i d e
   pub rest : m ≡ n → e ≡ d
 
+-- no column yet
 pub swept-none : {s W M : List ℕ} {i at n d : ℕ} → SweptTo s W M M i at 0 n n d d
 swept-none {s} {W} {M} {i} {at} {n} =
     record { removal = removal-none (bookOf s) M n; supported = λ l h. absurd (not-suc-le-zero h); queued = queued-none; rest = λ e. refl }
@@ -68,7 +68,8 @@ module _ {s W M : List ℕ} {i at list n : ℕ} (a : SweepAsks s W M i at list n
     -- a table has no more rows than the book has bytes
     pub rows-in : low + 256 * high ≤ lengthLimit
     rows-in =
-        go (rowsOf s at) (rowsOf s at * arityAt s at) rows (subst (_≤ rowsOf s at * arityAt s at) (mul-one (rowsOf s at)) (mul-le-mul-left (rowsOf s at) (promised-at .some)))
+        go (rowsOf s at) (rowsOf s at * arityAt s at) rows
+        (subst (_≤ rowsOf s at * arityAt s at) (mul-one (rowsOf s at)) (mul-le-mul-left (rowsOf s at) (promised-at .some)))
         (promised-at .ends)
       where
         go : (x y : ℕ) → low + 256 * high ≡ x → x ≤ y → at + 3 + arityAt s at + y ≤ listPlace s → low + 256 * high ≤ lengthLimit
@@ -96,6 +97,7 @@ module _ {s W M : List ℕ} {t : Shape} {i list n : ℕ} (a : SweepAsks s W M i 
     pub field-below : f < fieldCount s
     field-below = subst (_< fieldCount s) (sym (fe ∙ field-is s t q j jl)) (field-known s t q j jl)
 
+    -- so it has a word of tables
     pub field-word : f < places
     field-word = omega (arith, field-below, fields-few s (a .promise))
 
@@ -154,6 +156,8 @@ module _ {s W M : List ℕ} {t : Shape} {i list n : ℕ} (a : SweepAsks s W M i 
           record {
             removal = subst (λ (v : ℕ). Removal (bookOf s) M P n v) (z ∙ sym xe) (removal-then (h .removal) (r .removal));
             supported = next;
-            queued = subst (λ (v : ℕ). Queued s W M P i d v) (sym ye) (subst (λ (v : List ℕ). Queued s W M v i d e) (sym (r .removal .still z)) (h .queued));
+            queued =
+                subst (λ (v : ℕ). Queued s W M P i d v) (sym ye)
+                (subst (λ (v : List ℕ). Queued s W M v i d e) (sym (r .removal .still z)) (h .queued));
             rest = λ v. ye ∙ h .rest (sym xe ∙ v);
           }

@@ -1,17 +1,15 @@
 -- What striking marks does, for a column and for a table. Assumes nothing.
-use Prim.Native.Nat.{ℕ, _+_, _*_, _^_, _≤_, _<_}
+use Prim.Native.Nat.{ℕ, _+_, _^_, _≤_, _<_}
 use mathlib.Core.Path.{_≡_}
 use mathlib.Core.Logic.{_≢_}
 use mathlib.Core.Bool.{false}
 use mathlib.Core.List.{List}
 use lib.ListN.{length, getD}
 use lib.Dec.{T}
-use Rattle.format.specs.Format.{Table, Book, codeLimit, fieldCount, tableCount, arityAt, tableAt, bookOf}
-use Rattle.format.specs.Promise.{Promise, place, fieldAt}
+use Rattle.format.specs.Format.{Table, Book, codeLimit, tableCount, arityAt, bookOf}
+use Rattle.format.specs.Promise.{place, fieldAt}
 use Rattle.consistency.specs.Consistency.{Support, Inside, HoldsAll, fieldOf, nth}
 use Rattle.filter.specs.Words.{bit, wordAt, domainOf, standing}
-use Rattle.filter.specs.declared.support.Shape.{Shape}
-use Rattle.filter.specs.Support.{InTable}
 
 -- Marks M became N and the count of strikes s became t: "strikes marks and counts each as it is struck"
 pub record Removal (b : Book) (M N : List ℕ) (s t : ℕ) : Type 0 where
@@ -38,7 +36,7 @@ pub record Unsupported (M : List ℕ) (t : Table) (j : ℕ) (need left : List �
 abbrev pub Room : Book → List ℕ → ℕ → Type 0
 Room b M s = standing b M + s ≤ 1000000
 
--- column j of table t, whose field is f, of k codes, revised
+-- column j of table t, whose field is f, revised
 pub record Revised (b : Book) (M N : List ℕ) (t : Table) (j f s u : ℕ) : Type 0 where
   pub removal : Removal b M N s u
   pub only : OnlyField f M N

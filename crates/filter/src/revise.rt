@@ -14,9 +14,9 @@ use super::support::support;
 use super::support::wide;
 
 // The cases in which each code still looks for a row that supports it, and the number of codes that have such a case.
-pub(crate) struct Need {
-    pub(crate) cases: [u64; 32],
-    pub(crate) waiting: usize,
+struct Need {
+    cases: [u64; 32],
+    waiting: usize,
 }
 
 // The strikes so far, and the tables to look at again.
@@ -26,7 +26,7 @@ pub(crate) struct Pass {
 }
 
 // The cases in which each of the k codes of field f stands.
-pub(crate) fn looking(marks: &[u64; 1024], f: usize, k: usize) -> Need
+fn looking(marks: &[u64; 1024], f: usize, k: usize) -> Need
     requires { ⌜ (f < 32) × (k ≤ 32) ⌝ }
     ensures { λ r. ⌜ Looks (now (marks .entry)) f k (r .cases) × Counted (r .cases) (r .waiting) ⌝ }
 {
@@ -47,13 +47,7 @@ pub(crate) fn looking(marks: &[u64; 1024], f: usize, k: usize) -> Need
 
 // Of the cases looked for, those in which no row of the table supports the code in column j. It stops early where no code
 // needs a row any more.
-pub(crate) fn unsupported(
-    book: &[u8],
-    marks: &[u64; 1024],
-    t: Shape,
-    j: usize,
-    need: Need,
-) -> [u64; 32]
+fn unsupported(book: &[u8], marks: &[u64; 1024], t: Shape, j: usize, need: Need) -> [u64; 32]
     requires { ⌜ InTable (now book) t × ((j < t .arity) × Counted (need .cases) (need .waiting)) ⌝ }
     ensures { λ r. ⌜ Unsupported (now (marks .entry)) (tableAt (now (book .entry)) (t .at)) j (need .cases) r ⌝ }
 {
@@ -97,7 +91,7 @@ fn cases_in(word: u64) -> u32
 }
 
 // Strikes the cases `left` of the k codes of field f, and counts them.
-pub(crate) fn strike(marks: &mut [u64; 1024], left: &[u64; 32], f: usize, k: usize, s: u32) -> u32
+fn strike(marks: &mut [u64; 1024], left: &[u64; 32], f: usize, k: usize, s: u32) -> u32
     requires { ⌜ (length (now marks) ≡ 1024) × ((f < 32) × ((k ≤ 32) × (s ≤ 1000000))) ⌝ }
     ensures { λ r. ⌜ Struck (now (marks .entry)) (now (marks .exit)) (now (left .entry)) f k s r ⌝ }
 {
@@ -111,7 +105,7 @@ pub(crate) fn strike(marks: &mut [u64; 1024], left: &[u64; 32], f: usize, k: usi
 }
 
 // Strikes each mark of field f that no row of the table supports in column j, f's column; the field has k codes.
-pub(crate) fn revise(
+fn revise(
     book: &[u8],
     marks: &mut [u64; 1024],
     t: Shape,

@@ -11,3 +11,4 @@ pub mod CallCases
 pub mod LoadCases
 pub mod Copying
 pub mod Injective
+pub mod Replayed

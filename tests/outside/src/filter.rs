@@ -10,38 +10,40 @@ pub type Subdomain = Vec<Vec<bool>>;
 /// Some row of the table has `code` in column `column` and, in its other columns, codes that are all in the subdomain.
 fn supported(domain: &Subdomain, table: &Table, column: usize, code: u8) -> bool {
     table.rows.iter().any(|row| {
-        row[column] == code
-            && (0..row.len()).all(|k| k == column || domain[table.fields[k] as usize][row[k] as usize])
+        row[column] == code && (0..row.len()).all(|k| k == column || domain[table.fields[k] as usize][row[k] as usize])
     })
 }
 
-/// A code in the subdomain that some table with its field does not support.
-fn unsupported(book: &Book, domain: &Subdomain) -> Option<(usize, usize)> {
+/// The codes in the subdomain that some table with their field does not support.
+fn unsupported(book: &Book, domain: &Subdomain) -> Vec<(usize, usize)> {
+    let mut found = Vec::new();
     for table in &book.tables {
         for (column, &field) in table.fields.iter().enumerate() {
             for code in 0..book.counts[field as usize] {
                 if domain[field as usize][code as usize] && !supported(domain, table, column, code) {
-                    return Some((field as usize, code as usize));
+                    found.push((field as usize, code as usize));
                 }
             }
         }
     }
-    None
+    found
 }
 
-/// Removes one unsupported code after another from all that the answers allow. What is removed is in no arc-consistent subdomain
+/// Removes unsupported codes again and again from all that the answers allow. What is removed is in no arc-consistent subdomain
 /// within the answers, and what is left is one.
 pub fn largest(book: &Book, answers: &[u8]) -> Subdomain {
-    let mut domain: Subdomain = book
-        .counts
-        .iter()
-        .enumerate()
-        .map(|(f, &count)| (0..count).map(|c| answers[f] == NO_ANSWER || answers[f] == c).collect())
-        .collect();
-    while let Some((field, code)) = unsupported(book, &domain) {
-        domain[field][code] = false;
+    let allowed = |f: usize, c: u8| answers[f] == NO_ANSWER || answers[f] == c;
+    let counts = book.counts.iter().enumerate();
+    let mut domain: Subdomain = counts.map(|(f, &count)| (0..count).map(|c| allowed(f, c)).collect()).collect();
+    loop {
+        let removed = unsupported(book, &domain);
+        if removed.is_empty() {
+            return domain;
+        }
+        for (field, code) in removed {
+            domain[field][code] = false;
+        }
     }
-    domain
 }
 
 /// The answers without field f's.

@@ -4,20 +4,30 @@
 //! a case that differs is left in its folder, whose name is printed. The run prints how often each refusal was reached and at how
 //! many places, and fails if one was not reached at several.
 
-mod book;
-mod filter;
-mod random;
-mod text;
-
 use std::collections::{BTreeMap, BTreeSet};
 use std::path::{Path, PathBuf};
 use std::process::{Command, ExitCode};
 
-use random::Random;
+use outside::random::{self, Random};
+use outside::text;
 
 /// The refusals that the program can print, and at how many different places each has to be seen. 1 and 19 have place 0 alone.
 const REACHED: [(u64, usize); 15] = [
-    (1, 1), (2, 3), (3, 3), (4, 3), (5, 3), (6, 3), (7, 3), (8, 3), (9, 3), (10, 3), (11, 3), (12, 2), (13, 3), (14, 3), (19, 1),
+    (1, 1),
+    (2, 3),
+    (3, 3),
+    (4, 3),
+    (5, 3),
+    (6, 3),
+    (7, 3),
+    (8, 3),
+    (9, 3),
+    (10, 3),
+    (11, 3),
+    (12, 2),
+    (13, 3),
+    (14, 3),
+    (19, 1),
 ];
 
 struct Case {
@@ -51,7 +61,7 @@ fn case(r: &mut Random) -> Case {
 }
 
 fn random_byte(r: &mut Random) -> u8 {
-    r.next() as u8
+    r.word() as u8
 }
 
 fn desk_prints(desk: &Path, folder: &Path, case: &Case) -> std::io::Result<Vec<u8>> {

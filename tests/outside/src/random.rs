@@ -1,13 +1,13 @@
 //! Seeded books, sheets and damage.
 
 use crate::book::{Book, Table};
-use crate::filter::NO_ANSWER;
+use crate::filter::{largest, NO_ANSWER};
 
 /// SplitMix64.
 pub struct Random(pub u64);
 
 impl Random {
-    pub fn next(&mut self) -> u64 {
+    pub fn word(&mut self) -> u64 {
         self.0 = self.0.wrapping_add(0x9E37_79B9_7F4A_7C15);
         let mut z = self.0;
         z = (z ^ (z >> 30)).wrapping_mul(0xBF58_476D_1CE4_E5B9);
@@ -17,15 +17,16 @@ impl Random {
 
     /// A number from lo to hi.
     pub fn from(&mut self, lo: usize, hi: usize) -> usize {
-        lo + (self.next() % (hi - lo + 1) as u64) as usize
+        lo + (self.word() % (hi - lo + 1) as u64) as usize
     }
 
     pub fn one_in(&mut self, n: u64) -> bool {
-        self.next() % n == 0
+        self.word().is_multiple_of(n)
     }
 }
 
-fn fields_of(r: &mut Random, fields: usize, arity: usize) -> Vec<u8> {
+/// That many different fields, rising.
+pub fn fields_of(r: &mut Random, fields: usize, arity: usize) -> Vec<u8> {
     let mut all: Vec<u8> = (0..fields as u8).collect();
     for i in 0..arity {
         let k = r.from(i, fields - 1);
@@ -57,19 +58,32 @@ fn table_of(r: &mut Random, counts: &[u8], rows: usize) -> Table {
     table
 }
 
-/// A few fields and tables, with more or fewer rows.
+/// A few fields and tables, with more or fewer rows. In most of them some full reading is possible.
 fn small(r: &mut Random) -> Book {
     let fields = r.from(1, 6);
     let counts: Vec<u8> = (0..fields).map(|_| r.from(1, 5) as u8).collect();
     let tables = r.from(0, 6);
-    let most = [2, 6, 14][r.from(0, 2)];
+    let most = [2, 6, 14, 40][r.from(0, 3)];
     let tables = (0..tables)
         .map(|_| {
             let rows = if r.one_in(12) { 0 } else { r.from(1, most) };
             table_of(r, &counts, rows)
         })
         .collect();
-    Book { counts, tables }
+    let mut book = Book { counts, tables };
+    if !r.one_in(3) {
+        allow_a_reading(r, &mut book);
+    }
+    book
+}
+
+/// Gives every table that has rows one of the same reading of all fields.
+fn allow_a_reading(r: &mut Random, book: &mut Book) {
+    let reading: Vec<u8> = book.counts.iter().map(|&count| r.from(0, count as usize - 1) as u8).collect();
+    for table in book.tables.iter_mut().filter(|table| !table.rows.is_empty()) {
+        let k = r.from(0, table.rows.len() - 1);
+        table.rows[k] = table.fields.iter().map(|&f| reading[f as usize]).collect();
+    }
 }
 
 /// Many fields with many codes.
@@ -119,7 +133,11 @@ fn ring(r: &mut Random) -> Book {
         }
         let rows = (0..codes).filter(|c| c + shift < codes || f != 0).map(|c| {
             let d = if f == 0 { c + shift } else { c };
-            if f < g { vec![c, d] } else { vec![d, c] }
+            if f < g {
+                vec![c, d]
+            } else {
+                vec![d, c]
+            }
         });
         tables.push(Table { fields: vec![f.min(g), f.max(g)], rows: rows.collect() });
     }
@@ -142,17 +160,28 @@ pub fn book(r: &mut Random) -> Book {
     }
 }
 
-/// A stored sheet for the book: from none to all fields answered.
+/// A stored sheet for the book: from none to all fields answered. In a small book most answers stand when they are chosen, so that
+/// something is left of it.
 pub fn form(r: &mut Random, book: &Book) -> Vec<u8> {
     let answered = r.from(0, 4) as u64;
-    let answer = |r: &mut Random, count: u8| {
-        if r.next() % 4 < answered {
-            r.from(0, count as usize - 1) as u8
-        } else {
-            NO_ANSWER
+    let guided = book.counts.len() <= 6 && book.rows() < 300 && !r.one_in(4);
+    let mut form = vec![NO_ANSWER; book.counts.len()];
+    for f in 0..form.len() {
+        if r.word() % 4 < answered {
+            form[f] = if guided { standing_code(r, book, &form, f) } else { r.from(0, book.counts[f] as usize - 1) as u8 };
         }
-    };
-    book.counts.iter().map(|&count| answer(r, count)).collect()
+    }
+    form
+}
+
+/// Mostly a code of the field that stands by these answers, if one does.
+fn standing_code(r: &mut Random, book: &Book, answers: &[u8], f: usize) -> u8 {
+    let domain = largest(book, answers);
+    let standing: Vec<u8> = (0..book.counts[f]).filter(|&c| domain[f][c as usize]).collect();
+    if standing.is_empty() || r.one_in(8) {
+        return r.from(0, book.counts[f] as usize - 1) as u8;
+    }
+    standing[r.from(0, standing.len() - 1)]
 }
 
 /// The places of the tables of accepted bytes.
@@ -228,7 +257,7 @@ pub fn damaged(r: &mut Random, book: &Book, number: u64) -> Vec<u8> {
         }
         _ => {
             let place = r.from(0, n - 1);
-            bytes[place] = r.next() as u8;
+            bytes[place] = r.word() as u8;
         }
     }
     bytes

@@ -1,7 +1,5 @@
 -- `cases_in` meets its contract. Assumes nothing.
 use Rattle.filter.proofs.Bits.{ones-many}
-use borrow.Author.Needs.{needs}
-use native.Mathlib.Omega.{arith}
 use Rattle.filter.proofs.revise.cases_in.Statement.{statement}
 use Rattle.filter.proofs.revise.cases_in.Tie as tie
 use Rattle.filter.proofs.revise.cases_in.Reads as reads

@@ -1,10 +1,9 @@
 -- `looking` meets its contract. The invariant: the words of the codes below c are there, and their cases are counted. Assumes nothing.
-use mathlib.Core.Path.{_≡_, refl, ap, _∙_}
+use mathlib.Core.Path.{refl}
 use mathlib.Core.Logic.{⊎-elim}
-use Prim.Native.Nat.{_+_, _≤_, _-_}
-use lib.ListN.{length-set}
+use Prim.Native.Nat.{_≤_, _-_}
 use Rattle.filter.specs.Asks.{Looks, Counted}
-use Rattle.filter.proofs.Needs.{needing-more, needing-still, looks-none, needing-zero, looks-next, looks-all}
+use Rattle.filter.proofs.Needs.{counted-none, counted-more, counted-still, looks-none, looks-next, looks-all}
 use borrow.Author.Needs.{needs}
 use native.Mathlib.Omega.{arith}
 use Rattle.filter.proofs.revise.looking.Statement.{statement}
@@ -20,7 +19,7 @@ abbrev μ-loop : tie.MeasureT-loop
 
 -- src/revise.rt:29:5
 loop-holds : tie.Need-loop-holds Inv-loop μ-loop
-loop-holds c = (omega arith, record { full = refl; are = needing-zero }, looks-none _ _, omega arith)
+loop-holds c = (omega arith, counted-none, looks-none _ _, omega arith)
 
 -- src/revise.rt:30:26
 mul-word : tie.Need-mul-word Inv-loop μ-loop
@@ -62,11 +61,8 @@ loop-less c = search needs
 loop-again : tie.Need-loop-again Inv-loop μ-loop
 loop-again c = (
   omega arith,
-  record {
-    full = simp length-set (c .before .before .before .loop .inv .1 .full);
-    are = ⊎-elim (λ w. w .1 ∙ ap (_+ 1) (c .before .before .before .loop .inv .1 .are) ∙ needing-more _ (c .before .before .before .loop .inv .1 .full) (c .before .before .before .loop .c) _ (omega (arith, c .before .before .before .before .pre .1)) (c .before .before .before .loop .inv .2 .beyond _ (omega arith)) (w .0 .taken))
-        (λ w. w .1 ∙ c .before .before .before .loop .inv .1 .are ∙ needing-still _ (c .before .before .before .loop .inv .1 .full) (c .before .before .before .loop .c) _ (omega (arith, c .before .before .before .before .pre .1)) (c .before .before .before .loop .inv .2 .beyond _ (omega arith)) (w .0 .left)) (c .if1 .came);
-  },
+  ⊎-elim (λ w. counted-more (c .before .before .before .loop .inv .1) (c .before .before .before .loop .c) _ (omega (arith, c .before .before .before .before .pre .1)) (c .before .before .before .loop .inv .2 .beyond _ (omega arith)) (w .0 .taken) (w .1))
+      (λ w. counted-still (c .before .before .before .loop .inv .1) (c .before .before .before .loop .c) _ (omega (arith, c .before .before .before .before .pre .1)) (c .before .before .before .loop .inv .2 .beyond _ (omega arith)) (w .0 .left) (w .1)) (c .if1 .came),
   looks-next _ _ _ _ (c .before .before .before .loop .inv .1 .full) (omega (arith, c .before .before .before .before .pre .1)) (c .before .before .before .loop .inv .2) _ refl,
   ⊎-elim (λ w. omega (arith, w .1, c .before .before .before .loop .inv .3)) (λ w. omega (arith, w .1, c .before .before .before .loop .inv .3)) (c .if1 .came),
 )

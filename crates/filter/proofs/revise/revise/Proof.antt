@@ -1,7 +1,5 @@
 -- `revise` meets its contract: what no row supports is struck. Assumes nothing.
 use Rattle.filter.proofs.Revisions.{field-in, few, count-in, revised}
-use borrow.Author.Needs.{needs}
-use native.Mathlib.Omega.{arith}
 use Rattle.filter.proofs.revise.revise.Statement.{statement}
 use Rattle.filter.proofs.revise.revise.Tie as tie
 use Rattle.filter.proofs.revise.revise.Reads as reads

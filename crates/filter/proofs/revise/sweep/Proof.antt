@@ -1,10 +1,8 @@
 -- `sweep` meets its contract. The invariant: the columns below j are swept. Assumes nothing.
-use mathlib.Core.Path.{_≡_}
 use mathlib.Core.Logic.{⊎-elim}
 use Prim.Native.Nat.{_≤_, _-_}
 use Rattle.filter.proofs.Shapes.{field-in}
 use Rattle.filter.proofs.Sweeps.{SweptTo, swept-none, head-in, shape-is, rows-in, swept-all, field-below, field-word, column-asks, swept-struck, swept-still}
-use borrow.Author.Needs.{needs}
 use native.Mathlib.Omega.{arith}
 use Rattle.filter.proofs.revise.sweep.Statement.{statement}
 use Rattle.filter.proofs.revise.sweep.Tie as tie

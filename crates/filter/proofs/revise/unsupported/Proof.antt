@@ -1,6 +1,5 @@
 -- `unsupported` meets its contract. The invariant: of the cases looked for, those remain in which no row below `from` supports the
 -- code, and `waiting` counts the codes that have one. Assumes nothing.
-use mathlib.Core.Path.{_≡_}
 use mathlib.Core.Logic.{⊎-elim}
 use Prim.Native.Nat.{_-_}
 use Rattle.filter.proofs.Shapes.{row-in}

@@ -10,7 +10,6 @@ use Rattle.filter.proofs.Firsts.{first-none}
 use Rattle.filter.proofs.Shapes.{row-in, field-in}
 use Rattle.filter.proofs.Narrowing.{narrowed-none}
 use Rattle.filter.proofs.RowSearch.{word-in, own-in, column-and, column-skip, row-unasked, row-given-up, row-passed, search-on, search-ends}
-use borrow.Author.Needs.{needs}
 use native.Mathlib.Omega.{arith}
 use Rattle.filter.proofs.support.support.Statement.{statement}
 use Rattle.filter.proofs.support.support.Tie as tie

@@ -1,0 +1,163 @@
+//! The four families of books, each with answers for any n.
+
+/// A book with the reading that its answers are taken from.
+pub struct Family {
+    pub name: &'static str,
+    pub what: &'static str,
+    pub book: Vec<u8>,
+    reading: Vec<u8>,
+    /// The fields in the order in which they are answered.
+    order: Vec<usize>,
+}
+
+impl Family {
+    /// A sheet with n answers.
+    pub fn sheet(&self, n: usize) -> [u8; 32] {
+        let mut sheet = [255; 32];
+        for &f in &self.order[..n] {
+            sheet[f] = self.reading[f];
+        }
+        sheet
+    }
+}
+
+/// SplitMix64.
+struct Random(u64);
+
+impl Random {
+    fn below(&mut self, n: usize) -> usize {
+        self.0 = self.0.wrapping_add(0x9E37_79B9_7F4A_7C15);
+        let mut z = self.0;
+        z = (z ^ (z >> 30)).wrapping_mul(0xBF58_476D_1CE4_E5B9);
+        z = (z ^ (z >> 27)).wrapping_mul(0x94D0_49BB_1331_11EB);
+        ((z ^ (z >> 31)) % n as u64) as usize
+    }
+
+    fn shuffled(&mut self, n: usize) -> Vec<usize> {
+        let mut all: Vec<usize> = (0..n).collect();
+        for i in 0..n {
+            let k = i + self.below(n - i);
+            all.swap(i, k);
+        }
+        all
+    }
+
+    fn reading(&mut self, counts: &[u8]) -> Vec<u8> {
+        counts.iter().map(|&count| self.below(count as usize) as u8).collect()
+    }
+
+    /// That many different fields, rising.
+    fn fields(&mut self, of: usize, arity: usize) -> Vec<u8> {
+        let mut fields: Vec<u8> = self.shuffled(of)[..arity].iter().map(|&f| f as u8).collect();
+        fields.sort();
+        fields
+    }
+}
+
+type Table = (Vec<u8>, Vec<Vec<u8>>);
+
+fn on(fields: &[u8], reading: &[u8]) -> Vec<u8> {
+    fields.iter().map(|&f| reading[f as usize]).collect()
+}
+
+/// The book's bytes, as document 01 lays them out.
+fn bytes(counts: &[u8], tables: &[Table]) -> Vec<u8> {
+    let mut out = Vec::new();
+    for (fields, rows) in tables {
+        out.push(fields.len() as u8);
+        out.extend(fields);
+        out.extend((rows.len() as u16).to_le_bytes());
+        out.extend(rows.iter().flatten());
+    }
+    let list = out.len() as u16;
+    out.extend(counts);
+    out.extend(list.to_le_bytes());
+    out.extend([counts.len() as u8, tables.len() as u8, 1, 0xE5]);
+    out
+}
+
+/// A: 32 fields of 2 to 10 codes, 35 binary tables that allow six pairs in ten.
+fn configuration() -> Family {
+    let mut r = Random(1);
+    let counts: Vec<u8> = (0..32).map(|_| 2 + r.below(9) as u8).collect();
+    let reading = r.reading(&counts);
+    let mut tables = Vec::new();
+    for _ in 0..35 {
+        let fields = r.fields(32, 2);
+        let mut rows = vec![on(&fields, &reading)];
+        for c in 0..counts[fields[0] as usize] {
+            for d in 0..counts[fields[1] as usize] {
+                if r.below(10) < 6 {
+                    rows.push(vec![c, d]);
+                }
+            }
+        }
+        tables.push((fields, rows));
+    }
+    let order = r.shuffled(32);
+    Family { name: "A", what: "32 fields, 35 binary tables", book: bytes(&counts, &tables), reading, order }
+}
+
+/// B: 32 fields of 32 codes, 64 tables of arity 4 with that many rows together; a quarter of the rows come from readings that all
+/// tables allow, the others are chosen at random.
+pub fn largest(rows: usize) -> Family {
+    let mut r = Random(2);
+    let counts = vec![32; 32];
+    let each = rows / 64;
+    let readings: Vec<Vec<u8>> = (0..each.div_ceil(4)).map(|_| r.reading(&counts)).collect();
+    let mut tables = Vec::new();
+    for _ in 0..64 {
+        let fields = r.fields(32, 4);
+        let mut rows: Vec<Vec<u8>> = readings.iter().map(|reading| on(&fields, reading)).collect();
+        while rows.len() < each {
+            let reading = r.reading(&counts);
+            rows.push(on(&fields, &reading));
+        }
+        let order = r.shuffled(each);
+        tables.push((fields, order.iter().map(|&i| rows[i].clone()).collect()));
+    }
+    let (reading, order) = (readings[0].clone(), r.shuffled(32));
+    Family { name: "B", what: "32 × 32 codes, 64 tables, 4,096 rows", book: bytes(&counts, &tables), reading, order }
+}
+
+/// C: a ring of 16 fields in which each has the code of the one before, and the first the one that follows the last's. On each hangs
+/// a field whose answer strikes code 0 there, and from then on all 512 codes of the ring fall one after another. Those 16 fields are
+/// answered first. The tables stand against the direction of the fall.
+fn ring() -> Family {
+    let mut tables: Vec<Table> = vec![(vec![0, 15], (0..32).map(|c| vec![(c + 1) % 32, c]).collect())];
+    for f in (0..15).rev() {
+        tables.push((vec![f, f + 1], (0..32).map(|c| vec![c, c]).collect()));
+    }
+    for f in 0..16 {
+        let held = (1..32).map(|c| vec![c, 0]);
+        tables.push((vec![f, f + 16], held.chain((0..32).map(|c| vec![c, 1])).collect()));
+    }
+    let counts: Vec<u8> = (0..32).map(|f| if f < 16 { 32 } else { 2 }).collect();
+    let order = (16..32).chain(0..16).collect();
+    let what = "a ring that strikes 512 codes one after another";
+    Family { name: "C", what, book: bytes(&counts, &tables), reading: vec![0; 32], order }
+}
+
+/// D: 4,096 rows of which each table has 12 different ones.
+fn repeated() -> Family {
+    let mut r = Random(4);
+    let counts = vec![4; 32];
+    let readings: Vec<Vec<u8>> = (0..6).map(|_| r.reading(&counts)).collect();
+    let mut tables = Vec::new();
+    for _ in 0..16 {
+        let fields = r.fields(32, 4);
+        let mut different: Vec<Vec<u8>> = readings.iter().map(|reading| on(&fields, reading)).collect();
+        for _ in 0..6 {
+            let reading = r.reading(&counts);
+            different.push(on(&fields, &reading));
+        }
+        let rows = (0..256).map(|_| different[r.below(12)].clone()).collect();
+        tables.push((fields, rows));
+    }
+    let (reading, order) = (readings[0].clone(), r.shuffled(32));
+    Family { name: "D", what: "4,096 rows, few of them different", book: bytes(&counts, &tables), reading, order }
+}
+
+pub fn all() -> [Family; 4] {
+    [configuration(), largest(4_096), ring(), repeated()]
+}

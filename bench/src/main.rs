@@ -1,0 +1,72 @@
+//! Measures the library against n + 1 separate filterings, plain Rust and Gecode, all in one run.
+//!
+//! `bench` prints the tables; `bench --write DOCS` also puts them into DOCS/PERFORMANCE.md, between its two marks, and draws
+//! DOCS/performance.svg.
+
+mod families;
+mod gecode;
+mod measure;
+mod plain;
+mod plot;
+mod stack;
+mod tables;
+mod timing;
+
+use std::fmt::Write;
+use std::path::Path;
+
+use measure::Pass;
+
+const BEGIN: &str = "<!-- measured: begin -->\n";
+const END: &str = "<!-- measured: end -->\n";
+
+/// The sections below as text, and the drawing.
+fn measured() -> Result<(String, String), std::fmt::Error> {
+    let books = families::all();
+    let passes: Vec<(String, Vec<Pass>)> = books
+        .iter()
+        .map(|family| {
+            let passes = [1, 2, 4, 8, 16, 32].map(|n| measure::alternatives(family, n));
+            (format!("{}: {}", family.name, family.what), passes.into())
+        })
+        .collect();
+    let mut out = String::new();
+    if !gecode::INSTALLED {
+        writeln!(out, "libgecode-dev was not installed: the column for Gecode is left out.\n")?;
+    }
+    tables::targets(&mut out, &passes)?;
+    writeln!(out, "\n### All alternatives of a sheet with n answers\n")?;
+    tables::passes(&mut out, &passes)?;
+    writeln!(out, "\n### Reading a book, and one plain filtering with n = 16\n")?;
+    let readings = books.iter().map(|f| (f.name, measure::reading(&f.book), measure::filtering(f, 16)));
+    let readings: Vec<_> = readings.collect();
+    tables::readings(&mut out, &readings)?;
+    writeln!(out, "\n### Growth with the rows of family B, n = 16\n")?;
+    let steps = [256, 512, 1_024, 2_048, 4_096].map(families::largest);
+    let steps: Vec<_> = steps.iter().map(|f| (measure::alternatives(f, 16), measure::reading(&f.book))).collect();
+    tables::growth(&mut out, &steps)?;
+    writeln!(out, "\n### Stack, family B, n = 32\n")?;
+    tables::stacks(&mut out, &measure::stacks(&books[1]))?;
+    Ok((out, plot::svg(&passes)?))
+}
+
+/// Puts the text between the document's two marks.
+fn written(document: &str, text: &str) -> Option<String> {
+    let begin = document.find(BEGIN)? + BEGIN.len();
+    let end = begin + document[begin..].find(END)?;
+    Some(format!("{}\n{text}\n{}", &document[..begin], &document[end..]))
+}
+
+fn main() -> Result<(), Box<dyn std::error::Error>> {
+    let (text, drawing) = measured()?;
+    println!("{text}");
+    let words: Vec<String> = std::env::args().skip(1).collect();
+    if let [flag, folder] = &words[..] {
+        assert_eq!(flag, "--write");
+        let path = Path::new(folder).join("PERFORMANCE.md");
+        let document = std::fs::read_to_string(&path)?;
+        std::fs::write(&path, written(&document, &text).ok_or("PERFORMANCE.md lacks its two marks")?)?;
+        std::fs::write(Path::new(folder).join("performance.svg"), drawing)?;
+    }
+    Ok(())
+}

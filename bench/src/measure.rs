@@ -1,0 +1,130 @@
+//! What is measured: the library's calls, beside plain Rust and Gecode on the same books.
+
+use sighting::Sheet;
+
+use crate::families::Family;
+use crate::gecode::Root;
+use crate::plain::{engine, reader};
+use crate::stack;
+use crate::timing::{medians, Contender};
+
+const PAIRS: usize = 2 * 32 * 32;
+
+/// The medians of one family at one n, in microseconds.
+pub struct Pass {
+    pub n: usize,
+    pub library: f64,
+    pub plain: f64,
+    pub separate: f64,
+    pub gecode: Option<f64>,
+}
+
+/// The library's total, by one pass.
+fn one_pass(book: &[u8], sheet: &Sheet) -> u64 {
+    let mut pairs = [0; PAIRS];
+    sheet.alternatives(book, &mut pairs).expect("accepted").total
+}
+
+/// The library's total, by n + 1 separate filterings: nothing relaxed, then each answered field.
+fn separate(book: &[u8], sheet: &Sheet) -> u64 {
+    let mut numbers = [0; 32];
+    sheet.filtered(book, None, &mut numbers).expect("accepted");
+    let mut total = 0;
+    for f in (0..32u8).filter(|&f| sheet.bytes()[f as usize] != sighting::NO_ANSWER) {
+        sheet.filtered(book, Some(f), &mut numbers).expect("accepted");
+        total += numbers[f as usize].count_ones() as u64;
+    }
+    total
+}
+
+fn plain_pass(book: &[u8], sheet: &Sheet) -> u64 {
+    let mut pairs = [0; PAIRS];
+    engine::alternatives(sheet.bytes(), book, &mut pairs).expect("accepted").0
+}
+
+/// All ways give the same pairs and totals.
+fn agree(book: &[u8], sheet: &Sheet, root: Option<&Root>) {
+    let (mut pairs, mut plain) = ([0; PAIRS], [0; PAIRS]);
+    let found = sheet.alternatives(book, &mut pairs).expect("accepted");
+    assert_eq!(engine::alternatives(sheet.bytes(), book, &mut plain), Ok((found.total, found.struck)));
+    assert_eq!(pairs, plain);
+    assert_eq!(separate(book, sheet), found.total);
+    if let Some(root) = root {
+        assert_eq!(root.alternatives(sheet.bytes()), found.total);
+    }
+}
+
+pub fn alternatives(family: &Family, n: usize) -> Pass {
+    let (book, bytes) = (&family.book[..], family.sheet(n));
+    let (sheet, root) = (Sheet::from(bytes), Root::open(book));
+    agree(book, &sheet, root.as_ref());
+    let mut contenders: Vec<Contender> =
+        vec![Box::new(|| one_pass(book, &sheet)), Box::new(|| plain_pass(book, &sheet)), Box::new(|| separate(book, &sheet))];
+    if let Some(root) = &root {
+        contenders.push(Box::new(|| root.alternatives(&bytes)));
+    }
+    let times = medians(&mut contenders);
+    Pass { n, library: times[0], plain: times[1], separate: times[2], gecode: times.get(3).copied() }
+}
+
+/// The medians of reading, by the library and by plain Rust, and of setting up Gecode.
+pub struct Reading {
+    pub rows: u64,
+    pub library: f64,
+    pub plain: f64,
+    pub gecode_set_up: Option<f64>,
+}
+
+pub fn reading(book: &[u8]) -> Reading {
+    let counts = sighting::read(book).expect("accepted");
+    assert_eq!(reader::read(book), Ok([counts.fields, counts.tables, counts.rows, counts.different_rows]));
+    let mut contenders: Vec<Contender> = vec![
+        Box::new(|| sighting::read(book).map_or(0, |counts| counts.rows)),
+        Box::new(|| reader::read(book).map_or(0, |counts| counts[2])),
+    ];
+    if Root::open(book).is_some() {
+        contenders.push(Box::new(|| Root::open(book).is_some() as u64));
+    }
+    let times = medians(&mut contenders);
+    Reading { rows: counts.rows, library: times[0], plain: times[1], gecode_set_up: times.get(2).copied() }
+}
+
+/// The medians of one plain filtering with nothing relaxed, by the library and by plain Rust.
+pub struct Filtering {
+    pub library: f64,
+    pub plain: f64,
+}
+
+pub fn filtering(family: &Family, n: usize) -> Filtering {
+    let (book, bytes) = (&family.book[..], family.sheet(n));
+    let library = || {
+        let mut numbers = [0; 32];
+        Sheet::from(bytes).filtered(book, None, &mut numbers).expect("accepted");
+        numbers.iter().map(|&number| number as u64).sum::<u64>()
+    };
+    let plain = || {
+        let mut numbers = [0; 32];
+        engine::filtered(&bytes, book, &mut numbers).expect("accepted");
+        numbers.iter().map(|&number| number as u64).sum()
+    };
+    assert_eq!(library(), plain());
+    let times = medians(&mut [Box::new(library), Box::new(plain)]);
+    Filtering { library: times[0], plain: times[1] }
+}
+
+/// The stack bytes of each call on this book.
+pub fn stacks(family: &Family) -> Vec<(&'static str, usize)> {
+    let (book, bytes) = (&family.book[..], family.sheet(32));
+    let (mut pairs, mut numbers, mut text) = ([0; PAIRS], [0; 32], [0; 32_768]);
+    let list = [0, 0, 0].repeat(32);
+    let sheet = Sheet::from(bytes);
+    let mut entered = sheet;
+    vec![
+        ("read", stack::bytes(&mut || assert!(sighting::read(book).is_ok()))),
+        ("enter", stack::bytes(&mut || assert!(entered.enter(book, 0, 0).is_ok()))),
+        ("filtered", stack::bytes(&mut || assert!(sheet.filtered(book, None, &mut numbers).is_ok()))),
+        ("alternatives", stack::bytes(&mut || assert!(sheet.alternatives(book, &mut pairs).is_ok()))),
+        ("replay", stack::bytes(&mut || assert!(Sheet::replay(book, &list, &mut pairs).1.is_ok()))),
+        ("report", stack::bytes(&mut || assert!(sighting::report(book, &bytes, &mut text).is_ok()))),
+    ]
+}

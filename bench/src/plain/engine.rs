@@ -1,0 +1,167 @@
+//! The engine: all cases in one pass, one bit for each case in a word for each field and code, revised a column at a time.
+
+use super::reader::{check, Checked, Table};
+use super::Refused;
+
+pub const NO_ANSWER: u8 = 255;
+
+/// Filters a book in several cases at once: bit k of a mark says that it stands in case k.
+struct Engine<'a> {
+    book: &'a Checked<'a>,
+    marks: [u64; 1024],
+    watch: [u64; 32],
+    queue: u64,
+    struck: u64,
+}
+
+fn first_bits(n: usize) -> u64 {
+    if n == 0 {
+        0
+    } else {
+        u64::MAX >> (64 - n)
+    }
+}
+
+impl<'a> Engine<'a> {
+    /// The marks that the answers allow: of an answered field the held code in all cases, the others in those that relax the
+    /// field.
+    fn start(book: &'a Checked<'a>, sheet: &[u8; 32], cases: usize, relaxing: &[u64; 32]) -> Engine<'a> {
+        let mut engine = Engine { book, marks: [0; 1024], watch: [0; 32], queue: first_bits(book.view.tables), struck: 0 };
+        let all = first_bits(cases);
+        for f in 0..book.view.fields {
+            for c in 0..book.view.codes(f) {
+                let open = sheet[f] == NO_ANSWER || sheet[f] as usize == c;
+                let word = if open { all } else { relaxing[f] };
+                engine.marks[f * 32 + c] = word;
+                engine.struck += (all ^ word).count_ones() as u64;
+            }
+        }
+        for (i, &table) in book.tables[..book.view.tables].iter().enumerate() {
+            for j in 0..table.arity {
+                engine.watch[book.view.field(table, j)] |= 1 << i;
+            }
+        }
+        engine
+    }
+
+    /// The first row from `from` on that keeps its code in column j in a case of need[code], with those cases.
+    fn support(&self, table: Table, j: usize, need: &[u64; 32], from: usize) -> Option<(usize, u64)> {
+        let bytes = self.book.view.bytes;
+        'rows: for r in from..table.rows {
+            let row = table.first + r * table.arity;
+            let mut cases = need[bytes[row + j] as usize];
+            if cases == 0 {
+                continue 'rows;
+            }
+            for k in 0..table.arity {
+                if k != j {
+                    let field = bytes[table.at + 1 + k] as usize;
+                    cases &= self.marks[field * 32 + bytes[row + k] as usize];
+                    if cases == 0 {
+                        continue 'rows;
+                    }
+                }
+            }
+            return Some((r, cases));
+        }
+        None
+    }
+
+    /// Of the marks of column j, those that no row supports.
+    fn unsupported(&self, table: Table, j: usize, field: usize) -> [u64; 32] {
+        let mut need = [0; 32];
+        let mut waiting = 0;
+        for (c, word) in need.iter_mut().enumerate().take(self.book.view.codes(field)) {
+            *word = self.marks[field * 32 + c];
+            waiting += (*word != 0) as usize;
+        }
+        let mut from = 0;
+        while waiting != 0 {
+            let Some((r, cases)) = self.support(table, j, &need, from) else {
+                break;
+            };
+            let c = self.book.view.bytes[table.first + r * table.arity + j] as usize;
+            need[c] ^= cases;
+            waiting -= (need[c] == 0) as usize;
+            from = r + 1;
+        }
+        need
+    }
+
+    fn revise(&mut self, i: usize) {
+        let table = self.book.tables[i];
+        for j in 0..table.arity {
+            let field = self.book.view.field(table, j);
+            let left = self.unsupported(table, j, field);
+            let mut any = 0;
+            for (c, &word) in left.iter().enumerate().take(self.book.view.codes(field)) {
+                self.marks[field * 32 + c] ^= word;
+                self.struck += word.count_ones() as u64;
+                any |= word;
+            }
+            if any != 0 {
+                self.queue |= self.watch[field] & !(1 << i);
+            }
+        }
+    }
+
+    fn propagate(&mut self) {
+        let mut from = 0;
+        while self.queue != 0 {
+            let later = self.queue >> from;
+            let i = if later == 0 { self.queue.trailing_zeros() } else { from + later.trailing_zeros() };
+            self.queue &= !(1 << i);
+            self.revise(i as usize);
+            from = (i + 1) % 64;
+        }
+    }
+}
+
+/// The lowest place of the sheet at fault: refusal 14.
+fn check_sheet(book: &Checked, sheet: &[u8; 32]) -> Result<(), Refused> {
+    for (f, &a) in sheet.iter().enumerate() {
+        if a != NO_ANSWER && (f >= book.view.fields || a as usize >= book.view.codes(f)) {
+            return Err((14, f as u64));
+        }
+    }
+    Ok(())
+}
+
+/// Total and struck; the pairs go to `out`.
+pub fn alternatives(sheet: &[u8; 32], bytes: &[u8], out: &mut [u8]) -> Result<(u64, u64), Refused> {
+    let book = check(bytes)?;
+    check_sheet(&book, sheet)?;
+    let mut relaxing = [0; 32];
+    let mut cases = 1;
+    for f in (0..book.view.fields).filter(|&f| sheet[f] != NO_ANSWER) {
+        relaxing[f] = 1 << cases;
+        cases += 1;
+    }
+    let mut engine = Engine::start(&book, sheet, cases, &relaxing);
+    engine.propagate();
+    let listed = |f: usize, c: usize| engine.marks[f * 32 + c] & relaxing[f] != 0;
+    let places = || (0..book.view.fields).flat_map(|f| (0..book.view.codes(f)).map(move |c| (f, c)));
+    let total = places().filter(|&(f, c)| listed(f, c)).count();
+    if out.len() < 2 * total {
+        return Err((18, 0));
+    }
+    for (pair, (f, c)) in out.chunks_mut(2).zip(places().filter(|&(f, c)| listed(f, c))) {
+        pair.copy_from_slice(&[f as u8, c as u8]);
+    }
+    Ok((total as u64, engine.struck))
+}
+
+/// One number for each field, with nothing relaxed.
+pub fn filtered(sheet: &[u8; 32], bytes: &[u8], out: &mut [u32]) -> Result<(), Refused> {
+    let book = check(bytes)?;
+    check_sheet(&book, sheet)?;
+    if out.len() < book.view.fields {
+        return Err((18, 0));
+    }
+    let mut engine = Engine::start(&book, sheet, 1, &[0; 32]);
+    engine.propagate();
+    for (f, number) in out.iter_mut().enumerate().take(book.view.fields) {
+        *number = (0..book.view.codes(f)).fold(0, |bits, c| bits | (engine.marks[f * 32 + c] as u32) << c);
+    }
+    Ok(())
+}

@@ -1,0 +1,248 @@
+//! The sighting desk: a safe wrapper over its proved static library.
+//!
+//! A book is a slice of bytes, checked in every call; a [`Sheet`] holds the answers. Nothing is taken from the heap: results go to
+//! buffers that the caller lends. A refused call changes neither the sheet nor a buffer.
+//!
+//! The book below has three fields, of 2, 3 and 3 codes, and two tables. With field 0 answered by 0 and field 1 by 1, code 1 of
+//! field 2 stands, and each answer has an alternative beside itself.
+//!
+//! ```
+//! use sighting::{read, Sheet};
+//!
+//! # fn main() -> Result<(), sighting::Refusal> {
+//! let book = [
+//!     2, 0, 2, 4, 0, 0, 0, 0, 1, 1, 2, 0, 1, // fields 0 and 2: 4 rows
+//!     2, 1, 2, 4, 0, 0, 0, 1, 1, 1, 2, 2, 2, // fields 1 and 2: 4 rows
+//!     2, 3, 3, 0x1A, 0, 3, 2, 1, 0xE5, // codes of each field, then the trailer
+//! ];
+//! let counts = read(&book)?;
+//! assert_eq!((counts.fields, counts.tables, counts.rows, counts.different_rows), (3, 2, 8, 7));
+//!
+//! let mut sheet = Sheet::fresh();
+//! sheet.enter(&book, 0, 0)?;
+//! sheet.enter(&book, 1, 1)?;
+//! assert_eq!(sheet.enter(&book, 3, 0).unwrap_err().number, 15); // there is no field 3
+//!
+//! let mut pairs = [0; 8];
+//! let found = sheet.alternatives(&book, &mut pairs)?;
+//! assert_eq!((found.total, found.struck), (4, 11));
+//! assert_eq!(pairs, [0, 0, 0, 1, 1, 0, 1, 1]); // field, code; field, code; ..
+//!
+//! let mut codes = [0; 3];
+//! sheet.filtered(&book, None, &mut codes)?;
+//! assert_eq!(codes, [0b001, 0b010, 0b010]); // bit c of number f: code c of field f stands
+//! # Ok(())
+//! # }
+//! ```
+
+pub mod ffi;
+mod refusal;
+
+pub use refusal::Refusal;
+
+/// The bytes of a sheet, as in `include/sighting.h`.
+pub const SHEET_BYTES: usize = 32;
+
+/// In a sheet: no answer.
+pub const NO_ANSWER: u8 = 255;
+
+/// What a book has. A row that is repeated in its table counts once among the different rows.
+#[derive(Clone, Copy, Debug, PartialEq, Eq)]
+pub struct Counts {
+    pub fields: u64,
+    pub tables: u64,
+    pub rows: u64,
+    pub different_rows: u64,
+}
+
+/// What the one pass counts: the alternatives of all answered fields, and the marks struck in all cases.
+#[derive(Clone, Copy, Debug, PartialEq, Eq)]
+pub struct Alternatives {
+    pub total: u64,
+    pub struck: u64,
+}
+
+/// The buffer was too short for the text, which has this many bytes; nothing was written.
+#[derive(Clone, Copy, Debug, PartialEq, Eq)]
+pub struct TooShort {
+    pub needed: u64,
+}
+
+/// A call in a list for [`Sheet::replay`].
+#[derive(Clone, Copy, Debug, PartialEq, Eq)]
+pub enum Call {
+    Enter { field: u8, code: u8 },
+    Withdraw { field: u8 },
+    Clear,
+}
+
+impl Call {
+    /// The call's three bytes in the list.
+    pub fn bytes(self) -> [u8; 3] {
+        match self {
+            Call::Enter { field, code } => [0, field, code],
+            Call::Withdraw { field } => [1, field, 0],
+            Call::Clear => [2, 0, 0],
+        }
+    }
+}
+
+fn answer<T>(number: u64, place: u64, value: T) -> Result<T, Refusal> {
+    match number {
+        0 => Ok(value),
+        _ => Err(Refusal { number, place }),
+    }
+}
+
+/// Reads a book and counts what it has. Refusals: 1 to 13.
+pub fn read(book: &[u8]) -> Result<Counts, Refusal> {
+    let mut cells = [0; 5];
+    // SAFETY: book's pointer and length belong together; five cells are lent.
+    let number = unsafe { ffi::sighting_read(book.as_ptr(), book.len(), cells.as_mut_ptr()) };
+    let [place, fields, tables, rows, different_rows] = cells;
+    answer(number, place, Counts { fields, tables, rows, different_rows })
+}
+
+/// Writes the text that the program `desk` prints for this book and this stored sheet, and answers its length.
+pub fn report(book: &[u8], form: &[u8], out: &mut [u8]) -> Result<u64, TooShort> {
+    let mut cells = [0; 1];
+    // SAFETY: each pointer has its slice's length beside it; one cell is lent.
+    let number = unsafe {
+        ffi::sighting_report(
+            book.as_ptr(),
+            book.len(),
+            form.as_ptr(),
+            form.len(),
+            out.as_mut_ptr(),
+            out.len(),
+            cells.as_mut_ptr(),
+        )
+    };
+    match number {
+        0 => Ok(cells[0]),
+        _ => Err(TooShort { needed: cells[0] }),
+    }
+}
+
+/// The answers: for each of 32 places the answered code, or [`NO_ANSWER`].
+#[derive(Clone, Copy, Debug, PartialEq, Eq)]
+pub struct Sheet([u8; SHEET_BYTES]);
+
+impl Default for Sheet {
+    fn default() -> Sheet {
+        Sheet::fresh()
+    }
+}
+
+impl From<[u8; SHEET_BYTES]> for Sheet {
+    /// Any bytes: calls refuse by 14 what a book's fields cannot hold.
+    fn from(bytes: [u8; SHEET_BYTES]) -> Sheet {
+        Sheet(bytes)
+    }
+}
+
+// SAFETY of every call below: a sheet is an array of SHEET_BYTES, each pointer has its slice's length beside it, as many cells are
+// lent as the header says, and Rust's borrows keep what is written apart from all else.
+impl Sheet {
+    /// A sheet without answers.
+    pub fn fresh() -> Sheet {
+        let mut bytes = [0; SHEET_BYTES];
+        unsafe { ffi::sighting_fresh(bytes.as_mut_ptr()) };
+        Sheet(bytes)
+    }
+
+    pub fn bytes(&self) -> &[u8; SHEET_BYTES] {
+        &self.0
+    }
+
+    /// Takes all answers away.
+    pub fn clear(&mut self) {
+        unsafe { ffi::sighting_clear(self.0.as_mut_ptr()) };
+    }
+
+    /// Enters a code as the answer of a field. Refusals: 1 to 13, 14, 15, 16.
+    pub fn enter(&mut self, book: &[u8], field: u8, code: u8) -> Result<(), Refusal> {
+        let mut cells = [0; 1];
+        let number =
+            unsafe { ffi::sighting_enter(self.0.as_mut_ptr(), book.as_ptr(), book.len(), field, code, cells.as_mut_ptr()) };
+        answer(number, cells[0], ())
+    }
+
+    /// Withdraws the answer of a field. Refusals: 1 to 13, 14, 15, 17.
+    pub fn withdraw(&mut self, book: &[u8], field: u8) -> Result<(), Refusal> {
+        let mut cells = [0; 1];
+        let number = unsafe { ffi::sighting_withdraw(self.0.as_mut_ptr(), book.as_ptr(), book.len(), field, cells.as_mut_ptr()) };
+        answer(number, cells[0], ())
+    }
+
+    /// Plain filtering, with the answer of one field left out or of none. It writes one number for each field of the book, with bit c
+    /// set where code c stands. Refusals: 1 to 13, 14, 15, 17, 18.
+    pub fn filtered(&self, book: &[u8], relaxed: Option<u8>, out: &mut [u32]) -> Result<(), Refusal> {
+        let (mut sheet, mut cells) = (self.0, [0; 1]);
+        let number = unsafe {
+            ffi::sighting_filtered(
+                sheet.as_mut_ptr(),
+                book.as_ptr(),
+                book.len(),
+                relaxed.unwrap_or(NO_ANSWER),
+                out.as_mut_ptr(),
+                out.len(),
+                cells.as_mut_ptr(),
+            )
+        };
+        answer(number, cells[0], ())
+    }
+
+    /// The alternatives of every answered field, written as pairs of bytes, field then code. Refusals: 1 to 13, 14, 18.
+    pub fn alternatives(&self, book: &[u8], out: &mut [u8]) -> Result<Alternatives, Refusal> {
+        let (mut sheet, mut cells) = (self.0, [0; 3]);
+        let number = unsafe {
+            ffi::sighting_alternatives(
+                sheet.as_mut_ptr(),
+                book.as_ptr(),
+                book.len(),
+                out.as_mut_ptr(),
+                out.len(),
+                cells.as_mut_ptr(),
+            )
+        };
+        answer(number, cells[0], Alternatives { total: cells[1], struck: cells[2] })
+    }
+
+    /// Loads a stored sheet, one byte for each field of the book. Refusals: 1 to 13, 19, 14.
+    pub fn load(book: &[u8], form: &[u8]) -> Result<Sheet, Refusal> {
+        let (mut sheet, mut cells) = ([0; SHEET_BYTES], [0; 1]);
+        let number = unsafe {
+            ffi::sighting_load(sheet.as_mut_ptr(), book.as_ptr(), book.len(), form.as_ptr(), form.len(), cells.as_mut_ptr())
+        };
+        answer(number, cells[0], Sheet(sheet))
+    }
+
+    /// Stores the sheet, one byte for each field of the book. Refusals: 1 to 13, 14, 18.
+    pub fn store(&self, book: &[u8], out: &mut [u8]) -> Result<(), Refusal> {
+        let (mut sheet, mut cells) = (self.0, [0; 1]);
+        let number = unsafe {
+            ffi::sighting_store(sheet.as_mut_ptr(), book.as_ptr(), book.len(), out.as_mut_ptr(), out.len(), cells.as_mut_ptr())
+        };
+        answer(number, cells[0], ())
+    }
+
+    /// Runs a list of calls, three bytes each as [`Call::bytes`] gives them, from a fresh sheet, and then the alternatives of the
+    /// sheet reached, which comes back beside the answer. Refusals: 1 to 13, 18.
+    pub fn replay(book: &[u8], calls: &[u8], out: &mut [u8]) -> (Sheet, Result<Alternatives, Refusal>) {
+        let (mut sheet, mut cells) = ([0; SHEET_BYTES], [0; 3]);
+        let number = unsafe {
+            ffi::sighting_replay(
+                sheet.as_mut_ptr(),
+                book.as_ptr(),
+                book.len(),
+                calls.as_ptr(),
+                calls.len(),
+                out.as_mut_ptr(),
+                out.len(),
+                cells.as_mut_ptr(),
+            )
+        };
+        (Sheet(sheet), answer(number, cells[0], Alternatives { total: cells[1], struck: cells[2] }))
+    }
+}

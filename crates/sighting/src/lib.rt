@@ -1,0 +1,192 @@
+// The library for other languages: each call of the crates below, exported with numbers, slices and arrays alone.
+// A sheet is an array of 32 bytes, which every call on a sheet writes whole with the sheet that it hands back. A call returns its outcome's
+// number, 0 where it is accepted, and writes the place and the counts into the cells lent for them.
+ghost use mathlib.Core.Path.{_≡_};
+ghost use mathlib.Core.List.{List, []};
+ghost use Prim.Native.Nat.{ℕ};
+ghost use Rattle.format.specs.Reading.{reading};
+ghost use Rattle.calls.specs.Calls.{freshSheet, cleared, entered, withdrawn, filtered, alternatives, loaded, stored};
+ghost use Rattle.calls.specs.Histories.{sheetAfter, callsIn};
+ghost use Rattle.report.specs.Report.{printing};
+ghost use Rattle.report.specs.Text.{reportText};
+ghost use Rattle.sighting.specs.Exported.{Tells, Exports, Prints};
+use book::Reading;
+use handed::hand;
+use handed::hand_list;
+use report::Printed;
+use sheet::Sheet;
+
+mod handed;
+
+// Reads a book. Cells: place, fields, tables, rows written, different rows.
+#[no_mangle]
+pub extern "C" fn sighting_read(book: &[u8], outcome: &mut [u64; 5]) -> u64
+    ensures { λ r. ⌜ Tells r (now (outcome .exit)) (reading (now (book .entry))) ⌝ }
+{
+    let reading = book::read(book);
+    match reading {
+        Reading::Accepted {
+            fields,
+            tables,
+            rows,
+            different,
+        } => {
+            *outcome = [
+                0,
+                fields as u64,
+                tables as u64,
+                rows as u64,
+                different as u64,
+            ];
+            0
+        }
+        Reading::Refused(kind, place) => {
+            *outcome = [place as u64, 0, 0, 0, 0];
+            book::number(kind)
+        }
+    }
+}
+
+// Makes the sheet a fresh one.
+#[no_mangle]
+pub extern "C" fn sighting_fresh(sheet: &mut [u8; 32])
+    ensures { λ _. ⌜ now (sheet .exit) ≡ freshSheet ⌝ }
+{
+    let fresh = Sheet::fresh();
+    let places = fresh.places;
+    *sheet = places;
+}
+
+// Takes all answers away.
+#[no_mangle]
+pub extern "C" fn sighting_clear(sheet: &mut [u8; 32])
+    ensures { λ _. ⌜ now (sheet .exit) ≡ cleared (now (sheet .entry)) .sheet ⌝ }
+{
+    let given = Sheet { places: *sheet };
+    let handed = given.clear();
+    let next = handed.sheet;
+    let places = next.places;
+    *sheet = places;
+}
+
+// Answers a field. Cells: place.
+#[no_mangle]
+pub extern "C" fn sighting_enter(
+    sheet: &mut [u8; 32],
+    book: &[u8],
+    field: u8,
+    code: u8,
+    outcome: &mut [u64; 1],
+) -> u64
+    ensures { λ r. ⌜ Exports r (now (outcome .exit)) (now (sheet .exit)) [] (entered (now (book .entry)) (now (sheet .entry)) field code) ⌝ }
+{
+    let given = Sheet { places: *sheet };
+    hand(given.enter(book, field, code), sheet, outcome)
+}
+
+// Takes the answer of a field away. Cells: place.
+#[no_mangle]
+pub extern "C" fn sighting_withdraw(
+    sheet: &mut [u8; 32],
+    book: &[u8],
+    field: u8,
+    outcome: &mut [u64; 1],
+) -> u64
+    ensures { λ r. ⌜ Exports r (now (outcome .exit)) (now (sheet .exit)) [] (withdrawn (now (book .entry)) (now (sheet .entry)) field) ⌝ }
+{
+    let given = Sheet { places: *sheet };
+    hand(given.withdraw(book, field), sheet, outcome)
+}
+
+// Plain filtering with one answer relaxed, or none for 255. Cells: place.
+#[no_mangle]
+pub extern "C" fn sighting_filtered(
+    sheet: &mut [u8; 32],
+    book: &[u8],
+    relaxed: u8,
+    out: &mut [u32],
+    outcome: &mut [u64; 1],
+) -> u64
+    ensures { λ r. ⌜ Exports r (now (outcome .exit)) (now (sheet .exit)) (now (out .exit)) (filtered (now (book .entry)) (now (sheet .entry)) relaxed (now (out .entry))) ⌝ }
+{
+    let given = Sheet { places: *sheet };
+    hand(given.filtered(book, relaxed, out), sheet, outcome)
+}
+
+// The alternatives of the answered fields. Cells: place, total, struck.
+#[no_mangle]
+pub extern "C" fn sighting_alternatives(
+    sheet: &mut [u8; 32],
+    book: &[u8],
+    out: &mut [u8],
+    outcome: &mut [u64; 3],
+) -> u64
+    ensures { λ r. ⌜ Exports r (now (outcome .exit)) (now (sheet .exit)) (now (out .exit)) (alternatives (now (book .entry)) (now (sheet .entry)) (now (out .entry))) ⌝ }
+{
+    let given = Sheet { places: *sheet };
+    hand_list(given.alternatives(book, out), sheet, outcome)
+}
+
+// Reads the stored form of a sheet. Cells: place.
+#[no_mangle]
+pub extern "C" fn sighting_load(
+    sheet: &mut [u8; 32],
+    book: &[u8],
+    form: &[u8],
+    outcome: &mut [u64; 1],
+) -> u64
+    ensures { λ r. ⌜ Exports r (now (outcome .exit)) (now (sheet .exit)) [] (loaded (now (book .entry)) (now (form .entry))) ⌝ }
+{
+    hand(sheet::load(book, form), sheet, outcome)
+}
+
+// Writes the stored form of a sheet. Cells: place.
+#[no_mangle]
+pub extern "C" fn sighting_store(
+    sheet: &mut [u8; 32],
+    book: &[u8],
+    out: &mut [u8],
+    outcome: &mut [u64; 1],
+) -> u64
+    ensures { λ r. ⌜ Exports r (now (outcome .exit)) (now (sheet .exit)) (now (out .exit)) (stored (now (book .entry)) (now (sheet .entry)) (now (out .entry))) ⌝ }
+{
+    let given = Sheet { places: *sheet };
+    hand(given.store(book, out), sheet, outcome)
+}
+
+// A list of calls from a fresh sheet, then the alternatives. Cells: place, total, struck.
+#[no_mangle]
+pub extern "C" fn sighting_replay(
+    sheet: &mut [u8; 32],
+    book: &[u8],
+    calls: &[u8],
+    out: &mut [u8],
+    outcome: &mut [u64; 3],
+) -> u64
+    ensures { λ r. ⌜ Exports r (now (outcome .exit)) (now (sheet .exit)) (now (out .exit)) (alternatives (now (book .entry)) (sheetAfter (now (book .entry)) (callsIn (now (calls .entry)))) (now (out .entry))) ⌝ }
+{
+    hand_list(sheet::replay(book, calls, out), sheet, outcome)
+}
+
+// The text that the desk prints for a book and a stored sheet. Cells: its length.
+#[no_mangle]
+pub extern "C" fn sighting_report(
+    book: &[u8],
+    form: &[u8],
+    out: &mut [u8],
+    outcome: &mut [u64; 1],
+) -> u64
+    ensures { λ r. ⌜ Prints r (now (outcome .exit)) (now (out .exit)) (printing (reportText (now (book .entry)) (now (form .entry))) (now (out .entry))) ⌝ }
+{
+    let printed = report::report(book, form, out);
+    match printed {
+        Printed::Written(length) => {
+            *outcome = [length as u64];
+            0
+        }
+        Printed::TooShort(length) => {
+            *outcome = [length as u64];
+            18
+        }
+    }
+}

@@ -1,0 +1,151 @@
+/*
+ * The sighting desk as a library: libsighting.a, made by `rt staticlib sighting`.
+ *
+ * A book is lent as its bytes, a sheet is an array of SIGHTING_SHEET_BYTES bytes that the caller keeps. Every function is total: for
+ * any bytes of a book and any bytes of a sheet it ends with one of the numbers below. It takes no memory from the heap, keeps
+ * nothing between calls, and may be called from several threads at once on different sheets and buffers.
+ *
+ * What the caller owes, as for any C function: each pointer, also one whose length is 0, is not null, is aligned for its type, and
+ * points to as many elements as the length beside it says (sheets: SIGHTING_SHEET_BYTES; outcomes: the number that stands in the
+ * brackets). Memory that a call may write (sheet, out, outcome) overlaps no other memory lent to that call.
+ *
+ * What each call returns
+ *
+ * Every call but sighting_fresh and sighting_clear returns a number: 0 for accepted, else the number of the refusal. It writes all
+ * cells of `outcome` in every case. outcome[0] is the place; an accepted call has place 0 (sighting_report alone has the length of
+ * its text there). The other cells are counts.
+ *
+ * A refused call leaves: the sheet as it was given (sighting_load: a fresh one; sighting_replay: the one that its list reached), every
+ * element of `out` as it was, and all counts 0. An accepted call leaves the elements of `out` behind those that it writes as they were.
+ *
+ *   number  refused because                                                      place
+ *   ------  -------------------------------------------------------------------  ------------------------------------------------
+ *        1  the book has fewer than 6 or more than 32,768 bytes                  0
+ *        2  its closing byte is not 0xE5                                         that byte of the book
+ *        3  its version is not 1                                                 that byte
+ *        4  its number of fields is not 1 to 32                                  that byte
+ *        5  its number of tables is above 64                                     that byte
+ *        6  place of the field list + fields + 6 is not the length               the trailer's first byte
+ *        7  a field has not 1 to 32 codes                                        the field's byte in the field list
+ *        8  a table has too few bytes before the field list                      the table's first byte, or where it would be
+ *        9  a table ties not 1 to 4 fields                                       the table's first byte
+ *       10  a table's field number is too large or not rising                    that byte
+ *       11  a row has a code that its field lacks                                that byte
+ *       12  the tables so far have more than 4,096 rows                          the first byte of the table that exceeds them
+ *       13  bytes are left over before the field list                            the first of them
+ *       14  the sheet holds what its field cannot answer                         the lowest such place of the sheet
+ *       15  the book has no such field                                           0
+ *       16  the field has no such code                                           0
+ *       17  the field has no answer                                              0
+ *       18  too few elements lent                                                0
+ *       19  a stored sheet's length is not the number of fields                  0
+ *
+ * 14 looks for a field that holds neither 255 nor one of its codes, and for a place behind the book's fields that does not hold 255.
+ * The first refusal in the order that a function's comment gives is the one returned.
+ */
+#ifndef SIGHTING_H
+#define SIGHTING_H
+
+#include <stddef.h>
+#include <stdint.h>
+
+/* A sheet: for each of 32 places the answered code, or SIGHTING_NO_ANSWER. */
+#define SIGHTING_SHEET_BYTES 32
+
+/* In a sheet: no answer. As `relaxed` of sighting_filtered: no field. */
+#define SIGHTING_NO_ANSWER 255
+
+/* The three kinds of call in a list for sighting_replay. */
+#define SIGHTING_CALL_ENTER 0
+#define SIGHTING_CALL_WITHDRAW 1
+#define SIGHTING_CALL_CLEAR 2
+
+#ifdef __cplusplus
+extern "C" {
+#endif
+
+/*
+ * Reads a book and counts what it has.
+ *   outcome[5]  place, fields, tables, rows written, different rows (a row repeated in its table counts once)
+ * Refusals, in this order: 1 to 7; for each table in turn 8 (no byte left), 9, 8 (no room for its head), 10, 8 (no room for its rows),
+ * 12, 11; last 13.
+ */
+uint64_t sighting_read(const uint8_t *book, size_t book_len, uint64_t *outcome);
+
+/* Makes the sheet a fresh one: every place 255. */
+void sighting_fresh(uint8_t *sheet);
+
+/* Takes all answers away, whatever the sheet holds: every place 255. */
+void sighting_clear(uint8_t *sheet);
+
+/*
+ * Enters a code as the answer of a field, in the place of an older one; the code need not be standing.
+ *   outcome[1]  place
+ * Refusals: 1 to 13, 14, 15, 16.
+ */
+uint64_t sighting_enter(uint8_t *sheet, const uint8_t *book, size_t book_len, uint8_t field, uint8_t code, uint64_t *outcome);
+
+/*
+ * Withdraws the answer of a field.
+ *   outcome[1]  place
+ * Refusals: 1 to 13, 14, 15, 17.
+ */
+uint64_t sighting_withdraw(uint8_t *sheet, const uint8_t *book, size_t book_len, uint8_t field, uint64_t *outcome);
+
+/*
+ * Plain filtering, with the answer of field `relaxed` left out, or with all answers for 255. It writes one number for each field of
+ * the book: bit c is set exactly when code c is in the largest arc-consistent subdomain within the answers.
+ *   outcome[1]  place
+ * Refusals: 1 to 13, 14, 15, 17 (15 and 17 not for 255), 18 where out_len is below the number of fields. The sheet stays as it is.
+ */
+uint64_t sighting_filtered(uint8_t *sheet, const uint8_t *book, size_t book_len, uint8_t relaxed, uint32_t *out, size_t out_len,
+                           uint64_t *outcome);
+
+/*
+ * The alternatives of every answered field: its codes that stand with its own answer left out. Each is written as two bytes, field
+ * then code, by rising field and then rising code.
+ *   outcome[3]  place, total (the number of alternatives), struck (the marks removed in all cases together)
+ * Refusals: 1 to 13, 14, 18 where out_len is below 2 * total. The sheet stays as it is.
+ */
+uint64_t sighting_alternatives(uint8_t *sheet, const uint8_t *book, size_t book_len, uint8_t *out, size_t out_len,
+                               uint64_t *outcome);
+
+/*
+ * Loads a stored sheet, one byte for each field. What the sheet held before plays no part; a refused load makes it a fresh one.
+ *   outcome[1]  place
+ * Refusals: 1 to 13, 19, 14.
+ */
+uint64_t sighting_load(uint8_t *sheet, const uint8_t *book, size_t book_len, const uint8_t *form, size_t form_len,
+                       uint64_t *outcome);
+
+/*
+ * Stores the sheet: writes one byte for each field of the book.
+ *   outcome[1]  place
+ * Refusals: 1 to 13, 14, 18 where out_len is below the number of fields. The sheet stays as it is.
+ */
+uint64_t sighting_store(uint8_t *sheet, const uint8_t *book, size_t book_len, uint8_t *out, size_t out_len, uint64_t *outcome);
+
+/*
+ * Runs a list of calls, each on the sheet that the one before it handed back and the first on a fresh one, and then the
+ * alternatives of the last. A call is three bytes: kind, field, code. A kind that is none of the three above is no call, and so is
+ * an incomplete last one; withdraw reads no code, and clear neither field nor code. A call that is refused changes nothing and the
+ * list goes on. What the sheet held before plays no part; it ends as the one that the list reached, also where the call is refused.
+ *   outcome[3]  place, total, struck, as sighting_alternatives
+ * Refusals: 1 to 13, 18 where out_len is below 2 * total.
+ */
+uint64_t sighting_replay(uint8_t *sheet, const uint8_t *book, size_t book_len, const uint8_t *calls, size_t calls_len, uint8_t *out,
+                         size_t out_len, uint64_t *outcome);
+
+/*
+ * Writes the whole text that the program `desk` prints for this book and this stored sheet, refusals of either included.
+ *   outcome[1]  the length of the text in bytes, written or not
+ * Returns 0, or 18 where out_len is below that length.
+ */
+uint64_t sighting_report(const uint8_t *book, size_t book_len, const uint8_t *form, size_t form_len, uint8_t *out, size_t out_len,
+                         uint64_t *outcome);
+
+#ifdef __cplusplus
+}
+#endif
+
+#endif
