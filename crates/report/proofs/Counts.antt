@@ -20,10 +20,6 @@ use Rattle.report.specs.Text.{openLines}
 
 -- ---- counts and sums
 
--- a test holds of at most n numbers below n
-many-few : (n : ℕ) (p : ℕ → Bool) → howMany n p ≤ n
-many-few n p = omega (arith, many-not n p)
-
 -- at most k for each element
 sum-over-few : (xs : List ℕ) (g : ℕ → ℕ) (k : ℕ) → ((x : ℕ) → g x ≤ k) → sumOver xs g ≤ k * length xs
 sum-over-few [] g k h = omega arith
@@ -41,10 +37,12 @@ one-at-most : (x : Bool) (n m : ℕ) → n ≤ m → pick x 0 1 + n ≤ suc m
 one-at-most true n m l = omega arith
 one-at-most false n m l = omega arith
 
+-- a table has no more different rows than rows
 different-few : (rows : List (List ℕ)) → different rows ≤ length rows
 different-few [] = omega arith
 different-few (r ∷ rs) = one-at-most (isIn r rs) (different rs) (length rs) (different-few rs)
 
+-- and so it is of all tables
 pub different-total-few : (ts : List Table) → differentTotal ts ≤ rowTotal ts
 different-total-few [] = omega arith
 different-total-few (t ∷ ts) = omega (arith, different-few (t .rows), different-total-few ts)
@@ -54,7 +52,7 @@ different-total-few (t ∷ ts) = omega (arith, different-few (t .rows), differen
 module _ (b : Book) (w : Within b) where
   -- a field has at most 32 codes at which p holds
   codes-few : (p : ℕ → ℕ → Bool) (f : ℕ) → howMany (codes b f) (p f) ≤ codeLimit
-  codes-few p f = omega (arith, many-few (codes b f) (p f), w .small f)
+  codes-few p f = omega (arith, many-not (codes b f) (p f), w .small f)
 
   -- the fields at which q holds have at most 32 each
   fields-few : (q : ℕ → Bool) (p : ℕ → ℕ → Bool)
@@ -64,6 +62,7 @@ module _ (b : Book) (w : Within b) where
       let e : codeLimit * length (those n q) ≡ codeLimit * howMany n q = ap (λ (k : ℕ). codeLimit * k) (length-those n q) in
       omega (arith, sum-over-few (those n q) (λ f. howMany (codes b f) (p f)) codeLimit (codes-few p))
 
+  -- each field has at most 32 codes outside
   outside-few : (S : Subdomain) → outside b S ≤ codeLimit * length (b .counts)
   unfolding outside
   outside-few S = sum-few (length (b .counts)) (λ f. howMany (codes b f) (λ c. not (S f c))) codeLimit (codes-few (λ f c. not (S f c)))
@@ -76,13 +75,21 @@ module _ (b : Book) (w : Within b) where
         let n : ℕ = length (b .counts) in
         let alts = fields-few (answered s) (λ f. largest b (relax s f) f) in
         let opens = fields-few (λ f. not (answered s f)) (largest b s) in
-        omega (arith, length-picked b (answered s) (λ f. largest b (relax s f) f), length-picked b (λ f. not (answered s f)) (largest b s), many-not n (answered s), w .few)
+        omega (
+          arith,
+          length-picked b (answered s) (λ f. largest b (relax s f) f),
+          length-picked b (λ f. not (answered s f)) (largest b s),
+          many-not n (answered s),
+          w .few,
+        )
 
+    -- the total
     pub total-few : total b s ≤ 1024
     total-few = omega (arith, length-lines b s, lines-few)
 
+    -- the answered fields
     pub answered-few : howMany (length (b .counts)) (answered s) ≤ 32
-    answered-few = omega (arith, many-few (length (b .counts)) (answered s), w .few)
+    answered-few = omega (arith, many-not (length (b .counts)) (answered s), w .few)
 
     -- at most 33 cases
     pub struck-few : struck b s ≤ 33792
@@ -90,4 +97,10 @@ module _ (b : Book) (w : Within b) where
     struck-few =
         let n : ℕ = length (b .counts) in
         let each : (S : Subdomain) → outside b S ≤ 1024 = λ S. omega (arith, outside-few S, w .few) in
-        omega (arith, each (largest b s), sum-over-few (relaxable b s) (λ f. outside b (largest b (relax s f))) 1024 (λ f. each (largest b (relax s f))), length-those n (answered s), answered-few)
+        omega (
+          arith,
+          each (largest b s),
+          sum-over-few (relaxable b s) (λ f. outside b (largest b (relax s f))) 1024 (λ f. each (largest b (relax s f))),
+          length-those n (answered s),
+          answered-few,
+        )

@@ -23,7 +23,7 @@ use Rattle.sheet.specs.declared.HandedList.{HandedList}
 use Rattle.sheet.proofs.Injective.{number-some}
 use Rattle.report.specs.Text.{openLines, sheetText}
 use Rattle.report.specs.Writes.{Room, Puts, pairLines, openIn, ListsFit, sheetPart}
-use Rattle.report.specs.Opens.{Stands}
+use Rattle.report.specs.Held.{Stands}
 use Rattle.report.proofs.Counts.{total-few}
 use Rattle.report.proofs.Contents.{pairs-are, masks-are}
 
@@ -34,6 +34,7 @@ noPairs = replicate 2048 0
 abbrev noMasks : List ℕ
 noMasks = replicate 32 0
 
+-- 2,048 bytes and 32 numbers
 pairs-lent : length noPairs ≡ 2048
 pairs-lent = length-replicate {A = ℕ} 2048 0
 
@@ -41,9 +42,11 @@ masks-lent : length noMasks ≡ 32
 masks-lent = length-replicate {A = ℕ} 32 0
 
 module _ (bytes s : List ℕ) (fields : ℕ) (st : Stands bytes s fields) where
+  -- the book that the bytes hold
   abbrev book : Book
   book = bookOf bytes
 
+  -- it is within the limits
   within : Within book
   within = accepted-within bytes (verdict-accepted bytes (st .passes))
 
@@ -69,11 +72,13 @@ module _ (bytes s : List ℕ) (fields : ℕ) (st : Stands bytes s fields) where
         ap (λ (o : Outcome). o .number) (sym (ap shownListing e) ∙ ap (λ (x : Result). x .outcome) (left ∙ listed)) in
         omega (arith, number-some reason)
 
+    -- the pairs that it wrote
     pairs-is : pairs ≡ lineBytes (lines book s) ++ drop (2 * total book s) noPairs
     pairs-is = ap (λ (x : Result). x .buffer) (left ∙ listed)
 
     -- its total and its number struck, and what plain filtering left
     module _ (t k : ℕ) (e : r .answer ≡ Listed t k) (r′ : Handed) (ms : List ℕ) (left′ : resultOf r′ ms ≡ filtered bytes s 255 noMasks) where
+      -- the two numbers are the definitions'
       counts : accepted (t ∷ k ∷ []) ≡ accepted (total book s ∷ struck book s ∷ [])
       counts = sym (ap shownListing e) ∙ ap (λ (x : Result). x .outcome) (left ∙ listed)
 
@@ -83,9 +88,11 @@ module _ (bytes s : List ℕ) (fields : ℕ) (st : Stands bytes s fields) where
       struck-is : k ≡ struck book s
       struck-is = ap (λ (o : Outcome). getD (o .counts) 1 0) counts
 
+      -- the masks that plain filtering wrote
       masks-is : ms ≡ masks book s ++ drop (length (book .counts)) noMasks
       masks-is = ap (λ (x : Result). x .buffer) (left′ ∙ masked)
 
+      -- so the buffers hold the lines of the text
       alts-is : pairLines pairs t ≡ lines book s
       alts-is =
           ap₂ pairLines pairs-is (total-is ∙ sym (length-lines book s)) ∙ pairs-are (lines book s) (drop (2 * total book s) noPairs)
@@ -98,6 +105,7 @@ module _ (bytes s : List ℕ) (fields : ℕ) (st : Stands bytes s fields) where
       part-is : sheetPart s fields pairs t k ms ≡ sheetText s book
       part-is = rw (alts-is, opens-is, st .fields-are, total-is, struck-is)
 
+      -- and are long enough for them
       pub lists-fit : length s ≡ 32 → ListsFit s fields pairs t ms
       lists-fit long =
           let pairs-long : length pairs ≡ 2048 =
@@ -110,6 +118,7 @@ module _ (bytes s : List ℕ) (fields : ℕ) (st : Stands bytes s fields) where
             in-masks = omega (arith, st .fields-are, within .few);
           }
 
+      -- the room for the text, and the text once it is written
       module _ (o : List ℕ) (at : ℕ) where
         pub part-room : Room o at (sheetText s book) → Room o at (sheetPart s fields pairs t k ms)
         part-room = subst (Room o at) (sym part-is)

@@ -11,9 +11,11 @@ use Rattle.report.proofs.Writing.{Halfway, halfway-on, halfway-room, ha
 
 -- the numbers from number i on
 module _ (ns : List ℕ) (i : ℕ) where
+  -- a space, number i, and the rest
   spaced-more : i < length ns → spaced (drop i ns) ≡ (32 ∷ []) ++ (decimal (getD ns i 0) ++ spaced (drop (i + 1) ns))
   spaced-more l = rw (add-one i, drop-cons ns i 0 l)
 
+  -- the newline alone
   spaced-none : length ns ≤ i → spaced (drop i ns) ≡ 10 ∷ []
   spaced-none l = rw (drop-of-length-le ns l)
 
@@ -23,6 +25,7 @@ module _ (ns : List ℕ) (i : ℕ) where
       with-number : Halfway o at whole o′ r ((32 ∷ []) ++ (decimal (getD ns i 0) ++ spaced (drop (i + 1) ns)))
       with-number = subst (Halfway o at whole o′ r) (spaced-more l) h
 
+      -- the space has room
       pub room-space : Room o′ r (32 ∷ [])
       room-space = halfway-room (32 ∷ []) _ m with-number
 
@@ -30,6 +33,7 @@ module _ (ns : List ℕ) (i : ℕ) where
         behind-space : Halfway o at whole o″ r′ (decimal (getD ns i 0) ++ spaced (drop (i + 1) ns))
         behind-space = halfway-on (32 ∷ []) _ with-number p
 
+        -- and so has the number, behind which the rest is left
         pub room-number : Room o″ r′ (decimal (getD ns i 0))
         room-number = halfway-room (decimal (getD ns i 0)) _ m behind-space
 
@@ -42,6 +46,7 @@ module _ (ns : List ℕ) (i : ℕ) where
       with-newline : Halfway o at whole o′ r (10 ∷ [])
       with-newline = subst (Halfway o at whole o′ r) (spaced-none l) h
 
+      -- the newline has room, and ends the line
       pub room-newline : Room o′ r (10 ∷ [])
       room-newline = halfway-room (10 ∷ []) [] m with-newline
 

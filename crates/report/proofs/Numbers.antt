@@ -9,9 +9,11 @@ use Rattle.report.proofs.Writing.{puts-then, room-first, room-then}
 
 -- one digit
 module _ (o : List ℕ) (at n d : ℕ) (s : n < 10) (e : d ≡ 48 + n) where
+  -- it is the whole number
   only : decimal n ≡ d ∷ []
   only = decimal-one n s ∙ ap (λ (x : ℕ). x ∷ []) (sym e)
 
+  -- its room, and the number once it is written
   pub room-one : Room o at (decimal n) → Room o at (d ∷ [])
   room-one = subst (Room o at) only
 
@@ -20,13 +22,16 @@ module _ (o : List ℕ) (at n d : ℕ) (s : n < 10) (e : d ≡ 48 + n) where
 
 -- more than one
 module _ (o : List ℕ) (at n : ℕ) (s : 10 ≤ n) (l : n < 2 ^ 64) where
+  -- room for the number is room for its digits but the last, then the last
   room-both : Room o at (decimal n) → Room o at (decimal (n / 10) ++ ((48 + n % 10) ∷ []))
   room-both = subst (Room o at) (decimal-more n s l)
 
+  -- so the tenth has room
   pub room-front : Room o at (decimal n) → Room o at (decimal (n / 10))
   room-front h = room-first o at (decimal (n / 10)) ((48 + n % 10) ∷ []) (room-both h)
 
   module _ (d : ℕ) (e : d ≡ 48 + n % 10) {o′ : List ℕ} {r : ℕ} (p : Puts o at (decimal (n / 10)) o′ r) where
+    -- behind it the last digit has room, and completes the number
     pub room-last : Room o at (decimal n) → Room o′ r (d ∷ [])
     room-last h = subst (λ (x : ℕ). Room o′ r (x ∷ [])) (sym e) (room-then p ((48 + n % 10) ∷ []) (room-both h))
 

@@ -1,7 +1,7 @@
 -- The lines that buffers of pairs and of masks hold, as a loop writes them: one more pair, one more code of a field, one more field. Assumes nothing.
 use mathlib.Core.Path.{_≡_, refl, sym, ap, _∙_, subst}
 use mathlib.Core.Bool.{Bool, true, false, not}
-use mathlib.Core.List.{List, [], _∷_, _++_, append-assoc, append-nil, map}
+use mathlib.Core.List.{List, [], _∷_, _++_, append-assoc, append-nil, map, map-append}
 use Prim.Native.Nat.{ℕ, zero, suc, _+_, _*_, _/_, _%_, _^_, _<_}
 use native.Mathlib.Nat.{add-zero, zero-add}
 use native.Mathlib.Omega.{arith}
@@ -10,12 +10,15 @@ use lib.ListN.{length, getD}
 use Rattle.format.specs.Basics.{pick}
 use Rattle.consistency.specs.Counting.{those, joinOver, tabulate}
 use Rattle.consistency.specs.Counts.{answered, Line, bit}
+use Rattle.sheet.proofs.Upward.{join-append}
 use Rattle.report.specs.Text.{spaced, linesText}
 use Rattle.report.specs.Writes.{Room, Puts, pairLines, maskLines, openIn}
 use Rattle.report.proofs.Places.{answer-read}
 use Rattle.report.proofs.Turns.{piece-room, piece-on, piece-none}
 
--- the text of lines and what stands behind them
+-- ---- the text of lines
+
+-- lines and what stands behind them
 lines-append : (w : List ℕ) (ls ms : List Line) → linesText w (ls ++ ms) ≡ linesText w ls ++ linesText w ms
 lines-append w [] ms = refl
 lines-append w (l ∷ ls) ms =
@@ -26,7 +29,7 @@ lines-append w (l ∷ ls) ms =
 lines-one : (w : List ℕ) (l : Line) → linesText w (l ∷ []) ≡ w ++ spaced (l .field ∷ l .code ∷ [])
 lines-one w l = append-nil (w ++ spaced (l .field ∷ l .code ∷ []))
 
--- the last value
+-- the last of n + 1 values
 tabulate-last : {A : Type 0} (g : ℕ → A) (n i : ℕ) → tabulate g (suc n) i ≡ tabulate g n i ++ (g (i + n) ∷ [])
 unfolding tabulate
 tabulate-last g zero i = ap (λ (k : ℕ). g k ∷ []) (sym (add-zero i))
@@ -34,26 +37,19 @@ tabulate-last g (suc n) i =
     let e : suc i + n ≡ i + suc n = omega arith in
     ap (λ t. g i ∷ t) (tabulate-last g n (suc i) ∙ ap (λ (k : ℕ). tabulate g n (suc i) ++ (g k ∷ [])) e)
 
--- mapped lists, one behind the other
-map-append : {A B : Type 0} (g : A → B) (xs ys : List A) → map g (xs ++ ys) ≡ map g xs ++ map g ys
-map-append g [] ys = refl
-map-append g (x ∷ xs) ys = ap (λ t. g x ∷ t) (map-append g xs ys)
-
-join-append : {A : Type 0} (g : ℕ → List A) (xs ys : List ℕ) → joinOver (xs ++ ys) g ≡ joinOver xs g ++ joinOver ys g
-join-append g [] ys = refl
-join-append g (x ∷ xs) ys = ap (λ t. g x ++ t) (join-append g xs ys) ∙ sym (append-assoc (g x) (joinOver xs g) (joinOver ys g))
-
 -- ---- the lines of pairs
 
 -- the text of pair i
 abbrev pairPiece : List ℕ → List ℕ → ℕ → List ℕ
 pairPiece w bytes i = w ++ spaced (getD bytes (2 * i) 0 ∷ getD bytes (2 * i + 1) 0 ∷ [])
 
+-- one pair more
 pair-more : (w bytes : List ℕ) (i : ℕ) → linesText w (pairLines bytes (suc i)) ≡ linesText w (pairLines bytes i) ++ pairPiece w bytes i
 pair-more w bytes i =
     ap (linesText w) (tabulate-last _ i 0) ∙ lines-append w (pairLines bytes i) _
     ∙ ap (λ (t : List ℕ). linesText w (pairLines bytes i) ++ t) (lines-one w _ ∙ ap (pairPiece w bytes) (zero-add i))
 
+-- a loop that has written the first i pairs: room for the next, and the text with it
 module _ (w bytes : List ℕ) {o : List ℕ} {at : ℕ} (i : ℕ) {o′ : List ℕ} {r : ℕ} (p : Puts o at (linesText w (pairLines bytes i)) o′ r) where
   pub pair-room : (n : ℕ) → i < n → Room o at (linesText w (pairLines bytes n)) → Room o′ r (pairPiece w bytes i)
   pair-room = piece-room (λ k. linesText w (pairLines bytes k)) (pairPiece w bytes) (pair-more w bytes) i p
@@ -67,6 +63,7 @@ module _ (w bytes : List ℕ) {o : List ℕ} {at : ℕ} (i : ℕ) {o′ : List �
 abbrev codePiece : List ℕ → ℕ → ℕ → ℕ → List ℕ
 codePiece w f m c = pick (bit m c) (w ++ spaced (f ∷ c ∷ [])) []
 
+-- one code more
 mask-more : (w : List ℕ) (f m c : ℕ) → linesText w (maskLines f m (suc c)) ≡ linesText w (maskLines f m c) ++ codePiece w f m c
 mask-more w f m c =
     ap (linesText w) (map-append line (those c (bit m)) (pick (bit m c) (c ∷ []) [])) ∙ lines-append w (maskLines f m c) _
@@ -79,6 +76,7 @@ mask-more w f m c =
     last true = lines-one w (line c)
     last false = refl
 
+-- a loop that has written the codes below c: room for code c, and the text with it
 module _ (w : List ℕ) (f m : ℕ) {o : List ℕ} {at : ℕ} (c : ℕ) {o′ : List ℕ} {r : ℕ} (p : Puts o at (linesText w (maskLines f m c)) o′ r) where
   -- the bit is set
   module _ (e : m / 2 ^ c % 2 ≡ 1) where
@@ -103,9 +101,10 @@ module _ (w : List ℕ) (f m : ℕ) {o : List ℕ} {at : ℕ} (c : ℕ) {o′ : 
 abbrev fieldPiece : List ℕ → List ℕ → List ℕ → ℕ → List ℕ
 fieldPiece w masks s f = pick (not (answered s f)) (linesText w (maskLines f (getD masks f 0) 32)) []
 
+-- one field more
 open-more : (w masks s : List ℕ) (f : ℕ) → linesText w (openIn masks s (suc f)) ≡ linesText w (openIn masks s f) ++ fieldPiece w masks s f
 open-more w masks s f =
-    ap (linesText w) (join-append g (those f p) (pick (p f) (f ∷ []) [])) ∙ lines-append w (openIn masks s f) _
+    ap (linesText w) (join-append (those f p) (pick (p f) (f ∷ []) []) g) ∙ lines-append w (openIn masks s f) _
     ∙ ap (λ (t : List ℕ). linesText w (openIn masks s f) ++ t) (last (p f))
   where
     g : ℕ → List Line
@@ -118,7 +117,9 @@ open-more w masks s f =
     last true = ap (linesText w) (append-nil (g f))
     last false = refl
 
-module _ (w masks s : List ℕ) {o : List ℕ} {at : ℕ} (f : ℕ) {o′ : List ℕ} {r : ℕ} (p : Puts o at (linesText w (openIn masks s f)) o′ r) (l : f < length s) where
+-- a loop that has written the fields below f: room for field f, and the text with it
+module _ (w masks s : List ℕ) {o : List ℕ} {at : ℕ} (f : ℕ) {o′ : List ℕ} {r : ℕ}
+    (p : Puts o at (linesText w (openIn masks s f)) o′ r) (l : f < length s) where
   -- it has no answer
   module _ (e : getD s f 0 ≡ 255) where
     unanswered : fieldPiece w masks s f ≡ linesText w (maskLines f (getD masks f 0) 32)

@@ -23,6 +23,7 @@ from-start o text l =
 
 -- the text, composed in a buffer z with room for it
 module _ (text z z′ : List ℕ) (n : ℕ) (p : Puts z 0 text z′ n) where
+  -- its length
   size : n ≡ length text
   size = p .behind ∙ zero-add (length text)
 

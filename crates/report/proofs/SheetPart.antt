@@ -13,16 +13,20 @@ module _ (s : List ℕ) (fields : ℕ) (pairs : List ℕ) (total struck : ℕ) (
   abbrev line : List ℕ
   line = sheetWord ++ spaced (n ∷ total ∷ struck ∷ [])
 
+  -- the lines of alternatives
   abbrev alts : List ℕ
   alts = linesText altWord (pairLines pairs total)
 
+  -- the open lines
   abbrev opens : List ℕ
   opens = linesText openWord (openIn masks s fields)
 
+  -- together they are the part
   counted : line ++ (alts ++ opens) ≡ sheetPart s fields pairs total struck masks
   counted = rw e
 
   module _ (m : Room o at (sheetPart s fields pairs total struck masks)) where
+    -- each has room behind the one before it, and all three are the part
     whole : Room o at (line ++ (alts ++ opens))
     whole = subst (Room o at) (sym counted) m
 

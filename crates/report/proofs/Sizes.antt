@@ -1,4 +1,4 @@
--- "book", "sheet", alt, open and refused lines are short, and so is the whole text. Assumes nothing.
+-- How long each line can be, and the whole text: a buffer of 11,305 bytes has room for any. Assumes nothing.
 use mathlib.Core.Path.{_≡_, refl, sym, ap}
 use mathlib.Core.Bool.{Bool, true, false}
 use mathlib.Core.List.{List, [], _∷_, _++_, List·Memᴰ·head, List·Memᴰ·tail}
@@ -40,17 +40,19 @@ Widths [] (k ∷ ks) = ⊥
 Widths (n ∷ ns) [] = ⊥
 Widths (n ∷ ns) (k ∷ ks) = (length (decimal n) ≤ k) × Widths ns ks
 
--- with a space before each, and the newline
+-- the bytes that these widths allow, with a space before each number, and the newline
 abbrev spaces : List ℕ → ℕ
 spaces [] = 1
 spaces (k ∷ ks) = suc k + spaces ks
 
+-- so many bytes at most
 spaced-short : (ns ks : List ℕ) → Widths ns ks → length (spaced ns) ≤ spaces ks
 spaced-short [] [] w = omega arith
 spaced-short [] (k ∷ ks) w = absurd w
 spaced-short (n ∷ ns) [] w = absurd w
 spaced-short (n ∷ ns) (k ∷ ks) w = omega (arith, length-append (decimal n) (spaced ns), w .0, spaced-short ns ks (w .1))
 
+-- and so it is of a line
 line-short : (word ns ks : List ℕ) → Widths ns ks → length (word ++ spaced ns) ≤ length word + spaces ks
 line-short word ns ks w = omega (arith, length-append word (spaced ns), spaced-short ns ks w)
 
@@ -64,9 +66,11 @@ long n = digits-few 20 n
 
 -- ---- lines of a field and a code
 
+-- both have at most two digits
 abbrev Small : Line → Type 0
 Small l = (l .field < 100) × (l .code < 100)
 
+-- seven bytes a line beside its word
 lines-short : (word : List ℕ) (ls : List Line) → ((l : Line) → In l ls → Small l) → length (linesText word ls) ≤ (length word + 7) * length ls
 lines-short word [] h = omega arith
 lines-short word (l ∷ ls) h =
@@ -86,15 +90,18 @@ module _ (b : Book) (w : Within b) (s : List ℕ) where
   small : (l : Line) → l .code < codes b (l .field) → Small l
   small l h = (omega (arith, field-in b (l .field) (l .code) h, w .few), omega (arith, w .small (l .field)))
 
+  -- the lines of alternatives are
   alt-small : (l : Line) → In l (lines b s) → Small l
   alt-small l m =
       small l (largest-is b (relax s (l .field)) .fits .of-book (l .field) (l .code) (lines-are b s l .0 m .1))
 
+  -- and so are the open lines
   open-small : (l : Line) → In l (openLines b s) → Small l
   open-small l m =
       small l (largest-is b s .fits .of-book (l .field) (l .code) (open-are b s (largest b s) (largest-is b s) l .0 m .1 .1))
 
   module _ (tables-few : length (b .tables) ≤ tableLimit) (rows-few : rowTotal (b .tables) ≤ rowLimit) where
+    -- "book 32 64 4096 4096"
     book-line-short : length (bookWord ++ spaced (bookCounts b)) ≤ 21
     book-line-short =
         line-short bookWord (bookCounts b) (2 ∷ 2 ∷ 4 ∷ 4 ∷ []) (
@@ -108,6 +115,7 @@ module _ (b : Book) (w : Within b) (s : List ℕ) where
           ),
         )
 
+    -- "sheet 32 1024 33792"
     sheet-line-short : length (sheetWord ++ spaced (howMany (length (b .counts)) (answered s) ∷ total b s ∷ struck b s ∷ [])) ≤ 20
     sheet-line-short =
         line-short sheetWord (howMany (length (b .counts)) (answered s) ∷ total b s ∷ struck b s ∷ []) (2 ∷ 4 ∷ 5 ∷ []) (
@@ -118,6 +126,7 @@ module _ (b : Book) (w : Within b) (s : List ℕ) where
           ),
         )
 
+    -- both, and the lines behind them
     accepted-short : length (acceptedText (bookCounts b) s b) ≤ textLimit
     unfolding acceptedText
     accepted-short =
@@ -139,6 +148,7 @@ module _ (b : Book) (w : Within b) (s : List ℕ) where
 
 -- ---- any text
 
+-- the text of a refusal
 refused-short : (number place : ℕ) → length (refusedText number place) ≤ textLimit
 refused-short number place =
     omega (arith, line-short refusedWord (number ∷ place ∷ []) (20 ∷ 20 ∷ []) (long number, (long place, tt)))
@@ -154,6 +164,7 @@ loaded-short bytes form e =
     rw counts (accepted-short (bookOf bytes) (accepted-within bytes ok) (loaded bytes form .sheet)
     (omega (arith, tables-count bytes, h .tables-few)) (h .rows-few))
 
+-- whatever the book and the sheet are
 pub text-fits : TextFits
 unfolding reportText
 text-fits bytes form = at (eqb (loaded bytes form .outcome .number) 0) refl

@@ -25,7 +25,7 @@ use Rattle.sheet.proofs.LoadCases.{loaded-book}
 use Rattle.report.specs.Text.{spaced, bookWord, sheetText, acceptedText, refusedText, reportText}
 use Rattle.report.specs.Report.{textLimit}
 use Rattle.report.specs.Writes.{Room, Puts}
-use Rattle.report.specs.Opens.{Stands}
+use Rattle.report.specs.Held.{Stands}
 use Rattle.report.proofs.Sizes.{text-fits}
 use Rattle.report.proofs.Writing.{puts-then, room-first, room-then}
 
@@ -70,6 +70,7 @@ module _ (bytes form : List ℕ) where
       (load-refused (numberOf reason) p (number-some reason) (sym (ap shown e) ∙ ap (λ (x : Result). x .outcome) h))
 
   module _ (o : List ℕ) (n p : ℕ) (e : reportText bytes form ≡ refusedText n p) where
+    -- its room, and the text once it is written
     pub refused-room : textLimit ≤ length o → Room o 0 (refusedText n p)
     refused-room m = subst (Room o 0) e (text-room o m)
 
@@ -84,12 +85,14 @@ module _ (bytes form : List ℕ) where
     abbrev s : List ℕ
     s = r′ .sheet .places
 
+    -- what the reader and the load answered
     counted : accepted (fields ∷ tables ∷ rows ∷ different ∷ []) ≡ reading bytes
     counted = sym (ap book.shown e) ∙ h
 
     done-is : accepted [] ≡ loaded bytes form .outcome
     done-is = sym (ap shown e′) ∙ ap (λ (x : Result). x .outcome) h′
 
+    -- the sheet is the one loaded
     held : s ≡ loaded bytes form .sheet
     held = ap (λ (x : Result). x .sheet) h′
 
@@ -101,6 +104,7 @@ module _ (bytes form : List ℕ) where
     accepts : loaded bytes form .outcome .number ≡ 0
     accepts = ap (λ (x : Outcome). x .number) (sym done-is)
 
+    -- the book's line, then the sheet's text
     accepted-is : reportText bytes form ≡ bookLine ++ sheetText s (bookOf bytes)
     unfolding reportText acceptedText
     accepted-is = rw (← done-is, ← counted, ← held)
@@ -117,6 +121,7 @@ module _ (bytes form : List ℕ) where
         }
 
     module _ (o : List ℕ) (m : textLimit ≤ length o) where
+      -- room for any text is room for both, one behind the other
       both-room : Room o 0 (bookLine ++ sheetText s (bookOf bytes))
       both-room = subst (Room o 0) accepted-is (text-room o m)
 

@@ -1,12 +1,11 @@
 -- A loop that writes a text piece by piece: the room for the next piece, and the text with it. Assumes nothing.
 use mathlib.Core.Path.{_≡_, sym, ap, _∙_, subst}
-use mathlib.Core.Logic.{⊎-elim}
 use mathlib.Core.List.{List, [], _++_, append-nil}
-use Prim.Native.Nat.{ℕ, zero, suc, _+_, _≤_, _<_}
-use native.Mathlib.Nat.{le-refl, eq-or-lt-of-le}
+use Prim.Native.Nat.{ℕ, suc, _+_, _≤_, _<_}
 use native.Mathlib.Numerals.{add-one}
 use native.Mathlib.Omega.{arith}
 use lib.ListN.{length, length-append}
+use Rattle.sheet.proofs.Upward.{rises}
 use Rattle.report.specs.Writes.{Room, Puts}
 use Rattle.report.proofs.Writing.{puts-then, puts-length}
 
@@ -14,10 +13,7 @@ use Rattle.report.proofs.Writing.{puts-then, puts-length}
 module _ (T U : ℕ → List ℕ) (more : (k : ℕ) → T (suc k) ≡ T k ++ U k) where
   -- more pieces are longer
   grows : (i n : ℕ) → i ≤ n → length (T i) ≤ length (T n)
-  grows i zero l = let e : i ≡ 0 = omega arith in rw e (le-refl _)
-  grows i (suc n) l =
-      ⊎-elim (λ (e : i ≡ suc n). rw e (le-refl _))
-      (λ (h : i < suc n). omega (arith, grows i n (omega arith), ap length (more n), length-append (T n) (U n))) (eq-or-lt-of-le l)
+  grows = rises (λ k. length (T k)) (λ k. omega (arith, ap length (more k), length-append (T k) (U k)))
 
   module _ {o : List ℕ} {at : ℕ} (i : ℕ) {o′ : List ℕ} {r : ℕ} (p : Puts o at (T i) o′ r) where
     -- where all n pieces have room, the next has
@@ -36,5 +32,6 @@ module _ (T U : ℕ → List ℕ) (more : (k : ℕ) → T (suc k) ≡ T k ++ U k
         subst (λ (t : List ℕ). Puts o at t o′ r) (sym same) p
 
 -- a loop's end: it has gone as far as it may
-pub all-pieces : (T : ℕ → List ℕ) {o : List ℕ} {at : ℕ} (i n : ℕ) {o′ : List ℕ} {r : ℕ} → i ≤ n → n ≤ i → Puts o at (T i) o′ r → Puts o at (T n) o′ r
+pub all-pieces : (T : ℕ → List ℕ) {o : List ℕ} {at : ℕ} (i n : ℕ) {o′ : List ℕ} {r : ℕ} → i ≤ n → n ≤ i → Puts o at (T i) o′ r
+    → Puts o at (T n) o′ r
 all-pieces T {o} {at} i n {o′} {r} l h p = let e : i ≡ n = omega arith in subst (λ (k : ℕ). Puts o at (T k) o′ r) e p

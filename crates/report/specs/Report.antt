@@ -1,5 +1,5 @@
--- What report leaves, and what the printed lines say: "the open lines are exactly the unanswered fields' codes in the largest arc-consistent subdomain", each once, by
--- field then code; the header's total is the number of alt lines. And how long a text can be. Assumes nothing.
+-- What the printed lines say: the open lines are exactly the unanswered fields' codes in the largest arc-consistent subdomain, each once, by
+-- field then code, and the total is the number of alt lines. How long a text can be, and what report leaves. Assumes nothing.
 use Prim.Native.Nat.{ℕ, _≤_, _<_}
 use mathlib.Core.Path.{_≡_}
 use mathlib.Core.Logic.{_↔_}
@@ -22,6 +22,7 @@ pub record ShowsOpen (b : Book) (s : List ℕ) (ls : List Line) : Type 0 where
   pub exactly : (S : Subdomain) → IsLargest b s S
       → (l : Line) → In l ls ↔ ((l .field < length (b .counts)) × (T (not (answered s (l .field))) × T (S (l .field) (l .code))))
 
+-- so it is of the open lines printed for any book and sheet
 abbrev pub OpenLinesAre : Type 0
 OpenLinesAre = (b : Book) (s : List ℕ) → ShowsOpen b s (openLines b s)
 
@@ -33,6 +34,7 @@ TotalIsLines = (b : Book) (s : List ℕ) → total b s ≡ length (lines b s)
 abbrev pub textLimit : ℕ
 textLimit = 11305
 
+-- so a buffer of this size has room for any text
 abbrev pub TextFits : Type 0
 TextFits = (bytes form : List ℕ) → length (reportText bytes form) ≤ textLimit
 

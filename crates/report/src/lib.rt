@@ -6,7 +6,7 @@ ghost use Rattle.format.specs.Format.{bookOf};
 ghost use Rattle.report.specs.Text.{sheetText, reportText};
 ghost use Rattle.report.specs.Report.{textLimit, printing, shown};
 ghost use Rattle.report.specs.Writes.{Room, Puts};
-ghost use Rattle.report.specs.Opens.{Stands};
+ghost use Rattle.report.specs.Held.{Stands};
 use book::Reading;
 use sheet::Answer;
 use sheet::Listing;

@@ -11,7 +11,7 @@ use Rattle.consistency.specs.Consistency.{places, codes, answer}
 use Rattle.calls.specs.Calls.{placeOk}
 
 -- within a list the default is not what is read
-default-unread : (s : List ℕ) (p x y : ℕ) → p < length s → getD s p x ≡ getD s p y
+pub default-unread : (s : List ℕ) (p x y : ℕ) → p < length s → getD s p x ≡ getD s p y
 default-unread [] p x y h = absurd (omega arith)
 default-unread (a ∷ s) zero x y h = refl
 default-unread (a ∷ s) (suc p) x y h = default-unread s p x y (omega arith)

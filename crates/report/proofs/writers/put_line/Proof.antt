@@ -3,7 +3,7 @@ use Prim.Native.Nat.{_≤_, _-_}
 use mathlib.Core.Path.{_∙_}
 use lib.ListN.{length, drop}
 use Rattle.report.specs.Text.{spaced}
-use Rattle.report.proofs.Writing.{puts-none, puts-length, puts-then, room-first, room-then, Halfway, halfway-from}
+use Rattle.report.proofs.Writing.{puts-length, puts-then, room-first, room-then, Halfway, halfway-start}
 use Rattle.report.proofs.Lines.{room-space, room-number, line-on, room-newline, line-end}
 use borrow.Author.Needs.{needs}
 use Rattle.report.proofs.writers.put_line.Statement.{statement}
@@ -19,7 +19,7 @@ put-word-requires : tie.Need-put-word-requires Inv-loop μ-loop
 put-word-requires c κs = room-first (c .before .before .before .before .args .out .now) _ (c .before .before .before .before .args .word .now) (spaced (c .before .before .before .before .args .numbers .now)) (c .before .before .before .before .pre)
 
 loop-holds : tie.Need-loop-holds Inv-loop μ-loop
-loop-holds c = (search needs, halfway-from (spaced (c .before .before .before .before .before .before .before .args .numbers .now)) (puts-none _ _))
+loop-holds c = (search needs, halfway-start _ _ (spaced (c .before .before .before .before .before .before .before .args .numbers .now)))
 
 put-byte-requires : tie.Need-put-byte-requires Inv-loop μ-loop
 put-byte-requires c κs = room-space (c .before .before .before .before .before .before .before .before .before .before .args .numbers .now) _ (room-then (c .before .before .before .before .before .put-word .ensures) (spaced (c .before .before .before .before .before .before .before .before .before .before .args .numbers .now)) (c .before .before .before .before .before .before .before .before .before .before .pre)) (c .before .before .loop .inv .1) (c .before .loop-test .taken)
