@@ -1,6 +1,6 @@
 -- The number of a field's codes in a subdomain, and of the book's codes outside it. Assumes nothing.
 use mathlib.Core.Path.{_≡_, ap}
-use mathlib.Core.Bool.{true, not}
+use mathlib.Core.Bool.{true, not, false}
 use Prim.Native.Nat.{ℕ, suc, _+_, _<_}
 use native.Mathlib.Decide.{decLt}
 use native.Mathlib.Omega.{arith}
@@ -10,7 +10,11 @@ use Rattle.consistency.specs.Counting.{howMany}
 use Rattle.consistency.specs.Consistency.{Subdomain, codes}
 use Rattle.consistency.specs.Counts.{codesIn, outside}
 use Rattle.consistency.proofs.Sums.{many-ext, many-not, many-one, sum-ext, sum-one}
-use Rattle.consistency.proofs.Loops.{Without}
+
+-- S′ is S without code c of field f
+pub record Without (S S′ : Subdomain) (f c : ℕ) : Type 0 where
+  pub gone : S′ f c ≡ false
+  pub rest : (g d : ℕ) → ((g ≡ f) × (d ≡ c) → ⊥) → S′ g d ≡ S g d
 
 -- a field that has a code is in the field list
 pub field-in : (b : Book) (f c : ℕ) → c < codes b f → f < length (b .counts)
