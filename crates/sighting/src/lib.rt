@@ -2,8 +2,7 @@
 // A sheet is an array of 32 bytes, which every call on a sheet writes whole with the sheet that it hands back. A call returns its outcome's
 // number, 0 where it is accepted, and writes the place and the counts into the cells lent for them.
 ghost use mathlib.Core.Path.{_≡_};
-ghost use mathlib.Core.List.{List, []};
-ghost use Prim.Native.Nat.{ℕ};
+ghost use mathlib.Core.List.{[]};
 ghost use Rattle.format.specs.Reading.{reading};
 ghost use Rattle.calls.specs.Calls.{freshSheet, cleared, entered, withdrawn, filtered, alternatives, loaded, stored};
 ghost use Rattle.calls.specs.Histories.{sheetAfter, callsIn};
@@ -127,7 +126,7 @@ pub extern "C" fn sighting_alternatives(
     hand_list(given.alternatives(book, out), sheet, outcome)
 }
 
-// Reads the stored form of a sheet. Cells: place.
+// Reads the stored form of a sheet; a refusal leaves a fresh one. Cells: place.
 #[no_mangle]
 pub extern "C" fn sighting_load(
     sheet: &mut [u8; 32],
@@ -154,7 +153,7 @@ pub extern "C" fn sighting_store(
     hand(given.store(book, out), sheet, outcome)
 }
 
-// A list of calls from a fresh sheet, then the alternatives. Cells: place, total, struck.
+// A list of calls from a fresh sheet, then the alternatives of the sheet so reached, which is handed back. Cells: place, total, struck.
 #[no_mangle]
 pub extern "C" fn sighting_replay(
     sheet: &mut [u8; 32],
@@ -168,7 +167,7 @@ pub extern "C" fn sighting_replay(
     hand_list(sheet::replay(book, calls, out), sheet, outcome)
 }
 
-// The text that the desk prints for a book and a stored sheet. Cells: its length.
+// The text that the desk prints for a book and a stored sheet: 0 where it is written, 18 where it does not fit. Cells: its length, in both.
 #[no_mangle]
 pub extern "C" fn sighting_report(
     book: &[u8],
