@@ -15,6 +15,7 @@ use Rattle.format.proofs.AllTables.{tables-good}
 use Rattle.format.proofs.Verdict.{verdict-promise}
 use Rattle.format.proofs.Accepted.{checked-verdict}
 use Rattle.book.specs.Bounds.{BodyFits}
+use Rattle.book.specs.View.{Viewed}
 
 module _ (s : List ℕ) where
   -- behind a table that passes, the rows so far are within the limit
@@ -88,6 +89,20 @@ module _ (s : List ℕ) where
     -- the numbers are the trailer's and the book's
     counts-are : list ∷ fields ∷ tables ∷ rows ∷ [] ≡ listPlace s ∷ fieldCount s ∷ tableCount s ∷ rowTotal (bookOf s .tables) ∷ []
     counts-are = ap (λ (o : Outcome). o .counts) (e ∙ sym (checking-pass s (sym passed)))
+
+    -- a view of the bytes with these numbers is a view of the book
+    pub check-viewed : Viewed s list fields tables rows
+    check-viewed =
+        record {
+          numbers =
+              record {
+                promise = verdict-promise s passed;
+                list-is = cc counts-are;
+                fields-is = cc counts-are;
+                tables-is = cc counts-are;
+              };
+          rows-is = cc counts-are;
+        }
 
     -- the tables of an accepted book end within the bytes
     pub read-fits : (tables ≤ tableLimit) × (place s tables ≤ length s)

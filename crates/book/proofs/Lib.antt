@@ -2,3 +2,4 @@ pub mod Turns
 pub mod Rows
 pub mod Answers
 pub mod Injective
+pub mod Walking

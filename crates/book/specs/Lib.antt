@@ -1,2 +1,3 @@
 pub mod Shown
 pub mod Bounds
+pub mod View

@@ -2,6 +2,7 @@
 ghost use mathlib.Core.Path.{_≡_};
 ghost use Rattle.format.specs.Reading.{reading, checking};
 ghost use Rattle.book.specs.Shown.{numberOf, shown, shownCheck};
+ghost use Rattle.book.specs.View.{viewOf};
 
 mod bytes;
 mod different;
@@ -66,6 +67,28 @@ pub enum Checked {
         rows: usize,
     },
     Refused(Refusal, usize),
+}
+
+// A book, held as one view on the lent bytes: where its field list stands, and its numbers of fields, tables and rows.
+pub struct Book<'a> {
+    pub bytes: &'a [u8],
+    pub list: usize,
+    pub fields: usize,
+    pub tables: usize,
+    pub rows: usize,
+}
+
+// The view on these bytes, of the numbers that checking them answered.
+pub fn view<'a>(bytes: &'a [u8], list: usize, fields: usize, tables: usize, rows: usize) -> Book<'a>
+    ensures { λ b. ⌜ b ≡ viewOf (bytes .entry) list fields tables rows ⌝ }
+{
+    Book {
+        bytes,
+        list,
+        fields,
+        tables,
+        rows,
+    }
 }
 
 // Makes every test. Different rows are counted apart, since only `read` answers their number.

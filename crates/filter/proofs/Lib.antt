@@ -31,3 +31,4 @@ pub mod Totals
 pub mod Gathers
 pub mod Passes
 pub mod Agreement
+pub mod ViewCalls

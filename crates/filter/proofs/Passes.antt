@@ -7,9 +7,9 @@ use native.Mathlib.Omega.{arith}
 use lib.ListN.{length, getD, replicate}
 use lib.Count.{ones, ones-ones}
 use lib.Dec.{T, ltb, ltb→lt, lt→ltb}
-use Rattle.format.specs.Format.{codeLimit, tableLimit, fieldCount, tableCount, bookOf}
-use Rattle.format.specs.Promise.{Promise}
+use Rattle.format.specs.Format.{codeLimit, tableLimit, tableCount, bookOf}
 use Rattle.format.proofs.Views.{counts-count}
+use Rattle.book.specs.View.{Numbered}
 use Rattle.consistency.specs.Counting.{sumBelow, tabulate}
 use Rattle.consistency.specs.Consistency.{places, codes}
 use Rattle.consistency.specs.Largest.{largest}
@@ -19,7 +19,7 @@ use Rattle.filter.specs.Words.{bit, wordAt, domainOf}
 use Rattle.filter.specs.Cases.{casesOf, marksOf, plainOf}
 use Rattle.filter.specs.Revise.{Room}
 use Rattle.filter.specs.Queue.{SurveyGiven, Surveyed, PropagateGiven, Propagated}
-use Rattle.filter.specs.Start.{CasesAre, casesBelow, HeaderIs, Starts, Started, RunGiven, Ran}
+use Rattle.filter.specs.Start.{CasesAre, casesBelow, Starts, Started, RunGiven, Ran}
 use Rattle.filter.proofs.Bits.{low-bits}
 use Rattle.filter.proofs.Limits.{fields-few, codes-few}
 use Rattle.filter.proofs.Totals.{allCodes}
@@ -38,29 +38,28 @@ sum-le (suc n) m g h = omega (arith, sum-le n m g h, h n, suc-mul n m)
 
 -- ---- what the parts of a pass ask, and what they leave
 
-module _ (s a own : List ℕ) (all : ℕ) (g : RunGiven s a own all) (list fields tables : ℕ)
-    (h : HeaderIs s list fields tables) where
+module _ (s : List ℕ) (list fields tables : ℕ) (a own : List ℕ) (all : ℕ) (g : RunGiven s list fields tables a own all) where
   pub survey-given : SurveyGiven s (replicate places 0) (replicate tableLimit 0) tables
-  survey-given = record { promise = g .promise; tables-is = h .tables-is; words = refl; empty = zeros places; room = refl }
+  survey-given = record { promise = g .numbers .promise; tables-is = g .numbers .tables-is; words = refl; empty = zeros places; room = refl }
 
   pub start-given : Starts s own all list fields
-  start-given = record { promise = g .promise; list-is = h .list-is; fields-is = h .fields-is; within = own-within (g .are) }
+  start-given = record { promise = g .numbers .promise; list-is = g .numbers .list-is; fields-is = g .numbers .fields-is; within = own-within (g .are) }
 
   module _ (M W P : List ℕ) (r d : ℕ) (x : Started (bookOf s) a own all M r) (w : Surveyed s W P) (de : d ≡ 2 ^ tables - 1) where
     -- the queue has the book's tables
     queue-bit : (i : ℕ) → bit d i ≡ ltb i (tableCount s)
-    queue-bit i = ap (λ (z : ℕ). bit z i) de ∙ low-bits tables i ∙ ap (ltb i) (h .tables-is)
+    queue-bit i = ap (λ (z : ℕ). bit z i) de ∙ low-bits tables i ∙ ap (ltb i) (g .numbers .tables-is)
 
     -- at most 64 cases, 32 fields and 32 codes each
     cases-few : ones all ≤ 64
     cases-few = subst (λ (z : ℕ). z ≤ 64) (sym (ap ones (g .are .all-is) ∙ ones-ones (length (g .cases)))) (g .are .few)
 
     fields-in : length (bookOf s .counts) ≤ places
-    fields-in = omega (arith, counts-count s (g .promise .whole), fields-few s (g .promise))
+    fields-in = omega (arith, counts-count s (g .numbers .promise .whole), fields-few s (g .numbers .promise))
 
     all-codes-few : allCodes (bookOf s) ≤ places * codeLimit
     all-codes-few =
-        le-trans (sum-le (length (bookOf s .counts)) codeLimit (codes (bookOf s)) (codes-few s (g .promise)))
+        le-trans (sum-le (length (bookOf s .counts)) codeLimit (codes (bookOf s)) (codes-few s (g .numbers .promise)))
         (mul-le-mul fields-in (le-refl codeLimit))
 
     -- the count has room for all marks
@@ -70,44 +69,45 @@ module _ (s a own : List ℕ) (all : ℕ) (g : RunGiven s a own all) (list field
     pub propagate-given : PropagateGiven s M W P list r d
     propagate-given =
         record {
-          promise = g .promise;
-          list-is = h .list-is;
+          promise = g .numbers .promise;
+          list-is = g .numbers .list-is;
           watches = w .watches;
           placed = w .placed;
           all = λ i l. subst T (sym (queue-bit i)) (lt→ltb i (tableCount s) l);
           only = λ i t. ltb→lt i (tableCount s) (subst T (queue-bit i) t);
-          marks = record { words = x .size; of-book = started-of-book s a own all M r (g .promise) x; room = room };
+          marks = record { words = x .size; of-book = started-of-book s a own all M r (g .numbers .promise) x; room = room };
         }
 
     pub ran : (N : List ℕ) (m : ℕ) → Propagated s M N r m → Ran (bookOf s) a own all N m
     ran N m y =
         record {
-          marks = marks-ended s a own all M r N m (g .promise) x y;
-          counts = count-ended s a own all M r N m (g .promise) x y;
+          marks = marks-ended s a own all M r N m (g .numbers .promise) x y;
+          counts = count-ended s a own all M r N m (g .numbers .promise) x y;
         }
 
 -- ---- the one pass
 
-module _ (s a own : List ℕ) (all fields : ℕ) (p : Promise s) (fe : fields ≡ fieldCount s) (x : CasesAre a own all (casesBelow fields a)) where
-  pub one-pass-given : RunGiven s a own all
-  one-pass-given = record { promise = p; cases = casesBelow fields a; are = x }
+module _ (s : List ℕ) (list fields tables : ℕ) (a own : List ℕ) (all : ℕ) (h : Numbered s list fields tables)
+    (x : CasesAre a own all (casesBelow fields a)) where
+  pub all-cases-given : RunGiven s list fields tables a own all
+  all-cases-given = record { numbers = h; cases = casesBelow fields a; are = x }
 
   -- the book's number of fields is the trailer's
   are-cases : CasesAre a own all (casesOf (bookOf s) a)
-  are-cases = subst (λ (n : ℕ). CasesAre a own all (casesBelow n a)) (fe ∙ sym (counts-count s (p .whole))) x
+  are-cases = subst (λ (n : ℕ). CasesAre a own all (casesBelow n a)) (h .fields-is ∙ sym (counts-count s (h .promise .whole))) x
 
-  pub one-pass-done : (N : List ℕ) (r : ℕ) → Ran (bookOf s) a own all N r
+  pub all-cases-done : (N : List ℕ) (r : ℕ) → Ran (bookOf s) a own all N r
       → (N ≡ marksOf (bookOf s) (casesOf (bookOf s) a)) × (r ≡ struck (bookOf s) a)
-  one-pass-done N r y = (
+  all-cases-done N r y = (
     y .marks (casesOf (bookOf s) a) are-cases,
     y .counts (casesOf (bookOf s) a) are-cases ∙ outside-struck (bookOf s) a,
   )
 
 -- ---- plain filtering
 
-module _ (s a own : List ℕ) (p : Promise s) (z : (f : ℕ) → getD own f 0 ≡ 0) where
-  pub plain-given : RunGiven s a own 1
-  plain-given = record { promise = p; cases = a ∷ []; are = one-case a own z }
+module _ (s : List ℕ) (list fields tables : ℕ) (a own : List ℕ) (h : Numbered s list fields tables) (z : (f : ℕ) → getD own f 0 ≡ 0) where
+  pub one-case-given : RunGiven s list fields tables a own 1
+  one-case-given = record { numbers = h; cases = a ∷ []; are = one-case a own z }
 
   module _ (N : List ℕ) (r : ℕ) (y : Ran (bookOf s) a own 1 N r) where
     -- each field's number
@@ -118,5 +118,5 @@ module _ (s a own : List ℕ) (p : Promise s) (z : (f : ℕ) → getD own f 0 �
         domain-bit N 0 f c m ∙ ap (λ (M : List ℕ). bit (wordAt M f c) 0) (y .marks (a ∷ []) (one-case a own z))
         ∙ marks-bit (bookOf s) (a ∷ []) 0 f c (omega arith) l m)
 
-    pub plain-done : (n : List ℕ) → n ≡ tabulate (maskOf N) places 0 → n ≡ plainOf (bookOf s) a
-    plain-done n e = e ∙ tabulate-ext (maskOf N) (λ f. mask codeLimit (largest (bookOf s) a f)) places number-is
+    pub one-case-done : (n : List ℕ) → n ≡ tabulate (maskOf N) places 0 → n ≡ plainOf (bookOf s) a
+    one-case-done n e = e ∙ tabulate-ext (maskOf N) (λ f. mask codeLimit (largest (bookOf s) a f)) places number-is

@@ -7,8 +7,9 @@ use lib.ListN.{length, getD}
 use lib.Count.{ones}
 use lib.Dec.{T, eqb, ltb}
 use Rattle.format.specs.Basics.{pick}
-use Rattle.format.specs.Format.{Book, codeLimit, fieldCount, tableCount, listPlace}
+use Rattle.format.specs.Format.{Book, codeLimit, fieldCount, listPlace}
 use Rattle.format.specs.Promise.{Promise}
+use Rattle.book.specs.View.{Numbered}
 use Rattle.consistency.specs.Counting.{howMany, those, sumBelow}
 use Rattle.consistency.specs.Consistency.{places, codes, answer, relax}
 use Rattle.consistency.specs.Counts.{answered}
@@ -68,15 +69,9 @@ pub record Started (b : Book) (a own : List ℕ) (all : ℕ) (N : List ℕ) (r :
 
 -- ---- a whole pass
 
--- the trailer's numbers
-pub record HeaderIs (s : List ℕ) (list fields tables : ℕ) : Type 0 where
-  pub list-is : list ≡ listPlace s
-  pub fields-is : fields ≡ fieldCount s
-  pub tables-is : tables ≡ tableCount s
-
--- an accepted book, and words that say cases
-pub record RunGiven (s a own : List ℕ) (all : ℕ) : Type 0 where
-  pub promise : Promise s
+-- a numbered book, and words that say cases
+pub record RunGiven (s : List ℕ) (list fields tables : ℕ) (a own : List ℕ) (all : ℕ) : Type 0 where
+  pub numbers : Numbered s list fields tables
   pub cases : List (List ℕ)
   pub are : CasesAre a own all cases
 

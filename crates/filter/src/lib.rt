@@ -1,84 +1,74 @@
 // The filter over an accepted book: the one pass for all cases, and plain filtering by the same engine with one case.
+ghost use mathlib.Core.Path.{_≡_};
+ghost use Rattle.format.specs.Format.{bookOf};
+ghost use Rattle.book.specs.View.{Viewed};
+ghost use Rattle.consistency.specs.Counts.{struck};
+ghost use Rattle.filter.specs.Cases.{casesOf, marksOf, plainOf};
+use book::Book;
+
 mod gather;
+mod pass;
 mod queue;
 mod revise;
 mod start;
 mod support;
 
-ghost use mathlib.Core.Path.{_≡_};
-ghost use Prim.Native.Nat.{_≤_};
-ghost use lib.ListN.{length};
-ghost use Rattle.format.specs.Format.{bookOf};
-ghost use Rattle.format.specs.Promise.{Promise};
-ghost use Rattle.consistency.specs.Counts.{struck};
-ghost use Rattle.filter.specs.Cases.{casesOf, marksOf, plainOf};
-ghost use Rattle.filter.specs.Start.{HeaderIs, RunGiven, Ran};
-use gather::gather;
-use queue::first_tables;
-use queue::propagate;
-use queue::survey;
-use start::own_cases;
-use start::start;
-use support::wide;
+// The one pass over a view of an accepted book: the marks of all cases, and the number struck.
+pub fn one_pass_over<'a>(book: Book<'a>, answers: &[u8; 32], marks: &mut [u64; 1024]) -> u32
+    requires { ⌜ Viewed (now (book .bytes)) (book .list) (book .fields) (book .tables) (book .rows) ⌝ }
+    ensures marks { λ r. ⌜ now (marks .exit) ≡ marksOf (bookOf (now (book .entry .bytes))) (casesOf (bookOf (now (book .entry .bytes))) (now (answers .entry))) ⌝ }
+    ensures count { λ r. ⌜ r ≡ struck (bookOf (now (book .entry .bytes))) (now (answers .entry)) ⌝ }
+{
+    pass::all_cases(
+        book.bytes,
+        book.list,
+        book.fields,
+        book.tables,
+        answers,
+        marks,
+    )
+}
 
-// The trailer's numbers: the place of the field list, how many fields, how many tables.
-struct Header {
+// Plain filtering over a view of an accepted book: a number for each field, bit c of it for code c.
+pub fn plain_over<'a>(book: Book<'a>, answers: &[u8; 32]) -> [u32; 32]
+    requires { ⌜ Viewed (now (book .bytes)) (book .list) (book .fields) (book .tables) (book .rows) ⌝ }
+    ensures { λ r. ⌜ r ≡ plainOf (bookOf (now (book .entry .bytes))) (now (answers .entry)) ⌝ }
+{
+    pass::one_case(book.bytes, book.list, book.fields, book.tables, answers)
+}
+
+// The one pass over the view that these bytes and numbers make.
+pub fn one_pass(
+    bytes: &[u8],
     list: usize,
     fields: usize,
     tables: usize,
+    rows: usize,
+    answers: &[u8; 32],
+    marks: &mut [u64; 1024],
+) -> u32
+    requires { ⌜ Viewed (now bytes) list fields tables rows ⌝ }
+    ensures marks { λ r. ⌜ now (marks .exit) ≡ marksOf (bookOf (now (bytes .entry))) (casesOf (bookOf (now (bytes .entry))) (now (answers .entry))) ⌝ }
+    ensures count { λ r. ⌜ r ≡ struck (bookOf (now (bytes .entry))) (now (answers .entry)) ⌝ }
+{
+    one_pass_over(
+        book::view(bytes, list, fields, tables, rows),
+        answers,
+        marks,
+    )
 }
 
-fn read_header(book: &[u8]) -> Header
-    requires { ⌜ 6 ≤ length (now book) ⌝ }
-    ensures { λ r. ⌜ HeaderIs (now (book .entry)) (r .list) (r .fields) (r .tables) ⌝ }
+// Plain filtering over the view that these bytes and numbers make.
+pub fn plain(
+    bytes: &[u8],
+    list: usize,
+    fields: usize,
+    tables: usize,
+    rows: usize,
+    answers: &[u8; 32],
+) -> [u32; 32]
+    requires { ⌜ Viewed (now bytes) list fields tables rows ⌝ }
+    ensures { λ r. ⌜ r ≡ plainOf (bookOf (now (bytes .entry))) (now (answers .entry)) ⌝ }
 {
-    let end = book.len();
-    let at = end - 6;
-    let low = wide(book[at]);
-    let high = wide(book[at + 1]);
-    let list = low + 256 * high;
-    let fields = wide(book[end - 4]);
-    let tables = wide(book[end - 3]);
-    Header {
-        list: list,
-        fields: fields,
-        tables: tables,
-    }
-}
-
-// Filters the cases that own and all say, all at once: the marks of each, and how many are struck.
-fn run(book: &[u8], answers: &[u8; 32], own: &[u64; 32], all: u64, marks: &mut [u64; 1024]) -> u32
-    requires { ⌜ RunGiven (now book) (now answers) (now own) all ⌝ }
-    ensures { λ r. ⌜ Ran (bookOf (now (book .entry))) (now (answers .entry)) (now (own .entry)) all (now (marks .exit)) r ⌝ }
-{
-    let header = read_header(book);
-    let mut watch = [0u64; 32];
-    let mut places = [0usize; 64];
-    survey(book, &mut watch, &mut places, header.tables);
-    let begun = start(book, *answers, own, all, marks, header.list, header.fields);
-    let queue = first_tables(header.tables);
-    propagate(book, marks, &watch, &places, header.list, begun, queue)
-}
-
-// The one pass: "nothing lifted, then each answered field lifted by itself". The marks of all cases, and the number struck.
-pub fn one_pass(book: &[u8], answers: &[u8; 32], marks: &mut [u64; 1024]) -> u32
-    requires { ⌜ Promise (now book) ⌝ }
-    ensures marks { λ r. ⌜ now (marks .exit) ≡ marksOf (bookOf (now (book .entry))) (casesOf (bookOf (now (book .entry))) (now (answers .entry))) ⌝ }
-    ensures count { λ r. ⌜ r ≡ struck (bookOf (now (book .entry))) (now (answers .entry)) ⌝ }
-{
-    let header = read_header(book);
-    let cases = own_cases(*answers, header.fields);
-    let own = cases.words;
-    run(book, answers, &own, cases.all, marks)
-}
-
-// Plain filtering: one case, with the answers as they are. A number for each field, bit c of it for code c.
-pub fn plain(book: &[u8], answers: &[u8; 32]) -> [u32; 32]
-    requires { ⌜ Promise (now book) ⌝ }
-    ensures { λ r. ⌜ r ≡ plainOf (bookOf (now (book .entry))) (now (answers .entry)) ⌝ }
-{
-    let own = [0u64; 32];
-    let mut marks = [0u64; 1024];
-    run(book, answers, &own, 1, &mut marks);
-    gather(&marks)
+    plain_over(book::view(bytes, list, fields, tables, rows), answers)
 }

@@ -1,16 +1,16 @@
 -- How large the printed numbers are, in a book within the limits: the lines of alternatives and of open codes together, the number struck, the
 -- different rows. Assumes nothing.
-use mathlib.Core.Path.{_≡_, sym, ap, _∙_}
+use mathlib.Core.Path.{_≡_, ap}
 use mathlib.Core.Bool.{Bool, true, false, not}
 use mathlib.Core.List.{List, [], _∷_}
-use Prim.Native.Nat.{ℕ, zero, suc, _+_, _*_, _≤_, _<_}
-use native.Mathlib.Nat.{mul-le-mul-left, mul-suc}
+use Prim.Native.Nat.{ℕ, zero, suc, _+_, _*_, _≤_}
+use native.Mathlib.Nat.{mul-suc}
 use native.Mathlib.Omega.{arith}
 use lib.ListN.{length}
 use Rattle.format.specs.Basics.{pick}
 use Rattle.format.specs.Format.{Book, Table, codeLimit, isIn, different, rowTotal, differentTotal}
 use Rattle.consistency.specs.Counting.{howMany, those, sumBelow, sumOver}
-use Rattle.consistency.specs.Consistency.{Subdomain, places, codes, relax}
+use Rattle.consistency.specs.Consistency.{Subdomain, codes, relax}
 use Rattle.consistency.specs.Largest.{largest}
 use Rattle.consistency.specs.Counts.{answered, relaxable, outside, total, struck, lines}
 use Rattle.consistency.proofs.Sums.{length-those, many-not}

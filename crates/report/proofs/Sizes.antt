@@ -1,6 +1,6 @@
 -- "book", "sheet", alt, open and refused lines are short, and so is the whole text. Assumes nothing.
-use mathlib.Core.Path.{_≡_, refl, sym, ap, _∙_}
-use mathlib.Core.Bool.{Bool, true, false, not}
+use mathlib.Core.Path.{_≡_, refl, sym, ap}
+use mathlib.Core.Bool.{Bool, true, false}
 use mathlib.Core.List.{List, [], _∷_, _++_, List·Memᴰ·head, List·Memᴰ·tail}
 use Prim.Native.Nat.{ℕ, suc, _+_, _*_, _^_, _≤_, _<_}
 use native.Mathlib.Nat.{mul-suc}
@@ -25,7 +25,7 @@ use Rattle.consistency.proofs.Largest.{largest-is}
 use Rattle.calls.specs.Calls.{loaded}
 use Rattle.calls.proofs.Sheets.{Within, accepted-within}
 use Rattle.calls.proofs.Stored.{load-accepted}
-use Rattle.report.specs.Text.{digits, decimal, spaced, bookWord, sheetWord, altWord, openWord, refusedWord, openLines, linesText, acceptedText, refusedText, reportText}
+use Rattle.report.specs.Text.{decimal, spaced, bookWord, sheetWord, altWord, openWord, refusedWord, openLines, linesText, acceptedText, refusedText, reportText}
 use Rattle.report.specs.Report.{textLimit, TextFits}
 use Rattle.report.proofs.Digits.{digits-short, digits-few}
 use Rattle.report.proofs.Counts.{different-total-few, lines-few, total-few, answered-few, struck-few}
@@ -71,9 +71,13 @@ lines-short : (word : List ℕ) (ls : List Line) → ((l : Line) → In l ls →
 lines-short word [] h = omega arith
 lines-short word (l ∷ ls) h =
     let s = h l (List·Memᴰ·head refl) in
-    omega (arith, length-append (word ++ spaced (l .field ∷ l .code ∷ [])) (linesText word ls),
-    line-short word (l .field ∷ l .code ∷ []) (2 ∷ 2 ∷ []) (short 1 (l .field) (s .0), (short 1 (l .code) (s .1), tt)),
-    lines-short word ls (λ m i. h m (List·Memᴰ·tail i)), mul-suc (length word + 7) (length ls))
+    omega (
+      arith,
+      length-append (word ++ spaced (l .field ∷ l .code ∷ [])) (linesText word ls),
+      line-short word (l .field ∷ l .code ∷ []) (2 ∷ 2 ∷ []) (short 1 (l .field) (s .0), (short 1 (l .code) (s .1), tt)),
+      lines-short word ls (λ m i. h m (List·Memᴰ·tail i)),
+      mul-suc (length word + 7) (length ls),
+    )
 
 -- ---- the text of an accepted book and sheet
 
@@ -93,15 +97,26 @@ module _ (b : Book) (w : Within b) (s : List ℕ) where
   module _ (tables-few : length (b .tables) ≤ tableLimit) (rows-few : rowTotal (b .tables) ≤ rowLimit) where
     book-line-short : length (bookWord ++ spaced (bookCounts b)) ≤ 21
     book-line-short =
-        line-short bookWord (bookCounts b) (2 ∷ 2 ∷ 4 ∷ 4 ∷ [])
-        (short 1 (length (b .counts)) (omega (arith, w .few)), (short 1 (length (b .tables)) (omega arith), (short 3 (rowTotal (b .tables)) (omega arith),
-        (short 3 (differentTotal (b .tables)) (omega (arith, different-total-few (b .tables))), tt))))
+        line-short bookWord (bookCounts b) (2 ∷ 2 ∷ 4 ∷ 4 ∷ []) (
+          short 1 (length (b .counts)) (omega (arith, w .few)),
+          (
+            short 1 (length (b .tables)) (omega arith),
+            (
+              short 3 (rowTotal (b .tables)) (omega arith),
+              (short 3 (differentTotal (b .tables)) (omega (arith, different-total-few (b .tables))), tt),
+            ),
+          ),
+        )
 
     sheet-line-short : length (sheetWord ++ spaced (howMany (length (b .counts)) (answered s) ∷ total b s ∷ struck b s ∷ [])) ≤ 20
     sheet-line-short =
-        line-short sheetWord (howMany (length (b .counts)) (answered s) ∷ total b s ∷ struck b s ∷ []) (2 ∷ 4 ∷ 5 ∷ [])
-        (short 1 (howMany (length (b .counts)) (answered s)) (omega (arith, answered-few b w s)), (short 3 (total b s) (omega (arith, total-few b w s)),
-        (short 4 (struck b s) (omega (arith, struck-few b w s)), tt)))
+        line-short sheetWord (howMany (length (b .counts)) (answered s) ∷ total b s ∷ struck b s ∷ []) (2 ∷ 4 ∷ 5 ∷ []) (
+          short 1 (howMany (length (b .counts)) (answered s)) (omega (arith, answered-few b w s)),
+          (
+            short 3 (total b s) (omega (arith, total-few b w s)),
+            (short 4 (struck b s) (omega (arith, struck-few b w s)), tt),
+          ),
+        )
 
     accepted-short : length (acceptedText (bookCounts b) s b) ≤ textLimit
     unfolding acceptedText
@@ -110,8 +125,17 @@ module _ (b : Book) (w : Within b) (s : List ℕ) where
         let second : List ℕ = sheetWord ++ spaced (howMany (length (b .counts)) (answered s) ∷ total b s ∷ struck b s ∷ []) in
         let alts : List ℕ = linesText altWord (lines b s) in
         let opens : List ℕ = linesText openWord (openLines b s) in
-        omega (arith, length-append front (second ++ (alts ++ opens)), length-append second (alts ++ opens), length-append alts opens,
-        book-line-short, sheet-line-short, lines-short altWord (lines b s) alt-small, lines-short openWord (openLines b s) open-small, lines-few b w s)
+        omega (
+          arith,
+          length-append front (second ++ (alts ++ opens)),
+          length-append second (alts ++ opens),
+          length-append alts opens,
+          book-line-short,
+          sheet-line-short,
+          lines-short altWord (lines b s) alt-small,
+          lines-short openWord (openLines b s) open-small,
+          lines-few b w s,
+        )
 
 -- ---- any text
 

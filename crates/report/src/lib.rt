@@ -46,7 +46,16 @@ fn put_held(out: &mut [u8], at: usize, book: &[u8], held: Sheet, fields: usize) 
     match listing {
         // never: the book and the sheet pass, and there is room for all pairs
         Listing::Unlisted(_, _) => at,
-        Listing::Listed { total, struck } => parts::put_sheet(out, at, &places, fields, &pairs, total, struck as usize, &masks),
+        Listing::Listed { total, struck } => parts::put_sheet(
+            out,
+            at,
+            &places,
+            fields,
+            &pairs,
+            total,
+            struck as usize,
+            &masks,
+        ),
     }
 }
 
@@ -57,7 +66,11 @@ fn put_text(out: &mut [u8], book: &[u8], form: &[u8]) -> usize
 {
     let reading = book::read(book);
     match reading {
-        Reading::Refused(kind, place) => parts::put_refused(out, book::number(kind) as usize, place),
+        Reading::Refused(kind, place) => parts::put_refused(
+            out,
+            book::number(kind) as usize,
+            place,
+        ),
         Reading::Accepted {
             fields,
             tables,
@@ -68,7 +81,11 @@ fn put_text(out: &mut [u8], book: &[u8], form: &[u8]) -> usize
             let answer = loaded.answer;
             let held = loaded.sheet;
             match answer {
-                Answer::Refused(reason, place) => parts::put_refused(out, sheet::number(reason) as usize, place),
+                Answer::Refused(reason, place) => parts::put_refused(
+                    out,
+                    sheet::number(reason) as usize,
+                    place,
+                ),
                 Answer::Done => {
                     let at = parts::put_book(out, fields, tables, rows, different);
                     put_held(out, at, book, held, fields)

@@ -6,7 +6,8 @@ ghost use Rattle.report.specs.Text.{spaced, linesText};
 ghost use Rattle.report.specs.Writes.{Room, Puts, pairLines, maskLines, openIn};
 use super::writers::put_line;
 
-const NO_ANSWER: u8 = 255;
+// A place without an answer.
+pub(crate) const NO_ANSWER: u8 = 255;
 
 const CODES: usize = 32;
 
@@ -54,7 +55,14 @@ fn put_masked(out: &mut [u8], at: usize, word: &[u8], field: usize, mask: u32) -
 }
 
 // The lines of the unanswered fields.
-pub(crate) fn put_open(out: &mut [u8], at: usize, word: &[u8], masks: &[u32], places: &[u8], fields: usize) -> usize
+pub(crate) fn put_open(
+    out: &mut [u8],
+    at: usize,
+    word: &[u8],
+    masks: &[u32],
+    places: &[u8],
+    fields: usize,
+) -> usize
     requires { ⌜ (fields ≤ length (now masks)) × ((fields ≤ length (now places)) × Room (now out) at (linesText (now word) (openIn (now masks) (now places) fields))) ⌝ }
     ensures { λ r. ⌜ Puts (now (out .entry)) at (linesText (now (word .entry)) (openIn (now (masks .entry)) (now (places .entry)) fields)) (now (out .exit)) r ⌝ }
 {

@@ -7,12 +7,11 @@ ghost use Rattle.consistency.specs.Counting.{howMany};
 ghost use Rattle.consistency.specs.Counts.{answered};
 ghost use Rattle.report.specs.Text.{spaced, bookWord, refusedText};
 ghost use Rattle.report.specs.Writes.{Room, Puts, sheetPart, ListsFit};
+use super::lists::NO_ANSWER;
 use super::lists::put_open;
 use super::lists::put_pairs;
 use super::lists::put_two;
 use super::writers::put_line;
-
-const NO_ANSWER: u8 = 255;
 
 // "refused", number, place.
 pub(crate) fn put_refused(out: &mut [u8], number: usize, place: usize) -> usize
@@ -23,7 +22,13 @@ pub(crate) fn put_refused(out: &mut [u8], number: usize, place: usize) -> usize
 }
 
 // "book", fields, tables, rows written, different rows.
-pub(crate) fn put_book(out: &mut [u8], fields: usize, tables: usize, rows: usize, different: usize) -> usize
+pub(crate) fn put_book(
+    out: &mut [u8],
+    fields: usize,
+    tables: usize,
+    rows: usize,
+    different: usize,
+) -> usize
     requires { ⌜ Room (now out) 0 (bookWord ++ spaced (fields ∷ tables ∷ rows ∷ different ∷ [])) ⌝ }
     ensures { λ r. ⌜ Puts (now (out .entry)) 0 (bookWord ++ spaced (fields ∷ tables ∷ rows ∷ different ∷ [])) (now (out .exit)) r ⌝ }
 {

@@ -36,11 +36,12 @@ module _ {s a M : List ℕ} {list fields : ℕ} (x : Passed s a M list fields) w
   counted-all {f} h l e = e ∙ total-is (bookOf s) a f (fields-count s list fields (x .at) ∙ omega arith)
 
   -- all fields passed: the lines, and behind them what was there
-  pub written-all : {f : ℕ} (o : List ℕ) {out : List ℕ} → fields ≤ f → f ≤ fields → 2 * total (bookOf s) a ≤ length o → out ≡ sets o 0 (bytesBelow (bookOf s) a f)
+  pub written-all : {f : ℕ} (o : List ℕ) {out : List ℕ} → fields ≤ f → f ≤ fields → 2 * total (bookOf s) a ≤ length o
+      → out ≡ sets o 0 (bytesBelow (bookOf s) a f)
       → out ≡ lineBytes (lines (bookOf s) a) ++ drop (2 * total (bookOf s) a) o
   written-all {f} o h l room e =
       let n : length (bookOf s .counts) ≡ f = fields-count s list fields (x .at) ∙ omega arith in
-      let long : length (bytesBelow (bookOf s) a f) ≡ 2 * total (bookOf s) a = length-bytes (bookOf s) a f ∙ ap (λ (k : ℕ). 2 * k) (total-is (bookOf s) a f n) in
+      let long : length (bytesBelow (bookOf s) a f) ≡ 2 * total (bookOf s) a = omega (arith, length-bytes (bookOf s) a f, total-is (bookOf s) a f n) in
       e ∙ sets-eq (bytesBelow (bookOf s) a f) o 0 (omega (arith, long))
       ∙ ap (λ (k : ℕ). bytesBelow (bookOf s) a f ++ drop k o) (zero-add _ ∙ long)
       ∙ ap (λ (bs : List ℕ). bs ++ drop (2 * total (bookOf s) a) o) (lines-are-below (bookOf s) a f n)
@@ -76,6 +77,7 @@ module _ {s a M : List ℕ} {list fields : ℕ} (x : Passed s a M list fields) w
     lines-without o e d = d ∙ ap (sets o 0) (sym (bytes-same (bookOf s) a f e))
 
     module _ {k n : ℕ} (case-is : k ≡ ownCase a f) (codes-are : n ≡ byte s (list + f)) where
+      -- n is its number of codes
       codes-is : n ≡ codes (bookOf s) f
       codes-is = codes-are ∙ sym (codes-at s list fields (x .at) f l)
 
@@ -89,6 +91,7 @@ module _ {s a M : List ℕ} {list fields : ℕ} (x : Passed s a M list fields) w
           }
 
       module _ (e : answered a f ≡ true) where
+        -- a code stands there exactly when it is listed
         own-listed : (c : ℕ) → c < codes (bookOf s) f → stands M k f c ≡ listed (bookOf s) a f c
         own-listed c h = ap (λ (i : ℕ). stands M i f c) case-is ∙ x .own f c l (subst T (sym e) tt) h
 
@@ -124,7 +127,8 @@ module _ {s a M : List ℕ} {list fields : ℕ} (x : Passed s a M list fields) w
             }
 
         -- its lines behind those of the fields before it
-        pub lines-with : (o : List ℕ) {out new : List ℕ} {next : ℕ} → next ≡ 2 * totalBelow (bookOf s) a f → out ≡ sets o 0 (bytesBelow (bookOf s) a f)
+        pub lines-with : (o : List ℕ) {out new : List ℕ} {next : ℕ} → next ≡ 2 * totalBelow (bookOf s) a f
+            → out ≡ sets o 0 (bytesBelow (bookOf s) a f)
             → new ≡ sets out next (lineBytes (linesBelow n (stands M k f) f)) → new ≡ sets o 0 (bytesBelow (bookOf s) a (f + 1))
         lines-with o {out} {next = next} d q w =
             let at : next ≡ 0 + length (bytesBelow (bookOf s) a f) = omega (arith, length-bytes (bookOf s) a f) in

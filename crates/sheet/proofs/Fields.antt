@@ -1,4 +1,4 @@
--- One answered field more: the total, the lines and their bytes; and what the marks of a pass show of a field. Assumes nothing.
+-- The total and the lines of the answered fields below a bound, one field more at a time. Assumes nothing.
 use mathlib.Core.Path.{_≡_, sym, ap, _∙_}
 use mathlib.Core.Bool.{Bool, true, false}
 use mathlib.Core.List.{List, [], _∷_, _++_, append-nil}
@@ -61,7 +61,8 @@ module _ (b : Book) (a : List ℕ) where
     pub bytes-more : answered a f ≡ true → bytesBelow (f + 1) ≡ bytesBelow f ++ lineBytes (fieldLines f)
     bytes-more e =
         ap (λ (fs : List ℕ). lineBytes (joinOver fs fieldLines)) (those-more (answered a) f e)
-        ∙ ap lineBytes (join-append (those f (answered a)) (f ∷ []) fieldLines ∙ ap (λ ls. joinOver (those f (answered a)) fieldLines ++ ls) (append-nil (fieldLines f)))
+        ∙ ap lineBytes (join-append (those f (answered a)) (f ∷ []) fieldLines)
+        ∙ ap (λ (ls : List Line). lineBytes (joinOver (those f (answered a)) fieldLines ++ ls)) (append-nil (fieldLines f))
         ∙ line-bytes-append (joinOver (those f (answered a)) fieldLines) (fieldLines f)
 
     -- one field more without an answer

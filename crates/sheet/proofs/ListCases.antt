@@ -1,12 +1,12 @@
 -- Each way through alternatives and plain filtering: the tests passed so far and the one that fails give the refusal, all passed give the
 -- result. A law's name has the refusal's number. Assumes nothing.
-use mathlib.Core.Path.{_≡_, refl, sym, _∙_}
+use mathlib.Core.Path.{_≡_, sym, _∙_}
 use mathlib.Core.List.{List, [], _∷_, _++_}
 use Prim.Native.Nat.{ℕ, _*_, _≤_, _<_}
 use native.Mathlib.Omega.{arith}
 use lib.ListN.{length, getD, set, drop}
 use borrow.Author.Tests.{lt-ltb, le-ltb, eq-eqb, ne-eqb}
-use Rattle.format.specs.Format.{listPlace, bookOf}
+use Rattle.format.specs.Format.{bookOf}
 use Rattle.format.specs.Reading.{fail}
 use Rattle.consistency.specs.Consistency.{places, answer}
 use Rattle.consistency.specs.Counts.{total, struck, lines, lineBytes, masks}
@@ -29,6 +29,7 @@ module _ (bytes s o : List ℕ) where
     unfolding alternatives
     alternatives-18 h = on-ready 2 bytes s o _ (p .passes) _ (simp (← total-is, lt-ltb))
 
+    -- the total, the number struck and the lines
     pub alternatives-done : {k : ℕ} {out : List ℕ} → 2 * n ≤ length o → k ≡ struck (bookOf bytes) s
         → out ≡ lineBytes (lines (bookOf bytes) s) ++ drop (2 * total (bookOf bytes) s) o
         → done (n ∷ k ∷ []) s out ≡ alternatives bytes s o
@@ -39,16 +40,14 @@ module _ (bytes s o : List ℕ) where
 
 -- ---- plain filtering
 
--- the field list is where the trailer says
-pub fields-at-list : {bytes : List ℕ} {list fields : ℕ} → FieldsAt bytes list fields → FieldsAt bytes (listPlace bytes) fields
-fields-at-list at = record { passes = at .passes; list-is = refl; fields-is = at .fields-is }
-
 module _ (bytes s a o : List ℕ) {list fields : ℕ} (at : FieldsAt bytes list fields) where
   -- fewer numbers lent than fields
   pub masks-18 : length o < fields → turned 0 s o 18 0 ≡ masksInto (bookOf bytes) s a o
   masks-18 h = simp (fields-count bytes list fields at, lt-ltb)
 
-  pub masks-done : {out : List ℕ} → fields ≤ length o → out ≡ masks (bookOf bytes) a ++ drop fields o → done [] s out ≡ masksInto (bookOf bytes) s a o
+  -- the masks, and behind them what was there
+  pub masks-done : {out : List ℕ} → fields ≤ length o → out ≡ masks (bookOf bytes) a ++ drop fields o
+      → done [] s out ≡ masksInto (bookOf bytes) s a o
   masks-done h w = simp (fields-count bytes list fields at, le-ltb, w)
 
 module _ (bytes s o : List ℕ) (f : ℕ) where
@@ -70,6 +69,7 @@ module _ (bytes s o : List ℕ) (f : ℕ) where
       filtered-15 h = on-ready 0 bytes s o _ (p .passes) _ (simp (ne-eqb f 255 n, fields-count bytes list fields (p .at), le-ltb f fields h))
 
       module _ (long : length s ≡ places) (h : f < fields) where
+        -- the byte at the field is its answer
         held : getD s f 0 ≡ answer s f
         held = answer-at s long f (omega (arith, fields-few bytes list fields (p .at)))
 

@@ -8,17 +8,17 @@ use lib.ListN.{length, List·getD-eq-default}
 use borrow.Author.Tests.{lt-ltb, le-ltb}
 use Rattle.format.specs.Format.{Book, byte, versionOf, bookOf}
 use Rattle.format.specs.Reading.{Outcome, refused, Verdict, pass, fail, andThen, verdict, outcome, checking}
-use Rattle.format.proofs.Accepted.{checked-verdict}
 use Rattle.format.proofs.Picks.{pick-holds, pick-first, pick-second}
-use Rattle.format.proofs.Refusals.{checking-pass}
 use Rattle.format.proofs.Trailer.{fail≢pass}
-use Rattle.format.proofs.Verdict.{verdict-promise}
+use Rattle.format.proofs.Verdict.{verdict-promise, promise-verdict}
 use Rattle.format.proofs.Views.{counts-count, counts-view}
 use Rattle.book.specs.Shown as book
 use Rattle.book.specs.Shown.{shownCheck}
+use Rattle.book.specs.View.{Viewed}
 use Rattle.book.specs.declared.Refusal.{Refusal}
 use Rattle.book.specs.declared.Checked.{Checked}
 use Rattle.book.specs.declared.Checked.the-variants.{Good, Refused}
+use Rattle.book.proofs.Answers.{check-viewed}
 use Rattle.book.proofs.Injective.{number-some}
 use Rattle.consistency.specs.Consistency.{places, codes}
 use Rattle.calls.specs.Calls.{Result, turned, faultOf, withBook, faultThen, onSheet}
@@ -37,19 +37,24 @@ outcome-fail pass counts k number place h e = absurd (omega (arith, ap (λ (o : 
 outcome-fail (fail number′ place′) counts k number place h e =
     ap₂ fail (ap (λ (o : Outcome). o .number) e) (ap (λ (o : Outcome). o .place) e)
 
+-- a view of a book finds its fields
+pub fields-at : {bytes : List ℕ} {list fields tables rows : ℕ} → Viewed bytes list fields tables rows → FieldsAt bytes list fields
+fields-at {bytes} v =
+    record { passes = promise-verdict bytes (v .numbers .promise); list-is = v .numbers .list-is; fields-is = v .numbers .fields-is }
+
 module _ (bytes : List ℕ) (r : Checked) (is : shownCheck r ≡ checking bytes) where
   -- it refuses the book
   pub checks-bad : (kind : Refusal) (place : ℕ) → r ≡ Refused kind place → fail (book.numberOf kind) place ≡ verdict bytes
   unfolding checking
   checks-bad kind place e = outcome-fail (verdict bytes) _ 4 _ place (number-some kind) (sym (ap shownCheck e) ∙ is)
 
-  -- it accepts the book
-  pub checks-good : (list fields tables rows : ℕ) → r ≡ Good list fields tables rows → FieldsAt bytes list fields
-  checks-good list fields tables rows e =
-      let shown = sym (ap shownCheck e) ∙ is in
-      let p : verdict bytes ≡ pass = checked-verdict bytes (sym (ap (λ (o : Outcome). o .number) shown)) in
-      let counts = ap (λ (o : Outcome). o .counts) (shown ∙ sym (checking-pass bytes (sym p))) in
-      record { passes = p; list-is = cc counts; fields-is = cc counts }
+  module _ (list fields tables rows : ℕ) (e : r ≡ Good list fields tables rows) where
+    -- it accepts the book: its numbers are those of a view
+    pub checks-viewed : Viewed bytes list fields tables rows
+    checks-viewed = check-viewed bytes list fields tables rows (sym (ap shownCheck e) ∙ is)
+
+    pub checks-good : FieldsAt bytes list fields
+    checks-good = fields-at checks-viewed
 
 -- ---- the fields of a book that passes, by places in its bytes
 
@@ -133,9 +138,14 @@ pub record IsOpen (bytes s : List ℕ) (list fields : ℕ) : Type 0 where
   pub at : FieldsAt bytes list fields
 
 module _ (bytes s : List ℕ) (r : Opened) (o : Opens bytes s r) where
-  -- it is ready: both pass
-  pub opens-ready : (list fields : ℕ) → r ≡ Ready list fields → IsOpen bytes s list fields
-  opens-ready list fields e = record { passes = sym (ap openingOf e) ∙ o .answers; at = subst (Finds bytes) e (o .finds) }
+  module _ (list fields tables rows : ℕ) (e : r ≡ Ready list fields tables rows) where
+    -- it is ready: the numbers are those of a view
+    pub opens-viewed : Viewed bytes list fields tables rows
+    opens-viewed = subst (Finds bytes) e (o .finds)
+
+    -- and both pass
+    pub opens-ready : IsOpen bytes s list fields
+    opens-ready = record { passes = sym (ap openingOf e) ∙ o .answers; at = fields-at opens-viewed }
 
   -- it is turned down: its reason is the first refusal
   pub opens-turned : (reason : Reason) (place : ℕ) → r ≡ Turned reason place → fail (numberOf reason) place ≡ opening bytes s

@@ -48,9 +48,11 @@ module _ (b : Book) (a : List ℕ) (f : ℕ) (l : f < length (b .counts)) (e : a
   cases-split =
       let r = split (answered a) f (length (b .counts)) l e in (
         map (relax a) (r .0),
-        ap (λ (fs : List ℕ). a ∷ map (relax a) fs) (r .1) ∙ ap (λ (cs : List (List ℕ)). a ∷ cs) (map-append (relax a) (those f (answered a)) (f ∷ r .0)),
+        ap (λ (fs : List ℕ). a ∷ map (relax a) fs) (r .1)
+            ∙ ap (λ (cs : List (List ℕ)). a ∷ cs) (map-append (relax a) (those f (answered a)) (f ∷ r .0)),
       )
 
+  -- as many cases stand before it as the number of its own says
   before : length (a ∷ map (relax a) (those f (answered a))) ≡ ownCase a f
   before = omega (arith, length-map (those f (answered a)) (relax a), length-those f (answered a))
 

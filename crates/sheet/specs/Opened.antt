@@ -6,6 +6,7 @@ use lib.Dec.{ltb}
 use Rattle.format.specs.Basics.{pick}
 use Rattle.format.specs.Format.{listPlace, fieldCount, bookOf}
 use Rattle.format.specs.Reading.{Verdict, pass, fail, andThen, verdict}
+use Rattle.book.specs.View.{Viewed}
 use Rattle.consistency.specs.Consistency.{places}
 use Rattle.calls.specs.Calls.{faultOf}
 use Rattle.sheet.specs.Shown.{numberOf}
@@ -22,7 +23,7 @@ opening bytes s = andThen (verdict bytes) (faultTest (faultOf (bookOf bytes) s))
 
 -- the code's answer as a verdict
 abbrev pub openingOf : Opened → Verdict
-openingOf (Ready list fields) = pass
+openingOf (Ready list fields tables rows) = pass
 openingOf (Turned reason place) = fail (numberOf reason) place
 
 -- the book of these bytes passes the reader's tests, and has its field list and its number of fields here
@@ -31,9 +32,9 @@ pub record FieldsAt (bytes : List ℕ) (list fields : ℕ) : Type 0 where
   pub list-is : list ≡ listPlace bytes
   pub fields-is : fields ≡ fieldCount bytes
 
--- and so it is where book and sheet pass
+-- where book and sheet pass, the numbers are those of a view of the book
 abbrev pub Finds : List ℕ → Opened → Type 0
-Finds bytes (Ready list fields) = FieldsAt bytes list fields
+Finds bytes (Ready list fields tables rows) = Viewed bytes list fields tables rows
 Finds bytes (Turned reason place) = Unit {0}
 
 -- what the code answers for a book and a sheet

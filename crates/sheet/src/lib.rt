@@ -116,7 +116,12 @@ impl Sheet {
         let opened = opened::open(book, places);
         match opened {
             Opened::Turned(reason, place) => refuse(self, reason, place),
-            Opened::Ready { list, fields } => {
+            Opened::Ready {
+                list,
+                fields,
+                tables: _,
+                rows: _,
+            } => {
                 let f = field as usize;
                 if fields <= f {
                     return refuse(self, Reason::Field, 0);
@@ -142,7 +147,12 @@ impl Sheet {
         let opened = opened::open(book, places);
         match opened {
             Opened::Turned(reason, place) => refuse(self, reason, place),
-            Opened::Ready { list: _, fields } => {
+            Opened::Ready {
+                list: _,
+                fields,
+                tables: _,
+                rows: _,
+            } => {
                 let f = field as usize;
                 if fields <= f {
                     return refuse(self, Reason::Field, 0);
@@ -168,9 +178,14 @@ impl Sheet {
         let opened = opened::open(book, places);
         match opened {
             Opened::Turned(reason, place) => refuse(self, reason, place),
-            Opened::Ready { list: _, fields } => {
+            Opened::Ready {
+                list,
+                fields,
+                tables,
+                rows,
+            } => {
                 if relaxed == 255 {
-                    return masks::write_masks(self, book, places, fields, out);
+                    return masks::write_masks(self, book, list, fields, tables, rows, places, out);
                 }
                 let f = relaxed as usize;
                 if fields <= f {
@@ -181,7 +196,7 @@ impl Sheet {
                 }
                 let mut answers = places;
                 answers[f] = 255;
-                masks::write_masks(self, book, answers, fields, out)
+                masks::write_masks(self, book, list, fields, tables, rows, answers, out)
             }
         }
     }
@@ -194,9 +209,22 @@ impl Sheet {
         let opened = opened::open(book, places);
         match opened {
             Opened::Turned(reason, place) => refuse_list(self, reason, place),
-            Opened::Ready { list, fields } => {
+            Opened::Ready {
+                list,
+                fields,
+                tables,
+                rows,
+            } => {
                 let mut marks = [0u64; 1024];
-                let struck = filter::one_pass(book, &places, &mut marks);
+                let struck = filter::one_pass(
+                    book,
+                    list,
+                    fields,
+                    tables,
+                    rows,
+                    &places,
+                    &mut marks,
+                );
                 let total = lists::count_lines(book, places, &marks, list, fields);
                 let needed = 2 * total;
                 if out.len() < needed {
@@ -222,7 +250,12 @@ impl Sheet {
         let opened = opened::open(book, places);
         match opened {
             Opened::Turned(reason, place) => refuse(self, reason, place),
-            Opened::Ready { list: _, fields } => {
+            Opened::Ready {
+                list: _,
+                fields,
+                tables: _,
+                rows: _,
+            } => {
                 if out.len() < fields {
                     return refuse(self, Reason::Room, 0);
                 }

@@ -3,9 +3,9 @@ ghost use mathlib.Core.Path.{_≡_};
 ghost use mathlib.Core.List.{_++_};
 ghost use Prim.Native.Nat.{_≤_};
 ghost use lib.ListN.{length, take, drop};
-ghost use Rattle.format.specs.Format.{listPlace, bookOf};
+ghost use Rattle.format.specs.Format.{bookOf};
+ghost use Rattle.book.specs.View.{Viewed};
 ghost use Rattle.calls.specs.Calls.{masksInto};
-ghost use Rattle.sheet.specs.Opened.{FieldsAt};
 ghost use Rattle.sheet.specs.Shown.{resultOf};
 use super::Answer;
 use super::Handed;
@@ -29,17 +29,20 @@ fn copy_numbers(from: [u32; 32], n: usize, out: &mut [u32])
 pub(crate) fn write_masks(
     sheet: Sheet,
     book: &[u8],
-    answers: [u8; 32],
+    list: usize,
     fields: usize,
+    tables: usize,
+    rows: usize,
+    answers: [u8; 32],
     out: &mut [u32],
 ) -> Handed
-    requires { ⌜ FieldsAt (now book) (listPlace (now book)) fields ⌝ }
+    requires { ⌜ Viewed (now book) list fields tables rows ⌝ }
     ensures { λ r. ⌜ resultOf r (now (out .exit)) ≡ masksInto (bookOf (now (book .entry))) (sheet .places) answers (now (out .entry)) ⌝ }
 {
     if out.len() < fields {
         return refuse(sheet, Reason::Room, 0);
     }
-    let numbers = filter::plain(book, &answers);
+    let numbers = filter::plain(book, list, fields, tables, rows, &answers);
     copy_numbers(numbers, fields, out);
     Handed {
         answer: Answer::Done,

@@ -12,9 +12,14 @@ use book::Checked;
 // The number of places of a sheet.
 pub(crate) const PLACES: usize = 32;
 
-// A book and a sheet that pass, with the place of the field list and the number of fields; or the first refusal and its place.
+// A book and a sheet that pass, with the numbers of a view of the book; or the first refusal and its place.
 pub(crate) enum Opened {
-    Ready { list: usize, fields: usize },
+    Ready {
+        list: usize,
+        fields: usize,
+        tables: usize,
+        rows: usize,
+    },
     Turned(Reason, usize),
 }
 
@@ -57,8 +62,8 @@ pub(crate) fn open(book: &[u8], places: [u8; 32]) -> Opened
         Checked::Good {
             list,
             fields,
-            tables: _,
-            rows: _,
+            tables,
+            rows,
         } => {
             let fault = first_fault(book, list, fields, places);
             if fault < PLACES {
@@ -67,6 +72,8 @@ pub(crate) fn open(book: &[u8], places: [u8; 32]) -> Opened
             Opened::Ready {
                 list: list,
                 fields: fields,
+                tables: tables,
+                rows: rows,
             }
         }
     }

@@ -1,87 +1,63 @@
 -- `desk::main` is safe: the text that report wrote stands within the buffer. Assumes nothing.
 use Rattle.report.proofs.Printing.{written-counts}
 use borrow.Author.Needs.{needs}
-use native.Mathlib.Omega.{arith}
 use Rattle.desk.proofs.main.Statement.{statement}
 use Rattle.desk.proofs.main.Tie as tie
-use Rattle.desk.proofs.main.Reads as reads
-use Rattle.desk.proofs.main.Lts as lts
-use Rattle.desk.proofs.read_file.Reads as read-file-reads
-use Rattle.io.proofs.write_all.Reads as write-all-reads
-use Rattle.report.proofs.report.Reads as report-reads
 
--- src/main.rt:32:33
 slice-aggregate-read-file : tie.Need-slice-aggregate-read-file
 slice-aggregate-read-file c = search needs
 
--- src/main.rt:32:46
 slice-aggregate-read-file-2 : tie.Need-slice-aggregate-read-file-2
 slice-aggregate-read-file-2 c = search needs
 
--- src/main.rt:32:9
 read-file-requires : tie.Need-read-file-requires
 read-file-requires c κs = search needs
 
--- src/main.rt:33:33
 slice-aggregate-read-file-3 : tie.Need-slice-aggregate-read-file-3
 slice-aggregate-read-file-3 c = search needs
 
--- src/main.rt:33:47
 slice-aggregate-read-file-4 : tie.Need-slice-aggregate-read-file-4
 slice-aggregate-read-file-4 c = search needs
 
--- src/main.rt:33:9
 read-file-requires-2 : tie.Need-read-file-requires-2
 read-file-requires-2 c κs = search needs
 
--- src/main.rt:34:34
 array-share-prefix-book : tie.Need-array-share-prefix-book
 array-share-prefix-book c = search needs
 
--- src/main.rt:34:34
 slice-aggregate-report : tie.Need-slice-aggregate-report
 slice-aggregate-report c = search needs
 
--- src/main.rt:34:56
 array-share-prefix-form : tie.Need-array-share-prefix-form
 array-share-prefix-form c = search needs
 
--- src/main.rt:34:56
 slice-aggregate-report-2 : tie.Need-slice-aggregate-report-2
 slice-aggregate-report-2 c = search needs
 
--- src/main.rt:34:78
 slice-aggregate-report-3 : tie.Need-slice-aggregate-report-3
 slice-aggregate-report-3 c = search needs
 
--- src/main.rt:34:9
 report-requires : tie.Need-report-requires
 report-requires c κs = search needs
 
--- src/main.rt:35:29
 enum-known-printed : tie.Need-enum-known-printed
 enum-known-printed c = search needs
 
--- src/main.rt:36:38
 array-share-prefix-text : tie.Need-array-share-prefix-text
 array-share-prefix-text c = written-counts _ _ _ _ _ (c .before .printed .given .1) (c .before .before .before .before .report .ensures) .0
 
--- src/main.rt:36:38
 slice-aggregate-write-all : tie.Need-slice-aggregate-write-all
 slice-aggregate-write-all c = written-counts _ _ _ _ _ (c .before .before .printed .given .1) (c .before .before .before .before .before .report .ensures) .1
 
--- src/main.rt:36:9
 write-all-requires : tie.Need-write-all-requires
 write-all-requires c κs = search needs
 
 enum-told : tie.Need-enum-told
 enum-told c = search needs
 
--- src/main.rt:28:1
 returns : tie.Need-returns
 returns c = search needs
 
--- src/main.rt:28:1
 returns-2 : tie.Need-returns-2
 returns-2 c = search needs
 

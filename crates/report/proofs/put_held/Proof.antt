@@ -3,70 +3,51 @@ use mathlib.Core.Path.{_≡_}
 use lib.ListN.{length}
 use Rattle.report.proofs.HeldTexts.{lists-accept, lists-fit, part-room, part-puts}
 use borrow.Author.Needs.{needs}
-use native.Mathlib.Omega.{arith}
 use Rattle.report.proofs.put_held.Statement.{statement}
 use Rattle.report.proofs.put_held.Tie as tie
-use Rattle.report.proofs.put_held.Reads as reads
-use Rattle.report.proofs.put_held.Lts as lts
-use Rattle.report.proofs.parts.put_sheet.Reads as put-sheet-reads
-use Rattle.sheet.proofs.Sheet.alternatives.Reads as alternatives-reads
-use Rattle.sheet.proofs.Sheet.filtered.Reads as filtered-reads
 
--- src/lib.rt:42:42
 slice-aggregate-alternatives : tie.Need-slice-aggregate-alternatives
 slice-aggregate-alternatives c = search needs
 
--- src/lib.rt:42:9
 alternatives-requires : tie.Need-alternatives-requires
 alternatives-requires c κs = search needs
 
--- src/lib.rt:43:39
 slice-aggregate-filtered : tie.Need-slice-aggregate-filtered
 slice-aggregate-filtered c = search needs
 
--- src/lib.rt:43:5
 filtered-requires : tie.Need-filtered-requires
 filtered-requires c κs = search needs
 
--- src/lib.rt:48:36
 enum-told : tie.Need-enum-told
 enum-told c = search needs
 
--- src/lib.rt:49:27
 enum-known-listing : tie.Need-enum-known-listing
 enum-known-listing c = search needs
 
--- src/lib.rt:49:72
 slice-aggregate-put-sheet : tie.Need-slice-aggregate-put-sheet
 slice-aggregate-put-sheet c = search needs
 
--- src/lib.rt:49:89
 slice-aggregate-put-sheet-2 : tie.Need-slice-aggregate-put-sheet-2
 slice-aggregate-put-sheet-2 c = search needs
 
--- src/lib.rt:49:104
 cast-put-sheet : tie.Need-cast-put-sheet
 cast-put-sheet c = search needs
 
--- src/lib.rt:49:121
 slice-aggregate-put-sheet-3 : tie.Need-slice-aggregate-put-sheet-3
 slice-aggregate-put-sheet-3 c = search needs
 
--- src/lib.rt:49:46
 put-sheet-requires : tie.Need-put-sheet-requires
-put-sheet-requires c κs = let long : length (c .before .before .before .before .before .before .before .before .before .before .before .before .before .before .before .before .args .held .places) ≡ 32 = search needs in
-    (lists-fit _ _ _ (c .before .before .before .before .before .before .before .before .before .before .before .before .before .before .before .before .pre .0) (c .before .before .before .before .before .before .before .before .before .before .before .before .alternatives .result) _ (c .before .before .before .before .before .before .before .before .before .before .before .before .alternatives .ensures) _ _ (c .before .before .before .before .before .listing .given .1) (c .before .before .before .before .before .before .before .before .before .filtered .result) _ (c .before .before .before .before .before .before .before .before .before .filtered .ensures) long,
-    part-room _ _ _ (c .before .before .before .before .before .before .before .before .before .before .before .before .before .before .before .before .pre .0) (c .before .before .before .before .before .before .before .before .before .before .before .before .alternatives .result) _ (c .before .before .before .before .before .before .before .before .before .before .before .before .alternatives .ensures) _ _ (c .before .before .before .before .before .listing .given .1) (c .before .before .before .before .before .before .before .before .before .filtered .result) _ (c .before .before .before .before .before .before .before .before .before .filtered .ensures) (c .before .before .before .before .before .before .before .before .before .before .before .before .before .before .before .before .args .out .now) _ (c .before .before .before .before .before .before .before .before .before .before .before .before .before .before .before .before .pre .1))
+put-sheet-requires c κs = let long : length (c .before .before .before .before .before .before .before .before .before .before .before .before .before .before .before .before .args .held .places) ≡ 32 = search needs in (
+  lists-fit _ _ _ (c .before .before .before .before .before .before .before .before .before .before .before .before .before .before .before .before .pre .0) (c .before .before .before .before .before .before .before .before .before .before .before .before .alternatives .result) _ (c .before .before .before .before .before .before .before .before .before .before .before .before .alternatives .ensures) _ _ (c .before .before .before .before .before .listing .given .1) (c .before .before .before .before .before .before .before .before .before .filtered .result) _ (c .before .before .before .before .before .before .before .before .before .filtered .ensures) long,
+  part-room _ _ _ (c .before .before .before .before .before .before .before .before .before .before .before .before .before .before .before .before .pre .0) (c .before .before .before .before .before .before .before .before .before .before .before .before .alternatives .result) _ (c .before .before .before .before .before .before .before .before .before .before .before .before .alternatives .ensures) _ _ (c .before .before .before .before .before .listing .given .1) (c .before .before .before .before .before .before .before .before .before .filtered .result) _ (c .before .before .before .before .before .before .before .before .before .filtered .ensures) (c .before .before .before .before .before .before .before .before .before .before .before .before .before .before .before .before .args .out .now) _ (c .before .before .before .before .before .before .before .before .before .before .before .before .before .before .before .before .pre .1),
+)
 
--- src/lib.rt:36:1
 returns : tie.Need-returns
 returns c = absurd (lists-accept _ _ _ (c .before .before .before .before .before .before .before .before .before .before .before .pre .0) (c .before .before .before .before .before .before .before .alternatives .result) _ (c .before .before .before .before .before .before .before .alternatives .ensures) _ _ (c .enum-told .given .1))
 
--- src/lib.rt:36:1
 same-length : tie.Need-same-length
 same-length c = search needs
 
--- src/lib.rt:36:1
 returns-2 : tie.Need-returns-2
 returns-2 c = part-puts _ _ _ (c .before .before .before .before .before .before .before .before .before .before .before .before .before .before .before .before .before .before .before .pre .0) (c .before .before .before .before .before .before .before .before .before .before .before .before .before .before .before .alternatives .result) _ (c .before .before .before .before .before .before .before .before .before .before .before .before .before .before .before .alternatives .ensures) _ _ (c .before .before .before .before .before .before .before .before .listing .given .1) (c .before .before .before .before .before .before .before .before .before .before .before .before .filtered .result) _ (c .before .before .before .before .before .before .before .before .before .before .before .before .filtered .ensures) _ _ (c .before .before .put-sheet .ensures)
 

@@ -1,89 +1,63 @@
 -- `report::put_text` meets its contract: the book refused, the sheet refused, or both accepted. Assumes nothing.
 use Rattle.report.proofs.Texts.{read-text, load-text, refused-room, refused-puts, held-stands, book-room, held-room, accepted-puts}
 use borrow.Author.Needs.{needs}
-use native.Mathlib.Omega.{arith}
 use Rattle.report.proofs.put_text.Statement.{statement}
 use Rattle.report.proofs.put_text.Tie as tie
-use Rattle.report.proofs.put_text.Reads as reads
-use Rattle.report.proofs.put_text.Lts as lts
-use Rattle.book.proofs.number.Reads as number-reads
-use Rattle.book.proofs.read.Reads as read-reads
-use Rattle.report.proofs.parts.put_book.Reads as put-book-reads
-use Rattle.report.proofs.parts.put_refused.Reads as put-refused-reads
-use Rattle.report.proofs.put_held.Reads as put-held-reads
-use Rattle.sheet.proofs.load.Reads as load-reads
-use Rattle.sheet.proofs.number.Reads as number-reads′
 
--- src/lib.rt:58:9
 read-requires : tie.Need-read-requires
 read-requires c κs = search needs
 
--- src/lib.rt:60:26
 enum-known-reading : tie.Need-enum-known-reading
 enum-known-reading c = search needs
 
--- src/lib.rt:60:66
 number-requires : tie.Need-number-requires
 number-requires c κs = search needs
 
--- src/lib.rt:60:42
 put-refused-requires : tie.Need-put-refused-requires
 put-refused-requires c κs = refused-room (c .before .before .before .before .before .before .before .before .before .args .book .now) (c .before .before .before .before .before .before .before .before .before .args .form .now) (c .before .before .before .before .before .before .before .before .before .args .out .now) _ _ (read-text (c .before .before .before .before .before .before .before .before .before .args .book .now) (c .before .before .before .before .before .before .before .before .before .args .form .now) _ _ _ _ (c .before .before .before .reading .given .1) (c .number .ensures) (c .before .before .before .before .before .read .ensures)) (c .before .before .before .before .before .before .before .before .before .pre)
 
--- src/lib.rt:62:13
 enum-known-reading-2 : tie.Need-enum-known-reading-2
 enum-known-reading-2 c = search needs
 
--- src/lib.rt:67:17
 load-requires : tie.Need-load-requires
 load-requires c κs = search needs
 
--- src/lib.rt:71:33
 enum-known-answer : tie.Need-enum-known-answer
 enum-known-answer c = search needs
 
--- src/lib.rt:71:75
 number-requires-2 : tie.Need-number-requires-2
 number-requires-2 c κs = search needs
 
--- src/lib.rt:71:51
 put-refused-requires-2 : tie.Need-put-refused-requires-2
 put-refused-requires-2 c κs = refused-room (c .before .before .before .before .before .before .before .before .before .before .before .before .before .before .args .book .now) (c .before .before .before .before .before .before .before .before .before .before .before .before .before .before .args .form .now) (c .before .before .before .before .before .before .before .before .before .before .before .before .before .before .args .out .now) _ _ (load-text (c .before .before .before .before .before .before .before .before .before .before .before .before .before .before .args .book .now) (c .before .before .before .before .before .before .before .before .before .before .before .before .before .before .args .form .now) (c .before .before .before .before .before .before .load .result) _ _ _ (c .before .before .before .answer .given .1) (c .number2 .ensures) (c .before .before .before .before .before .before .load .ensures)) (c .before .before .before .before .before .before .before .before .before .before .before .before .before .before .pre)
 
--- src/lib.rt:73:46
 enum-told : tie.Need-enum-told
 enum-told c = search needs
 
--- src/lib.rt:73:25
 put-book-requires : tie.Need-put-book-requires
 put-book-requires c κs = book-room (c .before .before .before .before .before .before .before .before .before .before .before .before .args .book .now) (c .before .before .before .before .before .before .before .before .before .before .before .before .args .form .now) _ (c .before .before .before .before .before .before .before .before .read .ensures) (c .before .before .before .before .load .result) (c .before .before .before .before .load .ensures) _ _ _ _ (c .before .before .before .before .before .before .reading2 .given .1) (c .before .enum-told .given .1) (c .before .before .before .before .before .before .before .before .before .before .before .before .args .out .now) (c .before .before .before .before .before .before .before .before .before .before .before .before .pre)
 
--- src/lib.rt:74:21
 put-held-requires : tie.Need-put-held-requires
-put-held-requires c κs = (held-stands (c .before .before .before .before .before .before .before .before .before .before .before .before .before .before .before .before .args .book .now) (c .before .before .before .before .before .before .before .before .before .before .before .before .before .before .before .before .args .form .now) _ (c .before .before .before .before .before .before .before .before .before .before .before .before .read .ensures) (c .before .before .before .before .before .before .before .before .load .result) (c .before .before .before .before .before .before .before .before .load .ensures) _ _ _ _ (c .before .before .before .before .before .before .before .before .before .before .reading2 .given .1) (c .before .before .before .before .before .enum-told .given .1),
-    held-room (c .before .before .before .before .before .before .before .before .before .before .before .before .before .before .before .before .args .book .now) (c .before .before .before .before .before .before .before .before .before .before .before .before .before .before .before .before .args .form .now) _ (c .before .before .before .before .before .before .before .before .before .before .before .before .read .ensures) (c .before .before .before .before .before .before .before .before .load .result) (c .before .before .before .before .before .before .before .before .load .ensures) _ _ _ _ (c .before .before .before .before .before .before .before .before .before .before .reading2 .given .1) (c .before .before .before .before .before .enum-told .given .1) (c .before .before .before .before .before .before .before .before .before .before .before .before .before .before .before .before .args .out .now) (c .before .before .before .before .before .before .before .before .before .before .before .before .before .before .before .before .pre) (c .before .before .before .put-book .ensures))
+put-held-requires c κs = (
+  held-stands (c .before .before .before .before .before .before .before .before .before .before .before .before .before .before .before .before .args .book .now) (c .before .before .before .before .before .before .before .before .before .before .before .before .before .before .before .before .args .form .now) _ (c .before .before .before .before .before .before .before .before .before .before .before .before .read .ensures) (c .before .before .before .before .before .before .before .before .load .result) (c .before .before .before .before .before .before .before .before .load .ensures) _ _ _ _ (c .before .before .before .before .before .before .before .before .before .before .reading2 .given .1) (c .before .before .before .before .before .enum-told .given .1),
+  held-room (c .before .before .before .before .before .before .before .before .before .before .before .before .before .before .before .before .args .book .now) (c .before .before .before .before .before .before .before .before .before .before .before .before .before .before .before .before .args .form .now) _ (c .before .before .before .before .before .before .before .before .before .before .before .before .read .ensures) (c .before .before .before .before .before .before .before .before .load .result) (c .before .before .before .before .before .before .before .before .load .ensures) _ _ _ _ (c .before .before .before .before .before .before .before .before .before .before .reading2 .given .1) (c .before .before .before .before .before .enum-told .given .1) (c .before .before .before .before .before .before .before .before .before .before .before .before .before .before .before .before .args .out .now) (c .before .before .before .before .before .before .before .before .before .before .before .before .before .before .before .before .pre) (c .before .before .before .put-book .ensures),
+)
 
--- src/lib.rt:54:1
 same-length : tie.Need-same-length
 same-length c = search needs
 
--- src/lib.rt:54:1
 returns : tie.Need-returns
 returns c = refused-puts (c .before .before .before .before .before .before .before .before .before .before .before .before .args .book .now) (c .before .before .before .before .before .before .before .before .before .before .before .before .args .form .now) (c .before .before .before .before .before .before .before .before .before .before .before .before .args .out .now) _ _ (read-text (c .before .before .before .before .before .before .before .before .before .before .before .before .args .book .now) (c .before .before .before .before .before .before .before .before .before .before .before .before .args .form .now) _ _ _ _ (c .before .before .before .before .before .before .reading .given .1) (c .before .before .before .number .ensures) (c .before .before .before .before .before .before .before .before .read .ensures)) (c .before .before .put-refused .ensures)
 
--- src/lib.rt:54:1
 same-length-2 : tie.Need-same-length-2
 same-length-2 c = search needs
 
--- src/lib.rt:54:1
 returns-2 : tie.Need-returns-2
 returns-2 c = refused-puts (c .before .before .before .before .before .before .before .before .before .before .before .before .before .before .before .before .before .args .book .now) (c .before .before .before .before .before .before .before .before .before .before .before .before .before .before .before .before .before .args .form .now) (c .before .before .before .before .before .before .before .before .before .before .before .before .before .before .before .before .before .args .out .now) _ _ (load-text (c .before .before .before .before .before .before .before .before .before .before .before .before .before .before .before .before .before .args .book .now) (c .before .before .before .before .before .before .before .before .before .before .before .before .before .before .before .before .before .args .form .now) (c .before .before .before .before .before .before .before .before .before .load .result) _ _ _ (c .before .before .before .before .before .before .answer .given .1) (c .before .before .before .number2 .ensures) (c .before .before .before .before .before .before .before .before .before .load .ensures)) (c .before .before .put-refused2 .ensures)
 
--- src/lib.rt:54:1
 same-length-3 : tie.Need-same-length-3
 same-length-3 c = search needs
 
--- src/lib.rt:54:1
 returns-3 : tie.Need-returns-3
 returns-3 c = accepted-puts (c .before .before .before .before .before .before .before .before .before .before .before .before .before .before .before .before .before .before .before .args .book .now) (c .before .before .before .before .before .before .before .before .before .before .before .before .before .before .before .before .before .before .before .args .form .now) _ (c .before .before .before .before .before .before .before .before .before .before .before .before .before .before .before .read .ensures) (c .before .before .before .before .before .before .before .before .before .before .before .load .result) (c .before .before .before .before .before .before .before .before .before .before .before .load .ensures) _ _ _ _ (c .before .before .before .before .before .before .before .before .before .before .before .before .before .reading2 .given .1) (c .before .before .before .before .before .before .before .before .enum-told .given .1) (c .before .before .before .before .before .before .before .before .before .before .before .before .before .before .before .before .before .before .before .args .out .now) (c .before .before .before .before .before .before .before .before .before .before .before .before .before .before .before .before .before .before .before .pre) (c .before .before .before .before .before .before .put-book .ensures) (c .before .before .put-held .ensures)
 

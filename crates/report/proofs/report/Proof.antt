@@ -7,40 +7,28 @@ use borrow.Author.Needs.{needs}
 use native.Mathlib.Omega.{arith}
 use Rattle.report.proofs.report.Statement.{statement}
 use Rattle.report.proofs.report.Tie as tie
-use Rattle.report.proofs.report.Reads as reads
-use Rattle.report.proofs.report.Lts as lts
-use Rattle.report.proofs.put_text.Reads as put-text-reads
-use Rattle.report.proofs.writers.put_word.Reads as put-word-reads
 
--- src/lib.rt:86:27
 slice-aggregate-put-text : tie.Need-slice-aggregate-put-text
 slice-aggregate-put-text c = search needs
 
--- src/lib.rt:86:9
 put-text-requires : tie.Need-put-text-requires
 put-text-requires c κs = search needs
 
--- src/lib.rt:88:9
 returns : tie.Need-returns
 returns c = too-short _ _ _ _ (c .before .before .put-text .ensures) _ (c .if1 .taken)
 
--- src/lib.rt:90:31
 array-share-prefix-text : tie.Need-array-share-prefix-text
 array-share-prefix-text c = omega (arith, text-fits (c .before .before .before .before .before .before .before .before .args .book .now) (c .before .before .before .before .before .before .before .before .args .form .now), c .before .before .before .put-text .ensures .behind)
 
--- src/lib.rt:90:31
 slice-aggregate-put-word : tie.Need-slice-aggregate-put-word
 slice-aggregate-put-word c = composed-length _ _ _ _ (c .before .before .before .before .put-text .ensures) (omega (arith, text-fits (c .before .before .before .before .before .before .before .before .before .args .book .now) (c .before .before .before .before .before .before .before .before .before .args .form .now), length-replicate {A = ℕ} 11305 0))
 
--- src/lib.rt:90:5
 put-word-requires : tie.Need-put-word-requires
 put-word-requires c κs = omega (arith, composed-length _ _ _ _ (c .before .before .before .before .put-text .ensures) (omega (arith, text-fits (c .before .before .before .before .before .before .before .before .before .args .book .now) (c .before .before .before .before .before .before .before .before .before .args .form .now), length-replicate {A = ℕ} 11305 0)), c .before .before .if1 .left)
 
--- src/lib.rt:82:1
 same-length : tie.Need-same-length
 same-length c = search needs
 
--- src/lib.rt:82:1
 returns-2 : tie.Need-returns-2
 returns-2 c = copied _ _ _ _ (c .before .before .before .before .before .before .before .put-text .ensures) (omega (arith, text-fits (c .before .before .before .before .before .before .before .before .before .before .before .before .args .book .now) (c .before .before .before .before .before .before .before .before .before .before .before .before .args .form .now), length-replicate {A = ℕ} 11305 0)) _ _ _ (c .before .before .before .before .before .if1 .left) (c .before .before .put-word .ensures)
 

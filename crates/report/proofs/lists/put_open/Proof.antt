@@ -9,9 +9,6 @@ use borrow.Author.Needs.{needs}
 use native.Mathlib.Omega.{arith}
 use Rattle.report.proofs.lists.put_open.Statement.{statement}
 use Rattle.report.proofs.lists.put_open.Tie as tie
-use Rattle.report.proofs.lists.put_open.Reads as reads
-use Rattle.report.proofs.lists.put_open.Lts as lts
-use Rattle.report.proofs.lists.put_masked.Reads as put-masked-reads
 
 abbrev Inv-loop : tie.InvT-loop
 Inv-loop out₀ at word masks places fields place₀ field₀ out place field = (field ≤ fields) × Puts out₀ at (linesText word (openIn masks places field)) out place
@@ -19,55 +16,42 @@ Inv-loop out₀ at word masks places fields place₀ field₀ out place field = 
 abbrev μ-loop : tie.MeasureT-loop
 μ-loop out₀ at word masks places fields place₀ field₀ out place field = fields - field
 
--- src/lists.rt:63:5
 loop-holds : tie.Need-loop-holds Inv-loop μ-loop
 loop-holds c = (search needs, puts-none _ _)
 
--- src/lists.rt:64:12
 shared-slice-read-if1 : tie.Need-shared-slice-read-if1 Inv-loop μ-loop
 shared-slice-read-if1 c = search needs
 
--- src/lists.rt:65:57
 mul-put-masked : tie.Need-mul-put-masked Inv-loop μ-loop
 mul-put-masked c = search needs
 
--- src/lists.rt:65:57
 shared-slice-read-put-masked : tie.Need-shared-slice-read-put-masked Inv-loop μ-loop
 shared-slice-read-put-masked c = search needs
 
--- src/lists.rt:65:13
 put-masked-requires : tie.Need-put-masked-requires Inv-loop μ-loop
 put-masked-requires c κs = field-room (c .before .before .before .before .before .before .before .before .before .before .args .word .now) (c .before .before .before .before .before .before .before .before .before .before .args .masks .now) (c .before .before .before .before .before .before .before .before .before .before .args .places .now) _ (c .before .before .before .before .before .loop .inv .1) (omega arith) (c .before .before .if1 .taken) _ (c .before .before .before .before .loop-test .taken) (c .before .before .before .before .before .before .before .before .before .before .pre .1 .1)
 
--- src/lists.rt:66:13
 add-field : tie.Need-add-field Inv-loop μ-loop
 add-field c = search needs
 
--- src/lists.rt:63:5
 loop-less : tie.Need-loop-less Inv-loop μ-loop
 loop-less c = search needs
 
--- src/lists.rt:63:5
 loop-again : tie.Need-loop-again Inv-loop μ-loop
 loop-again c = (search needs, field-on (c .before .before .before .before .before .before .before .before .before .before .before .before .before .args .word .now) (c .before .before .before .before .before .before .before .before .before .before .before .before .before .args .masks .now) (c .before .before .before .before .before .before .before .before .before .before .before .before .before .args .places .now) _ (c .before .before .before .before .before .before .before .before .loop .inv .1) (omega arith) (c .before .before .before .before .before .if1 .taken) (c .before .before .put-masked .ensures))
 
--- src/lists.rt:68:13
 add-field-2 : tie.Need-add-field-2 Inv-loop μ-loop
 add-field-2 c = search needs
 
--- src/lists.rt:63:5
 loop-less-2 : tie.Need-loop-less-2 Inv-loop μ-loop
 loop-less-2 c = search needs
 
--- src/lists.rt:63:5
 loop-again-2 : tie.Need-loop-again-2 Inv-loop μ-loop
 loop-again-2 c = (search needs, field-none (c .before .before .before .before .before .before .before .before .args .word .now) (c .before .before .before .before .before .before .before .before .args .masks .now) (c .before .before .before .before .before .before .before .before .args .places .now) _ (c .before .before .before .loop .inv .1) (omega arith) (c .if1 .left))
 
--- src/lists.rt:57:1
 same-length : tie.Need-same-length Inv-loop μ-loop
 same-length c = puts-length (c .before .loop .inv .1)
 
--- src/lists.rt:57:1
 returns : tie.Need-returns Inv-loop μ-loop
 returns c = all-pieces (λ f. linesText (c .before .before .before .before .before .before .args .word .now) (openIn (c .before .before .before .before .before .before .args .masks .now) (c .before .before .before .before .before .before .args .places .now) f)) _ _ (c .before .loop .inv .0) (c .loop-test .left) (c .before .loop .inv .1)
 

@@ -10,9 +10,6 @@ use borrow.Author.Needs.{needs}
 use native.Mathlib.Omega.{arith}
 use Rattle.report.proofs.lists.put_pairs.Statement.{statement}
 use Rattle.report.proofs.lists.put_pairs.Tie as tie
-use Rattle.report.proofs.lists.put_pairs.Reads as reads
-use Rattle.report.proofs.lists.put_pairs.Lts as lts
-use Rattle.report.proofs.lists.put_two.Reads as put-two-reads
 
 abbrev Inv-loop : tie.InvT-loop
 Inv-loop out₀ at word pairs count place₀ i₀ out place i = (i ≤ count) × Puts out₀ at (linesText word (pairLines pairs i)) out place
@@ -20,60 +17,46 @@ Inv-loop out₀ at word pairs count place₀ i₀ out place i = (i ≤ count) ×
 abbrev μ-loop : tie.MeasureT-loop
 μ-loop out₀ at word pairs count place₀ i₀ out place i = count - i
 
--- src/lists.rt:29:5
 loop-holds : tie.Need-loop-holds Inv-loop μ-loop
 unfolding tabulate
 loop-holds c = (search needs, puts-none _ _)
 
--- src/lists.rt:30:27
 mul-field : tie.Need-mul-field Inv-loop μ-loop
 mul-field c = search needs
 
--- src/lists.rt:30:21
 shared-slice-read-field : tie.Need-shared-slice-read-field Inv-loop μ-loop
 shared-slice-read-field c = search needs
 
--- src/lists.rt:30:21
 cast-field : tie.Need-cast-field Inv-loop μ-loop
 cast-field c = omega (arith, c .shared-slice-known3 .given (2 * c .before .before .loop .i))
 
--- src/lists.rt:31:26
 mul-code : tie.Need-mul-code Inv-loop μ-loop
 mul-code c = search needs
 
--- src/lists.rt:31:26
 add-code : tie.Need-add-code Inv-loop μ-loop
 add-code c = search needs
 
--- src/lists.rt:31:20
 shared-slice-read-code : tie.Need-shared-slice-read-code Inv-loop μ-loop
 shared-slice-read-code c = search needs
 
--- src/lists.rt:31:20
 cast-code : tie.Need-cast-code Inv-loop μ-loop
 cast-code c = omega (arith, c .shared-slice-known4 .given (2 * c .before .before .before .loop .i + 1))
 
--- src/lists.rt:32:9
 put-two-requires : tie.Need-put-two-requires Inv-loop μ-loop
 put-two-requires c κs = pair-room (c .before .before .before .before .before .before .before .before .args .word .now) (c .before .before .before .before .before .before .before .before .args .pairs .now) _ (c .before .before .before .before .loop .inv .1) _ (c .before .before .before .loop-test .taken) (c .before .before .before .before .before .before .before .before .pre .1)
 
--- src/lists.rt:33:9
 add-i : tie.Need-add-i Inv-loop μ-loop
 add-i c = search needs
 
--- src/lists.rt:29:5
 loop-less : tie.Need-loop-less Inv-loop μ-loop
 loop-less c = search needs
 
--- src/lists.rt:29:5
 loop-again : tie.Need-loop-again Inv-loop μ-loop
 loop-again c = (search needs, pair-on (c .before .before .before .before .before .before .before .before .before .before .before .args .word .now) (c .before .before .before .before .before .before .before .before .before .before .before .args .pairs .now) _ (c .before .before .before .before .before .before .before .loop .inv .1) (c .before .before .put-two .ensures))
 
--- src/lists.rt:23:1
 same-length : tie.Need-same-length Inv-loop μ-loop
 same-length c = puts-length (c .before .loop .inv .1)
 
--- src/lists.rt:23:1
 returns : tie.Need-returns Inv-loop μ-loop
 returns c = all-pieces (λ i. linesText (c .before .before .before .before .before .args .word .now) (pairLines (c .before .before .before .before .before .args .pairs .now) i)) _ _ (c .before .loop .inv .0) (c .loop-test .left) (c .before .loop .inv .1)
 

@@ -1,6 +1,6 @@
 -- `report::parts::count_answered` meets its contract. The loop's invariant: the answered fields below this one are counted. Assumes nothing.
 use Prim.Native.Nat.{_≤_, _-_}
-use mathlib.Core.Path.{_≡_, refl, ap, _∙_}
+use mathlib.Core.Path.{_≡_, refl}
 use Rattle.consistency.specs.Counting.{howMany}
 use Rattle.consistency.specs.Counts.{answered}
 use Rattle.report.proofs.Places.{count-same, count-more, count-end}
@@ -8,8 +8,6 @@ use borrow.Author.Needs.{needs}
 use native.Mathlib.Omega.{arith}
 use Rattle.report.proofs.parts.count_answered.Statement.{statement}
 use Rattle.report.proofs.parts.count_answered.Tie as tie
-use Rattle.report.proofs.parts.count_answered.Reads as reads
-use Rattle.report.proofs.parts.count_answered.Lts as lts
 
 abbrev Inv-loop : tie.InvT-loop
 Inv-loop places fields count₀ field₀ count field = (field ≤ fields) × (count ≤ field) × (count ≡ howMany field (answered places))
@@ -17,43 +15,33 @@ Inv-loop places fields count₀ field₀ count field = (field ≤ fields) × (co
 abbrev μ-loop : tie.MeasureT-loop
 μ-loop places fields count₀ field₀ count field = fields - field
 
--- src/parts.rt:41:5
 loop-holds : tie.Need-loop-holds Inv-loop μ-loop
 loop-holds c = (search needs, search needs, refl)
 
--- src/parts.rt:42:12
 shared-slice-read-if1 : tie.Need-shared-slice-read-if1 Inv-loop μ-loop
 shared-slice-read-if1 c = search needs
 
--- src/parts.rt:43:13
 add-field : tie.Need-add-field Inv-loop μ-loop
 add-field c = search needs
 
--- src/parts.rt:41:5
 loop-less : tie.Need-loop-less Inv-loop μ-loop
 loop-less c = search needs
 
--- src/parts.rt:41:5
 loop-again : tie.Need-loop-again Inv-loop μ-loop
 loop-again c = (search needs, search needs, count-same (c .before .before .before .before .args .places .now) _ _ (omega arith) (c .before .before .before .loop .inv .2) (c .if1 .taken))
 
--- src/parts.rt:45:13
 add-count : tie.Need-add-count Inv-loop μ-loop
 add-count c = search needs
 
--- src/parts.rt:46:13
 add-field-2 : tie.Need-add-field-2 Inv-loop μ-loop
 add-field-2 c = search needs
 
--- src/parts.rt:41:5
 loop-less-2 : tie.Need-loop-less-2 Inv-loop μ-loop
 loop-less-2 c = search needs
 
--- src/parts.rt:41:5
 loop-again-2 : tie.Need-loop-again-2 Inv-loop μ-loop
 loop-again-2 c = (search needs, search needs, count-more (c .before .before .before .before .args .places .now) _ _ (omega arith) (c .before .before .before .loop .inv .2) (c .if1 .left))
 
--- src/parts.rt:35:1
 returns : tie.Need-returns Inv-loop μ-loop
 returns c = count-end (c .before .before .args .places .now) _ _ _ (c .before .loop .inv .0) (c .loop-test .left) (c .before .loop .inv .2)
 

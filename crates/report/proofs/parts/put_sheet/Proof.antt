@@ -1,53 +1,36 @@
 -- `report::parts::put_sheet` meets its contract: its parts, one behind the other. Assumes nothing.
 use Rattle.report.proofs.SheetPart.{line-room, alts-room, opens-room, sheet-puts}
 use borrow.Author.Needs.{needs}
-use native.Mathlib.Omega.{arith}
 use Rattle.report.proofs.parts.put_sheet.Statement.{statement}
 use Rattle.report.proofs.parts.put_sheet.Tie as tie
-use Rattle.report.proofs.parts.put_sheet.Reads as reads
-use Rattle.report.proofs.parts.put_sheet.Lts as lts
-use Rattle.report.proofs.lists.put_open.Reads as put-open-reads
-use Rattle.report.proofs.lists.put_pairs.Reads as put-pairs-reads
-use Rattle.report.proofs.parts.count_answered.Reads as count-answered-reads
-use Rattle.report.proofs.writers.put_line.Reads as put-line-reads
 
--- src/parts.rt:66:20
 count-answered-requires : tie.Need-count-answered-requires
 count-answered-requires c κs = c .before .before .before .before .pre .0 .in-places
 
--- src/parts.rt:67:34
 slice-aggregate-put-line : tie.Need-slice-aggregate-put-line
 slice-aggregate-put-line c = search needs
 
--- src/parts.rt:67:44
 slice-aggregate-put-line-2 : tie.Need-slice-aggregate-put-line-2
 slice-aggregate-put-line-2 c = search needs
 
--- src/parts.rt:67:9
 put-line-requires : tie.Need-put-line-requires
 put-line-requires c κs = line-room (c .before .before .before .before .before .before .before .before .args .places .now) (c .before .before .before .before .before .before .before .before .args .fields) (c .before .before .before .before .before .before .before .before .args .pairs .now) (c .before .before .before .before .before .before .before .before .args .total) (c .before .before .before .before .before .before .before .before .args .struck) (c .before .before .before .before .before .before .before .before .args .masks .now) (c .before .before .before .before .before .before .before .before .args .out .now) _ _ (c .before .before .before .count-answered .ensures) (c .before .before .before .before .before .before .before .before .pre .1)
 
--- src/parts.rt:68:38
 slice-aggregate-put-pairs : tie.Need-slice-aggregate-put-pairs
 slice-aggregate-put-pairs c = search needs
 
--- src/parts.rt:68:9
 put-pairs-requires : tie.Need-put-pairs-requires
 put-pairs-requires c κs = (c .before .before .before .before .before .before .before .before .before .before .before .before .before .pre .0 .in-pairs, alts-room (c .before .before .before .before .before .before .before .before .before .before .before .before .before .args .places .now) (c .before .before .before .before .before .before .before .before .before .before .before .before .before .args .fields) (c .before .before .before .before .before .before .before .before .before .before .before .before .before .args .pairs .now) (c .before .before .before .before .before .before .before .before .before .before .before .before .before .args .total) (c .before .before .before .before .before .before .before .before .before .before .before .before .before .args .struck) (c .before .before .before .before .before .before .before .before .before .before .before .before .before .args .masks .now) (c .before .before .before .before .before .before .before .before .before .before .before .before .before .args .out .now) _ _ (c .before .before .before .before .before .before .before .before .count-answered .ensures) (c .before .before .before .before .before .before .before .before .before .before .before .before .before .pre .1) (c .before .before .before .before .put-line .ensures))
 
--- src/parts.rt:69:26
 slice-aggregate-put-open : tie.Need-slice-aggregate-put-open
 slice-aggregate-put-open c = search needs
 
--- src/parts.rt:69:5
 put-open-requires : tie.Need-put-open-requires
 put-open-requires c κs = (c .before .before .before .before .before .before .before .before .before .before .before .before .before .before .before .before .before .before .pre .0 .in-masks, (c .before .before .before .before .before .before .before .before .before .before .before .before .before .before .before .before .before .before .pre .0 .in-places, opens-room (c .before .before .before .before .before .before .before .before .before .before .before .before .before .before .before .before .before .before .args .places .now) (c .before .before .before .before .before .before .before .before .before .before .before .before .before .before .before .before .before .before .args .fields) (c .before .before .before .before .before .before .before .before .before .before .before .before .before .before .before .before .before .before .args .pairs .now) (c .before .before .before .before .before .before .before .before .before .before .before .before .before .before .before .before .before .before .args .total) (c .before .before .before .before .before .before .before .before .before .before .before .before .before .before .before .before .before .before .args .struck) (c .before .before .before .before .before .before .before .before .before .before .before .before .before .before .before .before .before .before .args .masks .now) (c .before .before .before .before .before .before .before .before .before .before .before .before .before .before .before .before .before .before .args .out .now) _ _ (c .before .before .before .before .before .before .before .before .before .before .before .before .before .count-answered .ensures) (c .before .before .before .before .before .before .before .before .before .before .before .before .before .before .before .before .before .before .pre .1) (c .before .before .before .before .before .before .before .before .before .put-line .ensures) (c .before .before .before .before .put-pairs .ensures)))
 
--- src/parts.rt:53:1
 same-length : tie.Need-same-length
 same-length c = search needs
 
--- src/parts.rt:53:1
 returns : tie.Need-returns
 returns c = sheet-puts (c .before .before .before .before .before .before .before .before .before .before .before .before .before .before .before .before .before .before .before .before .before .args .places .now) (c .before .before .before .before .before .before .before .before .before .before .before .before .before .before .before .before .before .before .before .before .before .args .fields) (c .before .before .before .before .before .before .before .before .before .before .before .before .before .before .before .before .before .before .before .before .before .args .pairs .now) (c .before .before .before .before .before .before .before .before .before .before .before .before .before .before .before .before .before .before .before .before .before .args .total) (c .before .before .before .before .before .before .before .before .before .before .before .before .before .before .before .before .before .before .before .before .before .args .struck) (c .before .before .before .before .before .before .before .before .before .before .before .before .before .before .before .before .before .before .before .before .before .args .masks .now) (c .before .before .before .before .before .before .before .before .before .before .before .before .before .before .before .before .before .before .before .before .before .args .out .now) _ _ (c .before .before .before .before .before .before .before .before .before .before .before .before .before .before .before .before .count-answered .ensures) (c .before .before .before .before .before .before .before .before .before .before .before .before .before .before .before .before .before .before .before .before .before .pre .1) (c .before .before .before .before .before .before .before .before .before .before .before .before .put-line .ensures) (c .before .before .before .before .before .before .before .put-pairs .ensures) (c .before .before .put-open .ensures)
 

@@ -26,7 +26,6 @@ abbrev put-number-below : ℕ → In 1 put-number-kinds.ps
 put-number-below t =
     and 1 put-number-kinds.ps (falls 1 put-number-kinds.ps _<_ μ-put-number t) put-number.Pre
 
--- src/writers.rt:47:34
 put-number-digit-requires : (t : ℕ) → put-number-lts.Need-digit-requires (
   digit-reads.Asked,
   digit-reads.Learnt,
@@ -37,7 +36,6 @@ put-number-digit-requires : (t : ℕ) → put-number-lts.Need-digit-requires (
 ) (put-number-at t) put-number.Post
 put-number-digit-requires t c κs = c .before .if1 .taken
 
--- src/writers.rt:47:9
 put-number-put-byte-requires : (t : ℕ) → put-number-lts.Need-put-byte-requires (
   digit-reads.Asked,
   digit-reads.Learnt,
@@ -48,7 +46,6 @@ put-number-put-byte-requires : (t : ℕ) → put-number-lts.Need-put-byte-requir
 ) (put-number-at t) put-number.Post
 put-number-put-byte-requires t c κs = room-one (c .before .before .before .before .args .out .now) _ _ _ (c .before .before .if1 .taken) (c .digit .ensures) (c .before .before .before .before .pre .1)
 
--- src/writers.rt:47:9
 put-number-same-length : (t : ℕ) → put-number-lts.Need-same-length (
   digit-reads.Asked,
   digit-reads.Learnt,
@@ -59,7 +56,6 @@ put-number-same-length : (t : ℕ) → put-number-lts.Need-same-length (
 ) (put-number-at t) put-number.Post
 put-number-same-length t c = puts-length (c .before .before .put-byte .ensures)
 
--- src/writers.rt:47:9
 put-number-returns : (t : ℕ) → put-number-lts.Need-returns (
   digit-reads.Asked,
   digit-reads.Learnt,
@@ -70,7 +66,6 @@ put-number-returns : (t : ℕ) → put-number-lts.Need-returns (
 ) (put-number-at t) put-number.Post
 put-number-returns t c = puts-one _ _ _ _ (c .before .before .before .before .before .if1 .taken) (c .before .before .before .digit .ensures) (c .before .before .put-byte .ensures)
 
--- src/writers.rt:49:9
 put-number-put-number-requires : (t : ℕ) → put-number-lts.Need-put-number-requires (
   digit-reads.Asked,
   digit-reads.Learnt,
@@ -81,7 +76,6 @@ put-number-put-number-requires : (t : ℕ) → put-number-lts.Need-put-number-re
 ) (put-number-at t) put-number.Post
 put-number-put-number-requires t c κs = (omega (arith, c .before .before .before .pre .0), room-front (c .before .before .before .args .out .now) _ _ (c .before .if1 .left) (omega arith) (c .before .before .before .pre .1))
 
--- src/writers.rt:50:25
 put-number-digit-requires-2 : (t : ℕ) → put-number-lts.Need-digit-requires-2 (
   digit-reads.Asked,
   digit-reads.Learnt,
@@ -92,7 +86,6 @@ put-number-digit-requires-2 : (t : ℕ) → put-number-lts.Need-digit-requires-2
 ) (put-number-at t) put-number.Post
 put-number-digit-requires-2 t c κs = search needs
 
--- src/writers.rt:50:5
 put-number-put-byte-requires-2 : (t : ℕ) → put-number-lts.Need-put-byte-requires-2 (
   digit-reads.Asked,
   digit-reads.Learnt,
@@ -103,7 +96,6 @@ put-number-put-byte-requires-2 : (t : ℕ) → put-number-lts.Need-put-byte-requ
 ) (put-number-at t) put-number.Post
 put-number-put-byte-requires-2 t c κs = room-last _ _ _ (c .before .before .before .before .before .before .if1 .left) (omega arith) _ (c .digit2 .ensures) (c .before .before .before .before .put-number .ensures) (c .before .before .before .before .before .before .before .before .pre .1)
 
--- src/writers.rt:42:1
 put-number-same-length-2 : (t : ℕ) → put-number-lts.Need-same-length-2 (
   digit-reads.Asked,
   digit-reads.Learnt,
@@ -114,7 +106,6 @@ put-number-same-length-2 : (t : ℕ) → put-number-lts.Need-same-length-2 (
 ) (put-number-at t) put-number.Post
 put-number-same-length-2 t c = puts-length (c .before .before .put-byte2 .ensures) ∙ puts-length (c .before .before .before .before .before .before .before .put-number .ensures)
 
--- src/writers.rt:42:1
 put-number-returns-2 : (t : ℕ) → put-number-lts.Need-returns-2 (
   digit-reads.Asked,
   digit-reads.Learnt,

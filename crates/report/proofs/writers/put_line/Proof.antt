@@ -1,19 +1,13 @@
 -- `report::writers::put_line` meets its contract. The loop's invariant: what is left is the text of the numbers from number i on. Assumes nothing.
-use Prim.Native.Nat.{_+_, _≤_, _-_}
+use Prim.Native.Nat.{_≤_, _-_}
 use mathlib.Core.Path.{_∙_}
 use lib.ListN.{length, drop}
 use Rattle.report.specs.Text.{spaced}
 use Rattle.report.proofs.Writing.{puts-none, puts-length, puts-then, room-first, room-then, Halfway, halfway-from}
 use Rattle.report.proofs.Lines.{room-space, room-number, line-on, room-newline, line-end}
 use borrow.Author.Needs.{needs}
-use native.Mathlib.Omega.{arith}
 use Rattle.report.proofs.writers.put_line.Statement.{statement}
 use Rattle.report.proofs.writers.put_line.Tie as tie
-use Rattle.report.proofs.writers.put_line.Reads as reads
-use Rattle.report.proofs.writers.put_line.Lts as lts
-use Rattle.report.proofs.writers.put_byte.Reads as put-byte-reads
-use Rattle.report.proofs.writers.put_number.Reads as put-number-reads
-use Rattle.report.proofs.writers.put_word.Reads as put-word-reads
 
 abbrev Inv-loop : tie.InvT-loop
 Inv-loop out₀ at word numbers place₀ i₀ out place i = (i ≤ length numbers) × Halfway out₀ place₀ (spaced numbers) out place (spaced (drop i numbers))
@@ -21,51 +15,39 @@ Inv-loop out₀ at word numbers place₀ i₀ out place i = (i ≤ length number
 abbrev μ-loop : tie.MeasureT-loop
 μ-loop out₀ at word numbers place₀ i₀ out place i = length numbers - i
 
--- src/writers.rt:58:9
 put-word-requires : tie.Need-put-word-requires Inv-loop μ-loop
 put-word-requires c κs = room-first (c .before .before .before .before .args .out .now) _ (c .before .before .before .before .args .word .now) (spaced (c .before .before .before .before .args .numbers .now)) (c .before .before .before .before .pre)
 
--- src/writers.rt:60:5
 loop-holds : tie.Need-loop-holds Inv-loop μ-loop
 loop-holds c = (search needs, halfway-from (spaced (c .before .before .before .before .before .before .before .args .numbers .now)) (puts-none _ _))
 
--- src/writers.rt:61:13
 put-byte-requires : tie.Need-put-byte-requires Inv-loop μ-loop
 put-byte-requires c κs = room-space (c .before .before .before .before .before .before .before .before .before .before .args .numbers .now) _ (room-then (c .before .before .before .before .before .put-word .ensures) (spaced (c .before .before .before .before .before .before .before .before .before .before .args .numbers .now)) (c .before .before .before .before .before .before .before .before .before .before .pre)) (c .before .before .loop .inv .1) (c .before .loop-test .taken)
 
--- src/writers.rt:62:41
 mul-put-number : tie.Need-mul-put-number Inv-loop μ-loop
 mul-put-number c = search needs
 
--- src/writers.rt:62:41
 shared-slice-read-put-number : tie.Need-shared-slice-read-put-number Inv-loop μ-loop
 shared-slice-read-put-number c = search needs
 
--- src/writers.rt:62:9
 put-number-requires : tie.Need-put-number-requires Inv-loop μ-loop
 put-number-requires c κs = room-number (c .before .before .before .before .before .before .before .before .before .before .before .before .before .before .before .args .numbers .now) _ (room-then (c .before .before .before .before .before .before .before .before .before .before .put-word .ensures) (spaced (c .before .before .before .before .before .before .before .before .before .before .before .before .before .before .before .args .numbers .now)) (c .before .before .before .before .before .before .before .before .before .before .before .before .before .before .before .pre)) (c .before .before .before .before .before .before .before .loop .inv .1) (c .before .before .before .before .before .before .loop-test .taken) (c .before .before .before .before .put-byte .ensures)
 
--- src/writers.rt:63:9
 add-i : tie.Need-add-i Inv-loop μ-loop
 add-i c = search needs
 
--- src/writers.rt:60:5
 loop-less : tie.Need-loop-less Inv-loop μ-loop
 loop-less c = search needs
 
--- src/writers.rt:60:5
 loop-again : tie.Need-loop-again Inv-loop μ-loop
 loop-again c = (search needs, line-on (c .before .before .before .before .before .before .before .before .before .before .before .before .before .before .before .before .before .before .args .numbers .now) _ (room-then (c .before .before .before .before .before .before .before .before .before .before .before .before .before .put-word .ensures) (spaced (c .before .before .before .before .before .before .before .before .before .before .before .before .before .before .before .before .before .before .args .numbers .now)) (c .before .before .before .before .before .before .before .before .before .before .before .before .before .before .before .before .before .before .pre)) (c .before .before .before .before .before .before .before .before .before .before .loop .inv .1) (c .before .before .before .before .before .before .before .before .before .loop-test .taken) (c .before .before .before .before .before .before .before .put-byte .ensures) (c .before .before .put-number .ensures))
 
--- src/writers.rt:65:5
 put-byte-requires-2 : tie.Need-put-byte-requires-2 Inv-loop μ-loop
 put-byte-requires-2 c κs = room-newline (c .before .before .before .before .before .before .before .before .before .before .args .numbers .now) _ (room-then (c .before .before .before .before .before .put-word .ensures) (spaced (c .before .before .before .before .before .before .before .before .before .before .args .numbers .now)) (c .before .before .before .before .before .before .before .before .before .before .pre)) (c .before .before .loop .inv .1) (c .before .loop-test .left)
 
--- src/writers.rt:54:1
 same-length : tie.Need-same-length Inv-loop μ-loop
 same-length c = puts-length (c .before .before .put-byte2 .ensures) ∙ puts-length (c .before .before .before .before .before .loop .inv .1 .puts) ∙ puts-length (c .before .before .before .before .before .before .before .before .put-word .ensures)
 
--- src/writers.rt:54:1
 returns : tie.Need-returns Inv-loop μ-loop
 returns c = puts-then (c .before .before .before .before .before .before .before .before .put-word .ensures) (line-end (c .before .before .before .before .before .before .before .before .before .before .before .before .before .args .numbers .now) _ (room-then (c .before .before .before .before .before .before .before .before .put-word .ensures) (spaced (c .before .before .before .before .before .before .before .before .before .before .before .before .before .args .numbers .now)) (c .before .before .before .before .before .before .before .before .before .before .before .before .before .pre)) (c .before .before .before .before .before .loop .inv .1) (c .before .before .before .before .loop-test .left) (c .before .before .put-byte2 .ensures))
 

@@ -1,16 +1,12 @@
 -- `report::writers::put_word` meets its contract. The loop's invariant: the word's first i bytes are written. Assumes nothing.
 use Prim.Native.Nat.{_+_, _≤_, _-_}
-
 use lib.ListN.{length, take}
-
 use Rattle.report.specs.Writes.{Puts}
 use Rattle.report.proofs.Writing.{puts-length, word-start, word-on, word-end}
 use borrow.Author.Needs.{needs}
 use native.Mathlib.Omega.{arith}
 use Rattle.report.proofs.writers.put_word.Statement.{statement}
 use Rattle.report.proofs.writers.put_word.Tie as tie
-use Rattle.report.proofs.writers.put_word.Reads as reads
-use Rattle.report.proofs.writers.put_word.Lts as lts
 
 abbrev Inv-loop : tie.InvT-loop
 Inv-loop out₀ at word i₀ out i = (i ≤ length word) × Puts out₀ at (take i word) out (at + i)
@@ -18,43 +14,33 @@ Inv-loop out₀ at word i₀ out i = (i ≤ length word) × Puts out₀ at (take
 abbrev μ-loop : tie.MeasureT-loop
 μ-loop out₀ at word i₀ out i = length word - i
 
--- src/writers.rt:26:5
 loop-holds : tie.Need-loop-holds Inv-loop μ-loop
 loop-holds c = (search needs, word-start _ _ (c .args .word .now))
 
--- src/writers.rt:27:23
 shared-slice-read-out : tie.Need-shared-slice-read-out Inv-loop μ-loop
 shared-slice-read-out c = search needs
 
--- src/writers.rt:27:13
 add-out : tie.Need-add-out Inv-loop μ-loop
 add-out c = omega (arith, puts-length (c .before .before .loop .inv .1))
 
--- src/writers.rt:27:9
 slice-write-out : tie.Need-slice-write-out Inv-loop μ-loop
 slice-write-out c = omega (arith, puts-length (c .before .before .loop .inv .1))
 
--- src/writers.rt:28:9
 add-i : tie.Need-add-i Inv-loop μ-loop
 add-i c = search needs
 
--- src/writers.rt:26:5
 loop-less : tie.Need-loop-less Inv-loop μ-loop
 loop-less c = search needs
 
--- src/writers.rt:26:5
 loop-again : tie.Need-loop-again Inv-loop μ-loop
 loop-again c = (search needs, word-on _ _ (c .before .loop-test .taken) (c .before .before .loop .inv .1))
 
--- src/writers.rt:30:5
 add-result : tie.Need-add-result Inv-loop μ-loop
 add-result c = omega (arith, puts-length (c .before .loop .inv .1))
 
--- src/writers.rt:21:1
 same-length : tie.Need-same-length Inv-loop μ-loop
 same-length c = puts-length (c .before .loop .inv .1)
 
--- src/writers.rt:21:1
 returns : tie.Need-returns Inv-loop μ-loop
 returns c = word-end _ _ (c .loop-test .left) (c .before .loop .inv .1)
 

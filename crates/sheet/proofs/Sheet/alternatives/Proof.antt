@@ -1,7 +1,6 @@
 -- `Sheet::alternatives` meets its contract: each way through its tests. Assumes nothing.
 use mathlib.Core.Path.{_∙_}
-use Rattle.format.proofs.Verdict.{verdict-promise}
-use Rattle.sheet.proofs.Openings.{opens-ready, opens-turned}
+use Rattle.sheet.proofs.Openings.{opens-viewed, opens-ready, opens-turned}
 use Rattle.sheet.proofs.OwnCases.{passed}
 use Rattle.sheet.proofs.ListCases.{alternatives-turned, alternatives-18, alternatives-done}
 use borrow.Author.Needs.{needs}
@@ -23,12 +22,11 @@ enum-known-opened-2 c = search needs
 
 one-pass-requires : tie.Need-one-pass-requires
 one-pass-requires c κs =
-    let o = opens-ready _ _ _ (c .before .before .before .before .before .«open» .ensures) _ _ (c .before .before .before .opened2 .given .1) in
-    verdict-promise _ (o .at .passes)
+    opens-viewed _ _ _ (c .before .before .before .before .before .«open» .ensures) _ _ _ _ (c .before .before .before .opened2 .given .1)
 
 count-lines-requires : tie.Need-count-lines-requires
 count-lines-requires c κs =
-    let o = opens-ready _ _ _ (c .before .before .before .before .before .before .before .«open» .ensures) _ _ (c .before .before .before .before .before .opened2 .given .1) in
+    let o = opens-ready _ _ _ (c .before .before .before .before .before .before .before .«open» .ensures) _ _ _ _ (c .before .before .before .before .before .opened2 .given .1) in
     passed _ _ _ _ _ (o .at) (c .before .one-pass .ensures .0)
 
 mul-needed : tie.Need-mul-needed
@@ -39,12 +37,12 @@ refuse-list-requires-2 c κs = search needs
 
 returns : tie.Need-returns
 returns c =
-    let o = opens-ready _ _ _ (c .before .before .before .before .before .before .before .before .before .before .«open» .ensures) _ _ (c .before .before .before .before .before .before .before .before .opened2 .given .1) in
+    let o = opens-ready _ _ _ (c .before .before .before .before .before .before .before .before .before .before .«open» .ensures) _ _ _ _ (c .before .before .before .before .before .before .before .before .opened2 .given .1) in
     c .refuse-list2 .ensures _ ∙ alternatives-18 _ _ _ o (c .before .before .count-lines .ensures .0) (c .before .if1 .taken)
 
 write-lines-requires : tie.Need-write-lines-requires
 write-lines-requires c κs =
-    let o = opens-ready _ _ _ (c .before .before .before .before .before .before .before .before .before .before .before .«open» .ensures) _ _ (c .before .before .before .before .before .before .before .before .before .opened2 .given .1) in
+    let o = opens-ready _ _ _ (c .before .before .before .before .before .before .before .before .before .before .before .«open» .ensures) _ _ _ _ (c .before .before .before .before .before .before .before .before .before .opened2 .given .1) in
     (passed _ _ _ _ _ (o .at) (c .before .before .before .before .before .one-pass .ensures .0), omega (arith, c .before .before .before .count-lines .ensures .0, c .before .before .if1 .left))
 
 returns-2 : tie.Need-returns-2
@@ -55,7 +53,7 @@ same-length c = search needs
 
 returns-3 : tie.Need-returns-3
 returns-3 c =
-    let o = opens-ready _ _ _ (c .before .before .before .before .before .before .before .before .before .before .before .before .before .before .«open» .ensures) _ _ (c .before .before .before .before .before .before .before .before .before .before .before .before .opened2 .given .1) in
+    let o = opens-ready _ _ _ (c .before .before .before .before .before .before .before .before .before .before .before .before .before .before .«open» .ensures) _ _ _ _ (c .before .before .before .before .before .before .before .before .before .before .before .before .opened2 .given .1) in
     alternatives-done _ _ _ o (c .before .before .before .before .before .before .count-lines .ensures .0) (c .before .before .before .before .before .if1 .left) (c .before .before .before .before .before .before .before .before .one-pass .ensures .1) (c .before .before .write-lines .ensures)
 
 pub alternatives-spec : {M : Type 1} → statement M

@@ -25,17 +25,17 @@ refuse-requires-2 c κs = search needs
 
 returns : tie.Need-returns
 returns c =
-    let o = opens-ready _ _ _ (c .before .before .before .before .before .«open» .ensures) _ _ (c .before .before .before .opened2 .given .1) in
+    let o = opens-ready _ _ _ (c .before .before .before .before .before .«open» .ensures) _ _ _ _ (c .before .before .before .opened2 .given .1) in
     c .refuse2 .ensures [] ∙ entered-15 _ _ _ _ _ _ o (c .before .if1 .taken)
 
 add-if2 : tie.Need-add-if2
 add-if2 c =
-    let o = opens-ready _ _ _ (c .before .before .before .before .«open» .ensures) _ _ (c .before .before .opened2 .given .1) in
+    let o = opens-ready _ _ _ (c .before .before .before .before .«open» .ensures) _ _ _ _ (c .before .before .opened2 .given .1) in
     omega (arith, fields-end _ _ _ (o .at))
 
 shared-slice-read-if2 : tie.Need-shared-slice-read-if2
 shared-slice-read-if2 c =
-    let o = opens-ready _ _ _ (c .before .before .before .before .before .«open» .ensures) _ _ (c .before .before .before .opened2 .given .1) in
+    let o = opens-ready _ _ _ (c .before .before .before .before .before .«open» .ensures) _ _ _ _ (c .before .before .before .opened2 .given .1) in
     omega (arith, fields-end _ _ _ (o .at))
 
 refuse-requires-3 : tie.Need-refuse-requires-3
@@ -43,12 +43,12 @@ refuse-requires-3 c κs = search needs
 
 returns-2 : tie.Need-returns-2
 returns-2 c =
-    let o = opens-ready _ _ _ (c .before .before .before .before .before .before .before .«open» .ensures) _ _ (c .before .before .before .before .before .opened2 .given .1) in
+    let o = opens-ready _ _ _ (c .before .before .before .before .before .before .before .«open» .ensures) _ _ _ _ (c .before .before .before .before .before .opened2 .given .1) in
     c .refuse3 .ensures [] ∙ entered-16 _ _ _ _ _ _ o (c .before .before .before .if1 .left) (c .before .if2 .taken)
 
 array-write-next : tie.Need-array-write-next
 array-write-next c =
-    let o = opens-ready _ _ _ (c .before .before .before .before .before .before .«open» .ensures) _ _ (c .before .before .before .before .opened2 .given .1) in
+    let o = opens-ready _ _ _ (c .before .before .before .before .before .before .«open» .ensures) _ _ _ _ (c .before .before .before .before .opened2 .given .1) in
     omega (arith, fields-few _ _ _ (o .at))
 
 returns-3 : tie.Need-returns-3
@@ -56,7 +56,7 @@ returns-3 c = c .refuse .ensures [] ∙ entered-turned _ _ _ _ _ _ (opens-turned
 
 returns-4 : tie.Need-returns-4
 returns-4 c =
-    let o = opens-ready _ _ _ (c .before .before .before .before .before .before .«open» .ensures) _ _ (c .before .before .before .before .opened2 .given .1) in
+    let o = opens-ready _ _ _ (c .before .before .before .before .before .before .«open» .ensures) _ _ _ _ (c .before .before .before .before .opened2 .given .1) in
     entered-done _ _ _ _ _ _ o (c .before .before .if1 .left) (c .if2 .left)
 
 pub enter-spec : {M : Type 1} → statement M

@@ -1,8 +1,8 @@
 -- `Sheet::filtered` meets its contract: each way through its tests. Assumes nothing.
 use mathlib.Core.Path.{_≡_, _∙_}
 use lib.ListN.{length}
-use Rattle.sheet.proofs.Openings.{fields-few, opens-ready, opens-turned}
-use Rattle.sheet.proofs.ListCases.{fields-at-list, filtered-turned, filtered-none, filtered-15, filtered-17, filtered-relaxed}
+use Rattle.sheet.proofs.Openings.{fields-few, opens-viewed, opens-ready, opens-turned}
+use Rattle.sheet.proofs.ListCases.{filtered-turned, filtered-none, filtered-15, filtered-17, filtered-relaxed}
 use borrow.Author.Needs.{needs}
 use native.Mathlib.Omega.{arith}
 use Rattle.sheet.proofs.Sheet.filtered.Statement.{statement}
@@ -22,15 +22,14 @@ enum-known-opened-2 c = search needs
 
 write-masks-requires : tie.Need-write-masks-requires
 write-masks-requires c κs =
-    let o = opens-ready _ _ _ (c .before .before .before .before .before .«open» .ensures) _ _ (c .before .before .before .opened2 .given .1) in
-    fields-at-list (o .at)
+    opens-viewed _ _ _ (c .before .before .before .before .before .«open» .ensures) _ _ _ _ (c .before .before .before .opened2 .given .1)
 
 same-length : tie.Need-same-length
 same-length c = search needs
 
 returns : tie.Need-returns
 returns c =
-    let o = opens-ready _ _ _ (c .before .before .before .before .before .before .before .before .«open» .ensures) _ _ (c .before .before .before .before .before .before .opened2 .given .1) in
+    let o = opens-ready _ _ _ (c .before .before .before .before .before .before .before .before .«open» .ensures) _ _ _ _ (c .before .before .before .before .before .before .opened2 .given .1) in
     filtered-none _ _ _ _ o (c .before .before .before .before .if1 .taken) (c .before .before .write-masks .ensures)
 
 refuse-requires-2 : tie.Need-refuse-requires-2
@@ -38,12 +37,12 @@ refuse-requires-2 c κs = search needs
 
 returns-2 : tie.Need-returns-2
 returns-2 c =
-    let o = opens-ready _ _ _ (c .before .before .before .before .before .before .«open» .ensures) _ _ (c .before .before .before .before .opened2 .given .1) in
+    let o = opens-ready _ _ _ (c .before .before .before .before .before .before .«open» .ensures) _ _ _ _ (c .before .before .before .before .opened2 .given .1) in
     c .refuse2 .ensures _ ∙ filtered-15 _ _ _ _ o (c .before .before .if1 .left) (c .before .if2 .taken)
 
 array-read-if3 : tie.Need-array-read-if3
 array-read-if3 c =
-    let o = opens-ready _ _ _ (c .before .before .before .before .before .«open» .ensures) _ _ (c .before .before .before .opened2 .given .1) in
+    let o = opens-ready _ _ _ (c .before .before .before .before .before .«open» .ensures) _ _ _ _ (c .before .before .before .opened2 .given .1) in
     omega (arith, fields-few _ _ _ (o .at))
 
 refuse-requires-3 : tie.Need-refuse-requires-3
@@ -51,19 +50,18 @@ refuse-requires-3 c κs = search needs
 
 returns-3 : tie.Need-returns-3
 returns-3 c =
-    let o = opens-ready _ _ _ (c .before .before .before .before .before .before .before .«open» .ensures) _ _ (c .before .before .before .before .before .opened2 .given .1) in
+    let o = opens-ready _ _ _ (c .before .before .before .before .before .before .before .«open» .ensures) _ _ _ _ (c .before .before .before .before .before .opened2 .given .1) in
     let long : length (c .before .before .before .before .before .before .before .before .before .before .before .args .self .places) ≡ 32 = search needs in
     c .refuse3 .ensures _ ∙ filtered-17 _ _ _ _ o (c .before .before .before .if1 .left) long (c .before .before .if2 .left) (c .before .if3 .taken)
 
 array-write-answers : tie.Need-array-write-answers
 array-write-answers c =
-    let o = opens-ready _ _ _ (c .before .before .before .before .before .before .«open» .ensures) _ _ (c .before .before .before .before .opened2 .given .1) in
+    let o = opens-ready _ _ _ (c .before .before .before .before .before .before .«open» .ensures) _ _ _ _ (c .before .before .before .before .opened2 .given .1) in
     omega (arith, fields-few _ _ _ (o .at))
 
 write-masks-requires-2 : tie.Need-write-masks-requires-2
 write-masks-requires-2 c κs =
-    let o = opens-ready _ _ _ (c .before .before .before .before .before .before .before .«open» .ensures) _ _ (c .before .before .before .before .before .opened2 .given .1) in
-    fields-at-list (o .at)
+    opens-viewed _ _ _ (c .before .before .before .before .before .before .before .«open» .ensures) _ _ _ _ (c .before .before .before .before .before .opened2 .given .1)
 
 returns-4 : tie.Need-returns-4
 returns-4 c = c .refuse .ensures _ ∙ filtered-turned _ _ _ _ _ _ (opens-turned _ _ _ (c .before .before .before .before .«open» .ensures) _ _ (c .before .before .opened .given .1))
@@ -73,9 +71,9 @@ same-length-2 c = search needs
 
 returns-5 : tie.Need-returns-5
 returns-5 c =
-    let o = opens-ready _ _ _ (c .before .before .before .before .before .before .before .before .before .before .«open» .ensures) _ _ (c .before .before .before .before .before .before .before .before .opened2 .given .1) in
+    let o = opens-ready _ _ _ (c .before .before .before .before .before .before .before .before .before .before .«open» .ensures) _ _ _ _ (c .before .before .before .before .before .before .before .before .opened2 .given .1) in
     let long : length (c .before .before .before .before .before .before .before .before .before .before .before .before .before .before .args .self .places) ≡ 32 = search needs in
-    filtered-relaxed _ _ _ _ o (c .before .before .before .before .before .before .if1 .left) long (c .before .before .before .before .before .if2 .left) (c .before .before .before .before .if3 .left) (c .before .before .write-masks2 .ensures)
+    filtered-relaxed (c .before .before .before .before .before .before .before .before .before .before .before .before .before .before .args .book .now) (c .before .before .before .before .before .before .before .before .before .before .before .before .before .before .args .self .places) (c .before .before .before .before .before .before .before .before .before .before .before .before .before .before .args .out .now) (c .before .before .before .before .before .before .before .before .before .before .before .before .before .before .args .relaxed) o (c .before .before .before .before .before .before .if1 .left) long (c .before .before .before .before .before .if2 .left) (c .before .before .before .before .if3 .left) (c .before .before .write-masks2 .ensures)
 
 pub filtered-spec : {M : Type 1} → statement M
 filtered-spec =

@@ -28,7 +28,7 @@ refuse-requires-2 c κs = search needs
 
 returns : tie.Need-returns
 returns c =
-    let o = opens-ready _ _ _ (c .before .before .before .before .before .«open» .ensures) _ _ (c .before .before .before .opened2 .given .1) in
+    let o = opens-ready _ _ _ (c .before .before .before .before .before .«open» .ensures) _ _ _ _ (c .before .before .before .opened2 .given .1) in
     c .refuse2 .ensures _ ∙ stored-18 _ _ _ _ _ o (c .before .if1 .taken)
 
 slice-aggregate-copy : tie.Need-slice-aggregate-copy
@@ -36,7 +36,7 @@ slice-aggregate-copy c = search needs
 
 copy-requires : tie.Need-copy-requires
 copy-requires c κs =
-    let o = opens-ready _ _ _ (c .before .before .before .before .before .before .«open» .ensures) _ _ (c .before .before .before .before .opened2 .given .1) in
+    let o = opens-ready _ _ _ (c .before .before .before .before .before .before .«open» .ensures) _ _ _ _ (c .before .before .before .before .opened2 .given .1) in
     let few = fields-few _ _ _ (o .at) in
     let long : length (c .before .before .before .before .before .before .before .before .before .before .args .self .places) ≡ 32 = search needs in
     (omega arith, omega arith)
@@ -49,7 +49,7 @@ same-length c = search needs
 
 returns-3 : tie.Need-returns-3
 returns-3 c =
-    let o = opens-ready _ _ _ (c .before .before .before .before .before .before .before .before .before .«open» .ensures) _ _ (c .before .before .before .before .before .before .before .opened2 .given .1) in
+    let o = opens-ready _ _ _ (c .before .before .before .before .before .before .before .before .before .«open» .ensures) _ _ _ _ (c .before .before .before .before .before .before .before .opened2 .given .1) in
     ap (λ (l : List ℕ). done [] (c .before .before .before .before .before .before .before .before .before .before .before .before .before .args .self .places) l) (c .before .before .copy .ensures) ∙ stored-done _ _ _ _ _ o (c .before .before .before .before .before .if1 .left)
 
 pub store-spec : {M : Type 1} → statement M

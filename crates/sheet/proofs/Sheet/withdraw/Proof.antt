@@ -26,12 +26,12 @@ refuse-requires-2 c κs = search needs
 
 returns : tie.Need-returns
 returns c =
-    let o = opens-ready _ _ _ (c .before .before .before .before .before .«open» .ensures) _ _ (c .before .before .before .opened2 .given .1) in
+    let o = opens-ready _ _ _ (c .before .before .before .before .before .«open» .ensures) _ _ _ _ (c .before .before .before .opened2 .given .1) in
     c .refuse2 .ensures [] ∙ withdrawn-15 _ _ _ _ _ o (c .before .if1 .taken)
 
 array-read-if2 : tie.Need-array-read-if2
 array-read-if2 c =
-    let o = opens-ready _ _ _ (c .before .before .before .before .«open» .ensures) _ _ (c .before .before .opened2 .given .1) in
+    let o = opens-ready _ _ _ (c .before .before .before .before .«open» .ensures) _ _ _ _ (c .before .before .opened2 .given .1) in
     omega (arith, fields-few _ _ _ (o .at))
 
 refuse-requires-3 : tie.Need-refuse-requires-3
@@ -39,13 +39,13 @@ refuse-requires-3 c κs = search needs
 
 returns-2 : tie.Need-returns-2
 returns-2 c =
-    let o = opens-ready _ _ _ (c .before .before .before .before .before .before .«open» .ensures) _ _ (c .before .before .before .before .opened2 .given .1) in
+    let o = opens-ready _ _ _ (c .before .before .before .before .before .before .«open» .ensures) _ _ _ _ (c .before .before .before .before .opened2 .given .1) in
     let long : length (c .before .before .before .before .before .before .before .before .before .args .self .places) ≡ 32 = search needs in
     c .refuse3 .ensures [] ∙ withdrawn-17 _ _ _ _ _ o long (c .before .before .if1 .left) (c .before .if2 .taken)
 
 array-write-rest : tie.Need-array-write-rest
 array-write-rest c =
-    let o = opens-ready _ _ _ (c .before .before .before .before .before .«open» .ensures) _ _ (c .before .before .before .opened2 .given .1) in
+    let o = opens-ready _ _ _ (c .before .before .before .before .before .«open» .ensures) _ _ _ _ (c .before .before .before .opened2 .given .1) in
     omega (arith, fields-few _ _ _ (o .at))
 
 returns-3 : tie.Need-returns-3
@@ -53,7 +53,7 @@ returns-3 c = c .refuse .ensures [] ∙ withdrawn-turned _ _ _ _ _ (opens-turned
 
 returns-4 : tie.Need-returns-4
 returns-4 c =
-    let o = opens-ready _ _ _ (c .before .before .before .before .before .«open» .ensures) _ _ (c .before .before .before .opened2 .given .1) in
+    let o = opens-ready _ _ _ (c .before .before .before .before .before .«open» .ensures) _ _ _ _ (c .before .before .before .opened2 .given .1) in
     let long : length (c .before .before .before .before .before .before .before .before .args .self .places) ≡ 32 = search needs in
     withdrawn-done _ _ _ _ _ o long (c .before .if1 .left) (c .if2 .left)
 

@@ -1,5 +1,5 @@
 -- `sheet::opened::open` meets its contract: both answers of the reader's check, and both of the test for 14. Assumes nothing.
-use Rattle.sheet.proofs.Openings.{checks-bad, checks-good, opening-book, opening-fault, opening-pass}
+use Rattle.sheet.proofs.Openings.{fields-at, checks-bad, checks-viewed, checks-good, opening-book, opening-fault, opening-pass}
 use borrow.Author.Needs.{needs}
 use Rattle.sheet.proofs.opened.open.Statement.{statement}
 use Rattle.sheet.proofs.opened.open.Tie as tie
@@ -26,8 +26,8 @@ returns-2 c = record { answers = opening-book _ _ _ _ (checks-bad _ _ (c .before
 
 returns-3 : tie.Need-returns-3
 returns-3 c =
-    let at = checks-good _ _ (c .before .before .before .before .before .check .ensures) _ _ _ _ (c .before .before .before .checked2 .given .1) in
-    record { answers = opening-pass _ _ (at .passes) _ (c .before .first-fault .ensures) (c .if1 .left); finds = at }
+    let v = checks-viewed _ _ (c .before .before .before .before .before .check .ensures) _ _ _ _ (c .before .before .before .checked2 .given .1) in
+    record { answers = opening-pass _ _ (fields-at v .passes) _ (c .before .first-fault .ensures) (c .if1 .left); finds = v }
 
 pub open-spec : {M : Type 1} → statement M
 open-spec =

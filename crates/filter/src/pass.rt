@@ -1,0 +1,70 @@
+// The pass over a book's bytes, with the numbers that a view of it holds: the work of the crate's entries.
+ghost use mathlib.Core.Path.{_≡_};
+ghost use Rattle.format.specs.Format.{bookOf};
+ghost use Rattle.book.specs.View.{Numbered};
+ghost use Rattle.consistency.specs.Counts.{struck};
+ghost use Rattle.filter.specs.Cases.{casesOf, marksOf, plainOf};
+ghost use Rattle.filter.specs.Start.{RunGiven, Ran};
+use super::gather::gather;
+use super::queue::first_tables;
+use super::queue::propagate;
+use super::queue::survey;
+use super::start::own_cases;
+use super::start::start;
+
+// Filters the cases that own and all say, all at once: the marks of each, and how many are struck.
+fn run(
+    bytes: &[u8],
+    list: usize,
+    fields: usize,
+    tables: usize,
+    answers: &[u8; 32],
+    own: &[u64; 32],
+    all: u64,
+    marks: &mut [u64; 1024],
+) -> u32
+    requires { ⌜ RunGiven (now bytes) list fields tables (now answers) (now own) all ⌝ }
+    ensures { λ r. ⌜ Ran (bookOf (now (bytes .entry))) (now (answers .entry)) (now (own .entry)) all (now (marks .exit)) r ⌝ }
+{
+    let mut watch = [0u64; 32];
+    let mut places = [0usize; 64];
+    survey(bytes, &mut watch, &mut places, tables);
+    let begun = start(bytes, *answers, own, all, marks, list, fields);
+    let queue = first_tables(tables);
+    propagate(bytes, marks, &watch, &places, list, begun, queue)
+}
+
+// The one pass: "nothing lifted, then each answered field lifted by itself". The marks of all cases, and the number struck.
+pub(crate) fn all_cases(
+    bytes: &[u8],
+    list: usize,
+    fields: usize,
+    tables: usize,
+    answers: &[u8; 32],
+    marks: &mut [u64; 1024],
+) -> u32
+    requires { ⌜ Numbered (now bytes) list fields tables ⌝ }
+    ensures marks { λ r. ⌜ now (marks .exit) ≡ marksOf (bookOf (now (bytes .entry))) (casesOf (bookOf (now (bytes .entry))) (now (answers .entry))) ⌝ }
+    ensures count { λ r. ⌜ r ≡ struck (bookOf (now (bytes .entry))) (now (answers .entry)) ⌝ }
+{
+    let cases = own_cases(*answers, fields);
+    let own = cases.words;
+    run(bytes, list, fields, tables, answers, &own, cases.all, marks)
+}
+
+// Plain filtering: one case, with the answers as they are. A number for each field, bit c of it for code c.
+pub(crate) fn one_case(
+    bytes: &[u8],
+    list: usize,
+    fields: usize,
+    tables: usize,
+    answers: &[u8; 32],
+) -> [u32; 32]
+    requires { ⌜ Numbered (now bytes) list fields tables ⌝ }
+    ensures { λ r. ⌜ r ≡ plainOf (bookOf (now (bytes .entry))) (now (answers .entry)) ⌝ }
+{
+    let own = [0u64; 32];
+    let mut marks = [0u64; 1024];
+    run(bytes, list, fields, tables, answers, &own, 1, &mut marks);
+    gather(&marks)
+}

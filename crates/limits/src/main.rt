@@ -1,0 +1,190 @@
+// Calls the library at its limits and one beyond, and prints a line for each answer.
+ghost use Rattle.io.specs.Counts.{Counts};
+use book::Reading;
+use libc::STDOUT_FILENO;
+use report::Printed;
+use sheet::Listing;
+
+// One more than a book may have.
+const BYTES: usize = 32769;
+
+// As many bytes as the lines of 1,024 alternatives take.
+const PAIR_BYTES: usize = 2048;
+
+const TEXT_BYTES: usize = 11305;
+
+// n, or the length of the bytes where that is less.
+fn within(n: usize, bytes: &[u8]) -> usize
+    ensures { λ r. ⌜ Counts r (now (bytes .entry)) ⌝ }
+{
+    if n < bytes.len() { n } else { bytes.len() }
+}
+
+// Writes a byte where there is room, and answers the place behind it.
+fn put(out: &mut [u8], at: usize, byte: u8) -> usize {
+    if at < out.len() {
+        out[at] = byte;
+        return at + 1;
+    }
+    at
+}
+
+fn put_many(out: &mut [u8], at: usize, byte: u8, count: usize) -> usize {
+    let mut place = at;
+    let mut left = count;
+    while 0 < left {
+        place = put(out, place, byte);
+        left -= 1;
+    }
+    place
+}
+
+// A two-byte number, the low byte first.
+fn put_pair(out: &mut [u8], at: usize, number: usize) -> usize {
+    let high = put(out, at, (number % 256) as u8);
+    put(out, high, (number / 256 % 256) as u8)
+}
+
+// Tables on field 0, with that many rows of code 0 each.
+fn put_tables(out: &mut [u8], tables: usize, rows: usize) -> usize {
+    let mut place = 0;
+    let mut left = tables;
+    while 0 < left {
+        let field = put(out, place, 1);
+        let count = put(out, field, 0);
+        let first = put_pair(out, count, rows);
+        place = put_many(out, first, 0, rows);
+        left -= 1;
+    }
+    place
+}
+
+// A book, and its length.
+fn put_book(out: &mut [u8], fields: u8, codes: u8, tables: u8, rows: usize) -> usize {
+    let list = put_tables(out, tables as usize, rows);
+    let trailer = put_many(out, list, codes, fields as usize);
+    let count = put_pair(out, trailer, list);
+    let third = put(out, count, fields);
+    let fourth = put(out, third, tables);
+    let fifth = put(out, fourth, 1);
+    put(out, fifth, 0xE5)
+}
+
+fn print_number(n: u64) {
+    io::write_all(STDOUT_FILENO, b" ");
+    io::print_decimal(STDOUT_FILENO, n);
+}
+
+// A name and the number tried.
+fn print_tried(name: &[u8], tried: u64) {
+    io::write_all(STDOUT_FILENO, name);
+    print_number(tried);
+}
+
+fn print_refused(number: u64, place: usize) {
+    io::write_all(STDOUT_FILENO, b": refused");
+    print_number(number);
+    print_number(place as u64);
+    io::write_all(STDOUT_FILENO, b"\n");
+}
+
+// What reading answers.
+fn print_reading(name: &[u8], tried: u64, bytes: &[u8]) {
+    print_tried(name, tried);
+    let reading = book::read(bytes);
+    match reading {
+        Reading::Refused(kind, place) => print_refused(book::number(kind), place),
+        Reading::Accepted {
+            fields,
+            tables,
+            rows,
+            different,
+        } => {
+            io::write_all(STDOUT_FILENO, b": book");
+            print_number(fields as u64);
+            print_number(tables as u64);
+            print_number(rows as u64);
+            print_number(different as u64);
+            io::write_all(STDOUT_FILENO, b"\n");
+        }
+    }
+}
+
+// Reading a book with these numbers.
+fn try_book(name: &[u8], tried: u64, fields: u8, codes: u8, tables: u8, rows: usize) {
+    let mut bytes = [0; BYTES];
+    let length = put_book(&mut bytes, fields, codes, tables, rows);
+    let n = within(length, &bytes);
+    print_reading(name, tried, &bytes[..n]);
+}
+
+// Reading that many zeros.
+fn try_length(length: usize) {
+    let bytes = [0; BYTES];
+    let n = within(length, &bytes);
+    print_reading(b"length", length as u64, &bytes[..n]);
+}
+
+// Listing the alternatives of a book of 32 fields of 32 codes, all answered 0, with that many bytes lent.
+fn try_lent(lent: usize) {
+    let mut bytes = [0; BYTES];
+    let length = put_book(&mut bytes, 32, 32, 0, 0);
+    let n = within(length, &bytes);
+    let form = [0; 32];
+    let loaded = sheet::load(&bytes[..n], &form);
+    let held = loaded.sheet;
+    let mut pairs = [0; PAIR_BYTES];
+    let m = within(lent, &pairs);
+    let listed = held.alternatives(&bytes[..n], &mut pairs[..m]);
+    print_tried(b"lent", lent as u64);
+    let listing = listed.answer;
+    match listing {
+        Listing::Unlisted(reason, place) => print_refused(sheet::number(reason), place),
+        Listing::Listed { total, struck } => {
+            io::write_all(STDOUT_FILENO, b": listed");
+            print_number(total as u64);
+            print_number(struck as u64);
+            io::write_all(STDOUT_FILENO, b"\n");
+        }
+    }
+}
+
+// Printing that book and sheet, with that many bytes lent.
+fn try_text(lent: usize) {
+    let mut bytes = [0; BYTES];
+    let length = put_book(&mut bytes, 32, 32, 0, 0);
+    let n = within(length, &bytes);
+    let form = [0; 32];
+    let mut text = [0; TEXT_BYTES];
+    let m = within(lent, &text);
+    let printed = report::report(&bytes[..n], &form, &mut text[..m]);
+    print_tried(b"text", lent as u64);
+    match printed {
+        Printed::Written(size) => {
+            io::write_all(STDOUT_FILENO, b": written");
+            print_number(size as u64);
+        }
+        Printed::TooShort(size) => {
+            io::write_all(STDOUT_FILENO, b": too short");
+            print_number(size as u64);
+        }
+    }
+    io::write_all(STDOUT_FILENO, b"\n");
+}
+
+fn main() {
+    try_book(b"fields", 32, 32, 1, 0, 0);
+    try_book(b"fields", 33, 33, 1, 0, 0);
+    try_book(b"codes", 32, 1, 32, 0, 0);
+    try_book(b"codes", 33, 1, 33, 0, 0);
+    try_book(b"tables", 64, 1, 1, 64, 0);
+    try_book(b"tables", 65, 1, 1, 65, 0);
+    try_book(b"rows", 4096, 1, 1, 1, 4096);
+    try_book(b"rows", 4097, 1, 1, 1, 4097);
+    try_length(32768);
+    try_length(32769);
+    try_lent(2048);
+    try_lent(2047);
+    try_text(9634);
+    try_text(9633);
+}
