@@ -126,7 +126,7 @@ pub extern "C" fn sighting_alternatives(
     hand_list(given.alternatives(book, out), sheet, outcome)
 }
 
-// Reads the stored form of a sheet. Cells: place.
+// Reads the stored form of a sheet; a refusal leaves a fresh one. Cells: place.
 #[no_mangle]
 pub extern "C" fn sighting_load(
     sheet: &mut [u8; 32],
@@ -153,7 +153,7 @@ pub extern "C" fn sighting_store(
     hand(given.store(book, out), sheet, outcome)
 }
 
-// A list of calls from a fresh sheet, then the alternatives. Cells: place, total, struck.
+// A list of calls from a fresh sheet, then the alternatives of the sheet so reached, which is handed back. Cells: place, total, struck.
 #[no_mangle]
 pub extern "C" fn sighting_replay(
     sheet: &mut [u8; 32],
@@ -167,7 +167,7 @@ pub extern "C" fn sighting_replay(
     hand_list(sheet::replay(book, calls, out), sheet, outcome)
 }
 
-// The text that the desk prints for a book and a stored sheet. Cells: its length.
+// The text that the desk prints for a book and a stored sheet: 0 where it is written, 18 where it does not fit. Cells: its length, in both.
 #[no_mangle]
 pub extern "C" fn sighting_report(
     book: &[u8],
