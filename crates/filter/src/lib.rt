@@ -14,7 +14,7 @@ mod start;
 mod support;
 
 // The one pass over a view of an accepted book: the marks of all cases, and the number struck.
-pub fn one_pass_over<'a>(book: Book<'a>, answers: &[u8; 32], marks: &mut [u64; 1024]) -> u32
+fn one_pass_over<'a>(book: Book<'a>, answers: &[u8; 32], marks: &mut [u64; 1024]) -> u32
     requires { ⌜ Viewed (now (book .bytes)) (book .list) (book .fields) (book .tables) (book .rows) ⌝ }
     ensures marks { λ r. ⌜ now (marks .exit) ≡ marksOf (bookOf (now (book .entry .bytes))) (casesOf (bookOf (now (book .entry .bytes))) (now (answers .entry))) ⌝ }
     ensures count { λ r. ⌜ r ≡ struck (bookOf (now (book .entry .bytes))) (now (answers .entry)) ⌝ }
@@ -30,7 +30,7 @@ pub fn one_pass_over<'a>(book: Book<'a>, answers: &[u8; 32], marks: &mut [u64; 1
 }
 
 // Plain filtering over a view of an accepted book: a number for each field, bit c of it for code c.
-pub fn plain_over<'a>(book: Book<'a>, answers: &[u8; 32]) -> [u32; 32]
+fn plain_over<'a>(book: Book<'a>, answers: &[u8; 32]) -> [u32; 32]
     requires { ⌜ Viewed (now (book .bytes)) (book .list) (book .fields) (book .tables) (book .rows) ⌝ }
     ensures { λ r. ⌜ r ≡ plainOf (bookOf (now (book .entry .bytes))) (now (answers .entry)) ⌝ }
 {

@@ -7,7 +7,7 @@ use Rattle.format.specs.Format.{bookCounts, bookOf}
 use Rattle.format.specs.Promise.{Promise}
 use Rattle.format.specs.Reading.{Outcome, Verdict, pass, fail, outcome, verdict, reading, checking, Accepted}
 use Rattle.format.proofs.Numbers.{fail-number}
-use Rattle.format.proofs.Refusals.{reading-pass, checking-pass}
+use Rattle.format.proofs.Refusals.{reading-pass}
 use Rattle.format.proofs.Verdict.{verdict-promise, promise-verdict}
 
 -- an outcome whose number is 0 is that of a pass, where a refusal's number is above 0
@@ -30,9 +30,6 @@ module _ (s : List ℕ) where
   pub checked-verdict : checking s .number ≡ 0 → verdict s ≡ pass
   unfolding checking
   checked-verdict e = number-0 (verdict s) _ (fail-number s) e
-
-  pub verdict-checked : verdict s ≡ pass → checking s .number ≡ 0
-  verdict-checked e = ap (λ (o : Outcome). o .number) (sym (checking-pass s (sym e)))
 
   -- what the layers above know of accepted bytes
   pub accepted-promise : Accepted s → Promise s

@@ -8,7 +8,7 @@ use native.Mathlib.Omega.{arith}
 use lib.ListN.{length, getD, drop, length-drop}
 use lib.Seq.{getD-take, getD-drop, length-take-le}
 use Rattle.format.specs.Format.{Table, byte, part, listPlace, fieldCount, tableCount, arityAt, rowsOf, firstRow, tableEnd, rowsAt, tableAt, tablesAt, bookOf}
-use Rattle.format.specs.Promise.{place, fieldAt, codeAt, countAt, Promise}
+use Rattle.format.specs.Promise.{place, fieldAt, codeAt, countAt}
 
 -- what stands behind the end of a list of tables
 abbrev pub noTable : Table
@@ -87,10 +87,6 @@ module _ (s : List ℕ) where
       ⊎-elim (λ e. let d : i ≡ k = omega arith in rw d (le-refl _))
       (λ l. omega (arith, places-rise i k (omega arith)))
       (eq-or-lt-of-le h)
-
-  -- each table stands before the field list
-  pub place-before : Promise s → (i : ℕ) → i < tableCount s → place s i < listPlace s
-  place-before p i h = omega (arith, p .tables i h .ends)
 
   module _ (p : ℕ) where
     -- the table at p has as many rows as it says
