@@ -14,7 +14,7 @@ number-requires : tie.Need-number-requires
 number-requires c κs = search needs
 
 put-refused-requires : tie.Need-put-refused-requires
-put-refused-requires c κs = refused-room (c .before .before .before .before .before .before .before .before .before .args .book .now) (c .before .before .before .before .before .before .before .before .before .args .form .now) (c .before .before .before .before .before .before .before .before .before .args .out .now) _ _ (read-text (c .before .before .before .before .before .before .before .before .before .args .book .now) (c .before .before .before .before .before .before .before .before .before .args .form .now) _ _ _ _ (c .before .before .before .reading .given .1) (c .number .ensures) (c .before .before .before .before .before .read .ensures)) (c .before .before .before .before .before .before .before .before .before .pre)
+put-refused-requires c κs = refused-room (c .before .before .before .before .before .before .before .before .before .args .book .now) (c .before .before .before .before .before .before .before .before .before .args .form .now) (c .before .before .before .before .before .before .before .before .before .args .out .now) _ _ (read-text (c .before .before .before .before .before .before .before .before .before .args .book .now) (c .before .before .before .before .before .before .before .before .before .args .form .now) _ _ _ _ (c .before .before .before .reading .given .1) (c .before .number .ensures) (c .before .before .before .before .before .read .ensures)) (c .before .before .before .before .before .before .before .before .before .pre)
 
 enum-known-reading-2 : tie.Need-enum-known-reading-2
 enum-known-reading-2 c = search needs
@@ -29,7 +29,7 @@ number-requires-2 : tie.Need-number-requires-2
 number-requires-2 c κs = search needs
 
 put-refused-requires-2 : tie.Need-put-refused-requires-2
-put-refused-requires-2 c κs = refused-room (c .before .before .before .before .before .before .before .before .before .before .before .before .before .before .args .book .now) (c .before .before .before .before .before .before .before .before .before .before .before .before .before .before .args .form .now) (c .before .before .before .before .before .before .before .before .before .before .before .before .before .before .args .out .now) _ _ (load-text (c .before .before .before .before .before .before .before .before .before .before .before .before .before .before .args .book .now) (c .before .before .before .before .before .before .before .before .before .before .before .before .before .before .args .form .now) (c .before .before .before .before .before .before .load .result) _ _ _ (c .before .before .before .answer .given .1) (c .number2 .ensures) (c .before .before .before .before .before .before .load .ensures)) (c .before .before .before .before .before .before .before .before .before .before .before .before .before .before .pre)
+put-refused-requires-2 c κs = refused-room (c .before .before .before .before .before .before .before .before .before .before .before .before .before .before .args .book .now) (c .before .before .before .before .before .before .before .before .before .before .before .before .before .before .args .form .now) (c .before .before .before .before .before .before .before .before .before .before .before .before .before .before .args .out .now) _ _ (load-text (c .before .before .before .before .before .before .before .before .before .before .before .before .before .before .args .book .now) (c .before .before .before .before .before .before .before .before .before .before .before .before .before .before .args .form .now) (c .before .before .before .before .before .before .load .result) _ _ _ (c .before .before .before .answer .given .1) (c .before .number2 .ensures) (c .before .before .before .before .before .before .load .ensures)) (c .before .before .before .before .before .before .before .before .before .before .before .before .before .before .pre)
 
 enum-told : tie.Need-enum-told
 enum-told c = search needs
@@ -47,13 +47,13 @@ same-length : tie.Need-same-length
 same-length c = search needs
 
 returns : tie.Need-returns
-returns c = refused-puts (c .before .before .before .before .before .before .before .before .before .before .before .before .args .book .now) (c .before .before .before .before .before .before .before .before .before .before .before .before .args .form .now) (c .before .before .before .before .before .before .before .before .before .before .before .before .args .out .now) _ _ (read-text (c .before .before .before .before .before .before .before .before .before .before .before .before .args .book .now) (c .before .before .before .before .before .before .before .before .before .before .before .before .args .form .now) _ _ _ _ (c .before .before .before .before .before .before .reading .given .1) (c .before .before .before .number .ensures) (c .before .before .before .before .before .before .before .before .read .ensures)) (c .before .before .put-refused .ensures)
+returns c = refused-puts (c .before .before .before .before .before .before .before .before .before .before .before .before .args .book .now) (c .before .before .before .before .before .before .before .before .before .before .before .before .args .form .now) (c .before .before .before .before .before .before .before .before .before .before .before .before .args .out .now) _ _ (read-text (c .before .before .before .before .before .before .before .before .before .before .before .before .args .book .now) (c .before .before .before .before .before .before .before .before .before .before .before .before .args .form .now) _ _ _ _ (c .before .before .before .before .before .before .reading .given .1) (c .before .before .before .before .number .ensures) (c .before .before .before .before .before .before .before .before .read .ensures)) (c .before .before .put-refused .ensures)
 
 same-length-2 : tie.Need-same-length-2
 same-length-2 c = search needs
 
 returns-2 : tie.Need-returns-2
-returns-2 c = refused-puts (c .before .before .before .before .before .before .before .before .before .before .before .before .before .before .before .before .before .args .book .now) (c .before .before .before .before .before .before .before .before .before .before .before .before .before .before .before .before .before .args .form .now) (c .before .before .before .before .before .before .before .before .before .before .before .before .before .before .before .before .before .args .out .now) _ _ (load-text (c .before .before .before .before .before .before .before .before .before .before .before .before .before .before .before .before .before .args .book .now) (c .before .before .before .before .before .before .before .before .before .before .before .before .before .before .before .before .before .args .form .now) (c .before .before .before .before .before .before .before .before .before .load .result) _ _ _ (c .before .before .before .before .before .before .answer .given .1) (c .before .before .before .number2 .ensures) (c .before .before .before .before .before .before .before .before .before .load .ensures)) (c .before .before .put-refused2 .ensures)
+returns-2 c = refused-puts (c .before .before .before .before .before .before .before .before .before .before .before .before .before .before .before .before .before .args .book .now) (c .before .before .before .before .before .before .before .before .before .before .before .before .before .before .before .before .before .args .form .now) (c .before .before .before .before .before .before .before .before .before .before .before .before .before .before .before .before .before .args .out .now) _ _ (load-text (c .before .before .before .before .before .before .before .before .before .before .before .before .before .before .before .before .before .args .book .now) (c .before .before .before .before .before .before .before .before .before .before .before .before .before .before .before .before .before .args .form .now) (c .before .before .before .before .before .before .before .before .before .load .result) _ _ _ (c .before .before .before .before .before .before .answer .given .1) (c .before .before .before .before .number2 .ensures) (c .before .before .before .before .before .before .before .before .before .load .ensures)) (c .before .before .put-refused2 .ensures)
 
 same-length-3 : tie.Need-same-length-3
 same-length-3 c = search needs
