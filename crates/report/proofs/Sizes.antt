@@ -149,7 +149,7 @@ module _ (b : Book) (w : Within b) (s : List ℕ) where
 -- ---- any text
 
 -- the text of a refusal
-refused-short : (number place : ℕ) → length (refusedText number place) ≤ textLimit
+pub refused-short : (number place : ℕ) → length (refusedText number place) ≤ textLimit
 refused-short number place =
     omega (arith, line-short refusedWord (number ∷ place ∷ []) (20 ∷ 20 ∷ []) (long number, (long place, tt)))
 

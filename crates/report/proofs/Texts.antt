@@ -26,7 +26,7 @@ use Rattle.report.specs.Text.{spaced, bookWord, sheetText, acceptedText,
 use Rattle.report.specs.Report.{textLimit}
 use Rattle.report.specs.Writes.{Room, Puts}
 use Rattle.report.specs.Held.{Stands}
-use Rattle.report.proofs.Sizes.{text-fits}
+use Rattle.report.proofs.Sizes.{refused-short, text-fits}
 use Rattle.report.proofs.Writing.{puts-then, room-first, room-then}
 
 -- a refusal of reading is a verdict
@@ -36,6 +36,10 @@ outcome-refused (fail number place) counts k n p l e =
     let a : n ≡ number = ap (λ (o : Outcome). o .number) e in
     let b : p ≡ place = ap (λ (o : Outcome). o .place) e in
     cc
+
+-- room for any text is room for a refusal's
+pub refused-room : (o : List ℕ) (n p : ℕ) → textLimit ≤ length o → Room o 0 (refusedText n p)
+refused-room o n p m = omega (arith, refused-short n p)
 
 module _ (bytes form : List ℕ) where
   -- room for any text is room for this one
@@ -69,13 +73,10 @@ module _ (bytes form : List ℕ) where
       subst (λ (k : ℕ). reportText bytes form ≡ refusedText k p) (sym m)
       (load-refused (numberOf reason) p (number-some reason) (sym (ap shown e) ∙ ap (λ (x : Result). x .outcome) h))
 
-  module _ (o : List ℕ) (n p : ℕ) (e : reportText bytes form ≡ refusedText n p) where
-    -- its room, and the text once it is written
-    pub refused-room : textLimit ≤ length o → Room o 0 (refusedText n p)
-    refused-room m = subst (Room o 0) e (text-room o m)
-
-    pub refused-puts : {o′ : List ℕ} {r : ℕ} → Puts o 0 (refusedText n p) o′ r → Puts o 0 (reportText bytes form) o′ r
-    refused-puts {o′} {r} q = subst (λ (t : List ℕ). Puts o 0 t o′ r) (sym e) q
+  -- the text, once it is written
+  pub refused-puts : (o : List ℕ) (n p : ℕ) → reportText bytes form ≡ refusedText n p → {o′ : List ℕ} {r : ℕ} → Puts o 0 (refusedText n p) o′ r
+      → Puts o 0 (reportText bytes form) o′ r
+  refused-puts o n p e {o′} {r} q = subst (λ (t : List ℕ). Puts o 0 t o′ r) (sym e) q
 
   -- ---- accepted
 

@@ -66,11 +66,10 @@ fn put_text(out: &mut [u8], book: &[u8], form: &[u8]) -> usize
 {
     let reading = book::read(book);
     match reading {
-        Reading::Refused(kind, place) => parts::put_refused(
-            out,
-            book::number(kind) as usize,
-            place,
-        ),
+        Reading::Refused(kind, byte) => {
+            let number = book::number(kind) as usize;
+            parts::put_refused(out, number, byte)
+        }
         Reading::Accepted {
             fields,
             tables,
@@ -81,11 +80,10 @@ fn put_text(out: &mut [u8], book: &[u8], form: &[u8]) -> usize
             let answer = loaded.answer;
             let held = loaded.sheet;
             match answer {
-                Answer::Refused(reason, place) => parts::put_refused(
-                    out,
-                    sheet::number(reason) as usize,
-                    place,
-                ),
+                Answer::Refused(reason, place) => {
+                    let number = sheet::number(reason) as usize;
+                    parts::put_refused(out, number, place)
+                }
                 Answer::Done => {
                     let at = parts::put_book(out, fields, tables, rows, different);
                     put_held(out, at, book, held, fields)

@@ -37,10 +37,14 @@ slice-aggregate-put-sheet-3 : tie.Need-slice-aggregate-put-sheet-3
 slice-aggregate-put-sheet-3 c = search needs
 
 put-sheet-requires : tie.Need-put-sheet-requires
-put-sheet-requires c κs = let long : length (c .before .before .before .before .before .before .before .before .before .before .before .before .before .before .before .before .args .held .places) ≡ 32 = search needs in (
-  lists-fit _ _ _ (c .before .before .before .before .before .before .before .before .before .before .before .before .before .before .before .before .pre .0) (c .before .before .before .before .before .before .before .before .before .before .before .before .alternatives .result) _ (c .before .before .before .before .before .before .before .before .before .before .before .before .alternatives .ensures) _ _ (c .before .before .before .before .before .listing .given .1) (c .before .before .before .before .before .before .before .before .before .filtered .result) _ (c .before .before .before .before .before .before .before .before .before .filtered .ensures) long,
-  part-room _ _ _ (c .before .before .before .before .before .before .before .before .before .before .before .before .before .before .before .before .pre .0) (c .before .before .before .before .before .before .before .before .before .before .before .before .alternatives .result) _ (c .before .before .before .before .before .before .before .before .before .before .before .before .alternatives .ensures) _ _ (c .before .before .before .before .before .listing .given .1) (c .before .before .before .before .before .before .before .before .before .filtered .result) _ (c .before .before .before .before .before .before .before .before .before .filtered .ensures) (c .before .before .before .before .before .before .before .before .before .before .before .before .before .before .before .before .args .out .now) _ (c .before .before .before .before .before .before .before .before .before .before .before .before .before .before .before .before .pre .1),
-)
+put-sheet-requires c κs = let long : length (c .before .before .before .before .before .before .before .before .before .before .before .before .before .before .before .before .args .held .places) ≡ 32 = search needs in
+    let start = (c .before .before .before .before .before .before .before .before .before .before .before .before .before .before .before .before .pre) in
+    let l = (c .before .before .before .before .before .before .before .before .before .before .before .before .alternatives) in
+    let f = (c .before .before .before .before .before .before .before .before .before .filtered) in
+    let told = c .before .before .before .before .before .listing .given .1 in (
+      lists-fit _ _ _ (start .0) (l .result) _ (l .ensures) _ _ told (f .result) _ (f .ensures) long,
+      part-room _ _ _ (start .0) (l .result) _ (l .ensures) _ _ told (f .result) _ (f .ensures) (c .before .before .before .before .before .before .before .before .before .before .before .before .before .before .before .before .args .out .now) _ (start .1),
+    )
 
 returns : tie.Need-returns
 returns c = absurd (lists-accept _ _ _ (c .before .before .before .before .before .before .before .before .before .before .before .pre .0) (c .before .before .before .before .before .before .before .alternatives .result) _ (c .before .before .before .before .before .before .before .alternatives .ensures) _ _ (c .enum-told .given .1))
@@ -49,7 +53,9 @@ same-length : tie.Need-same-length
 same-length c = search needs
 
 returns-2 : tie.Need-returns-2
-returns-2 c = part-puts _ _ _ (c .before .before .before .before .before .before .before .before .before .before .before .before .before .before .before .before .before .before .before .pre .0) (c .before .before .before .before .before .before .before .before .before .before .before .before .before .before .before .alternatives .result) _ (c .before .before .before .before .before .before .before .before .before .before .before .before .before .before .before .alternatives .ensures) _ _ (c .before .before .before .before .before .before .before .before .listing .given .1) (c .before .before .before .before .before .before .before .before .before .before .before .before .filtered .result) _ (c .before .before .before .before .before .before .before .before .before .before .before .before .filtered .ensures) _ _ (c .before .before .put-sheet .ensures)
+returns-2 c = let l = (c .before .before .before .before .before .before .before .before .before .before .before .before .before .before .before .alternatives) in
+    let f = (c .before .before .before .before .before .before .before .before .before .before .before .before .filtered) in
+    part-puts _ _ _ (c .before .before .before .before .before .before .before .before .before .before .before .before .before .before .before .before .before .before .before .pre .0) (l .result) _ (l .ensures) _ _ (c .before .before .before .before .before .before .before .before .listing .given .1) (f .result) _ (f .ensures) _ _ (c .before .before .put-sheet .ensures)
 
 pub put-held-spec : {M : Type 1} → statement M
 put-held-spec =
