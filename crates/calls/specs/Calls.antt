@@ -10,7 +10,7 @@ use Rattle.format.specs.Reading.{Outcome, refused, accepted, Verdict, pass, fai
 use Rattle.consistency.specs.Consistency.{places, codes, answer, relax}
 use Rattle.consistency.specs.Counts.{total, struck, lines, lineBytes, masks}
 
--- what a call leaves behind: its answer, "the sheet handed back", and the contents of the buffer lent (none lent: [])
+-- what a call leaves behind: its answer, the sheet handed back, and the contents of the buffer lent (none lent: [])
 pub record Result : Type 0 where
   pub outcome : Outcome
   pub sheet : List ℕ

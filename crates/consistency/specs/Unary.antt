@@ -5,7 +5,7 @@ use Rattle.format.specs.Format.{Table, Book}
 use Rattle.consistency.specs.Consistency.{answer}
 use Rattle.consistency.specs.Counts.{relaxable}
 
--- "field f has this code", as a table
+-- field f has its answered code, as a table
 abbrev pub answerTable : List ℕ → ℕ → Table
 answerTable a f = record { fields = f ∷ []; rows = (answer a f ∷ []) ∷ [] }
 

@@ -3,7 +3,7 @@ use mathlib.Core.Path.{_≡_, refl, sym, ap, subst, _∙_}
 use mathlib.Core.Logic.{_⊎_, inl, inr}
 use mathlib.Core.Bool.{Bool, true, false, not}
 use mathlib.Core.List.{List}
-use Prim.Native.Nat.{ℕ, zero, suc, _+_, _-_, _≤_, _<_}
+use Prim.Native.Nat.{ℕ, suc, _+_, _-_, _≤_, _<_}
 use native.Mathlib.Nat.{not-suc-le-zero}
 use native.Mathlib.Decide.{decLt}
 use native.Mathlib.Omega.{arith}
@@ -17,6 +17,7 @@ use Rattle.consistency.proofs.Booleans.{below-suc}
 use Rattle.filter.specs.Words.{wordAt}
 use Rattle.filter.specs.Asks.{Looks, Counted, needing}
 use Rattle.filter.proofs.Tallies.{many-change, many-none}
+use Rattle.filter.proofs.Lists.{zeros}
 
 -- ---- how many codes have a case
 
@@ -79,11 +80,6 @@ module _ {need : List ℕ} {waiting : ℕ} (k : Counted need waiting) (c w : ℕ
 -- no code yet
 pub looks-none : (M : List ℕ) (f : ℕ) → Looks M f 0 (replicate codeLimit 0)
 looks-none M f = record { words = λ c l. absurd (not-suc-le-zero l); beyond = λ c l. zeros codeLimit c }
-  where
-    zeros : (n c : ℕ) → getD {A = ℕ} (replicate n 0) c 0 ≡ 0
-    zeros zero c = refl
-    zeros (suc n) zero = refl
-    zeros (suc n) (suc c) = zeros n c
 
 -- no code has a case yet
 pub counted-none : Counted (replicate codeLimit 0) 0

@@ -8,7 +8,7 @@ use Rattle.consistency.specs.Consistency.{places, relax}
 use Rattle.consistency.specs.Largest.{largest}
 use Rattle.consistency.specs.Counts.{outside, relaxable, mask}
 
--- "n+1 cases: nothing lifted, then each answered field lifted by itself", as the answers of each case
+-- "n+1 cases .. nothing lifted, then each answered field lifted by itself", as the answers of each case
 abbrev pub casesOf : Book → List ℕ → List (List ℕ)
 casesOf b a = a ∷ map (relax a) (relaxable b a)
 

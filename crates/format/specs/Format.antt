@@ -58,7 +58,7 @@ abbrev pub flat : List (List ℕ) → List ℕ
 flat [] = []
 flat (r ∷ rs) = r ++ flat rs
 
--- "A table is: one byte A, its number of fields; A bytes, field numbers; two bytes, its number of rows; then the rows of A codes each"
+-- "A table is: one byte A, its number of fields .. A bytes, field numbers .. two bytes, its number of rows .. then the rows of A codes each"
 unfoldable pub tableBytes : Table → List ℕ
 tableBytes t = length (t .fields) ∷ (t .fields ++ (word (length (t .rows)) ++ flat (t .rows)))
 
