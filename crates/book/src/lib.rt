@@ -1,6 +1,8 @@
 // The reader: whether bytes are a book, and what is counted in it. Document 01, "The book's bytes" and "When a call is turned down".
 ghost use mathlib.Core.Path.{_≡_};
+ghost use mathlib.Core.Logic.{_↔_};
 ghost use Rattle.format.specs.Reading.{reading, checking};
+ghost use Rattle.format.specs.Layout.{HasLayout};
 ghost use Rattle.book.specs.Shown.{numberOf, shown, shownCheck};
 ghost use Rattle.book.specs.View.{viewOf};
 
@@ -126,7 +128,8 @@ pub fn check(book: &[u8]) -> Checked
 
 // Checks the book, then counts its different rows.
 pub fn read(book: &[u8]) -> Reading
-    ensures { λ r. ⌜ shown r ≡ reading (now (book .entry)) ⌝ }
+    ensures answer { λ r. ⌜ shown r ≡ reading (now (book .entry)) ⌝ }
+    ensures layout { λ r. ⌜ shown r .number ≡ 0 ↔ HasLayout (now (book .entry)) ⌝ }
 {
     let checked = check(book);
     match checked {

@@ -14,3 +14,4 @@ pub mod Instances
 pub mod Held
 pub mod Agreement
 pub mod Stored
+pub mod Kept

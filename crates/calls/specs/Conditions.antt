@@ -171,6 +171,13 @@ pub record Lists (b : Book) (a : Answers) (S : Answer → Subdomain) (o : List �
   pub written : r .buffer ≡ lineBytes list ++ drop (2 * length list) o
   pub sheet : r .sheet ≡ sheetOf a
 
+-- "Bytes enough are 2 × the sum in condition 3, or more": what alternatives then answers behind the calls, r, with o lent
+abbrev pub ListsAfter : Book → List Call → List ℕ → Result → Type 0
+ListsAfter b calls o r =
+    (S : Answer → Subdomain) → Cases b (answersAfter b calls) S
+    → 2 * theSum b (answersAfter b calls) S ≤ length o
+    → Lists b (answersAfter b calls) S o r
+
 pub record AfterCalls (bytes : List ℕ) (calls : List Call) (o : List ℕ) : Type 0 where
   -- each call is accepted, or refused by 15, 16 or 17, as the answers after the calls before it say
   pub verdicts : numbers (results bytes freshSheet calls) ≡ refusalsFrom (bookOf bytes) noAnswers calls
@@ -179,10 +186,7 @@ pub record AfterCalls (bytes : List ℕ) (calls : List Call) (o : List ℕ) : Ty
   pub open-are : (S : Subdomain) → IsLargest (bookOf bytes) (sheetOf (answersAfter (bookOf bytes) calls)) S
       → (f c : ℕ) → f < length (bookOf bytes .counts) → T (not (given (answersAfter (bookOf bytes) calls f)))
       → Shows (filtered bytes (sheetAfter bytes calls) 255 (replicate (length (bookOf bytes .counts)) 0) .buffer) f c ↔ T (S f c)
-  -- "Bytes enough are 2 × the sum in condition 3, or more"
-  pub alternatives-are : (S : Answer → Subdomain) → Cases (bookOf bytes) (answersAfter (bookOf bytes) calls) S
-      → 2 * theSum (bookOf bytes) (answersAfter (bookOf bytes) calls) S ≤ length o
-      → Lists (bookOf bytes) (answersAfter (bookOf bytes) calls) S o (alternatives bytes (sheetAfter bytes calls) o)
+  pub alternatives-are : ListsAfter (bookOf bytes) calls o (alternatives bytes (sheetAfter bytes calls) o)
 
 -- "alike books give the same": for each call of the list number, place, counts and sheet; then total, lines, struck count and buffer
 pub record SameResults (bytes bytes′ : List ℕ) (calls : List Call) (o : List ℕ) : Type 0 where

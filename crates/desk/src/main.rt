@@ -33,6 +33,9 @@ fn main() {
     let form_length = read_file(b"sheet.bin", &mut form);
     let printed = report::report(&book[..book_length], &form[..form_length], &mut text);
     if let Printed::Written(length) = printed {
-        io::write_all(STDOUT_FILENO, &text[..length]);
+        // A program has no exit status of its own: bin/desk makes one of what is said here.
+        if !io::write_all(STDOUT_FILENO, &text[..length]) {
+            os::fail(b"desk");
+        }
     }
 }

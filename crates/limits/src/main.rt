@@ -164,9 +164,8 @@ fn try_text(lent: usize) {
             io::write_all(STDOUT_FILENO, b": written");
             print_number(size as u64);
         }
-        Printed::TooShort(size) => {
+        Printed::TooShort => {
             io::write_all(STDOUT_FILENO, b": too short");
-            print_number(size as u64);
         }
     }
     io::write_all(STDOUT_FILENO, b"\n");

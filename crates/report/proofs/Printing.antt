@@ -1,15 +1,14 @@
 -- Copying the text to the buffer where it fits, and reading it there. Assumes nothing.
 use mathlib.Core.Path.{_≡_, sym, ap, _∙_}
-use mathlib.Core.Bool.{Bool, true}
 use mathlib.Core.List.{List, _++_}
 use Prim.Native.Nat.{ℕ, _+_, _≤_, _<_}
 use native.Mathlib.Nat.{zero-add}
 use native.Mathlib.Omega.{arith}
-use borrow.Author.Tests.{le-leb, lt-leb}
-use lib.ListN.{length, take, drop, length-append}
+use borrow.Author.Tests.{lt-ltb, le-ltb}
+use lib.ListN.{length, getD, take, drop, length-append}
 use lib.Seq.{sets, sets-eq, take-at}
-use lib.Dec.{leb}
-use Rattle.format.specs.Basics.{pick}
+use lib.Dec.{ltb}
+use Rattle.format.proofs.Picks.{pick-second}
 use Rattle.report.specs.Report.{Printing, printing, shown}
 use Rattle.report.specs.Writes.{Puts}
 use Rattle.report.specs.declared.Printed.{Printed}
@@ -28,9 +27,9 @@ module _ (text z z′ : List ℕ) (n : ℕ) (p : Puts z 0 text z′ n) where
   size = p .behind ∙ zero-add (length text)
 
   -- it does not fit in o
-  pub too-short : (o : List ℕ) → length o < n → shown (TooShort n) o ≡ printing text o
+  pub too-short : (o : List ℕ) → length o < n → shown TooShort o ≡ printing text o
   unfolding printing
-  too-short o l = rw (size, lt-leb (length text) (length o) (omega (arith, size)))
+  too-short o l = rw (lt-ltb (length o) (length text) (omega (arith, size)))
 
   module _ (room : length text ≤ length z) where
     -- its first n bytes are the text
@@ -47,7 +46,7 @@ module _ (text z z′ : List ℕ) (n : ℕ) (p : Puts z 0 text z′ n) where
     copied o o′ r l q =
         let l′ : length text ≤ length o = omega (arith, size) in
         let e : o′ ≡ text ++ drop (length text) o = q .written ∙ ap (λ (t : List ℕ). sets o 0 t) composed ∙ from-start o text l′ in
-        rw (size, e, le-leb (length text) (length o) l′)
+        rw (size, e, le-ltb (length o) (length text) l′)
 
 -- a text that was written stands at the start of the buffer: what a caller that reads it there needs
 pub written-counts : (text o o′ : List ℕ) (r : Printed) (n : ℕ) → r ≡ Written n → shown r o′ ≡ printing text o
@@ -55,9 +54,8 @@ pub written-counts : (text o o′ : List ℕ) (r : Printed) (n : ℕ) → r ≡ 
 unfolding printing
 written-counts text o o′ r n w h =
     let e : shown (Written n) o′ ≡ printing text o = sym (ap (λ (x : Printed). shown x o′) w) ∙ h in
-    let long : n ≡ length text = ap (λ (p : Printing). p .size) e in
-    let fits : leb (length text) (length o) ≡ true = sym (ap (λ (p : Printing). p .fits) e) in
-    let whole : o′ ≡ text ++ drop (length text) o =
-    ap (λ (p : Printing). p .buffer) e ∙ ap (λ (t : Bool). pick t (text ++ drop (length text) o) o) fits in
-    let first : take n o′ ≡ text = ap (take n) whole ∙ take-at text (drop (length text) o) n (sym long) in
-    (omega (arith, ap length whole, length-append text (drop (length text) o)), long ∙ ap length (sym first))
+    let written = pick-second (ltb (length o) (length text)) (λ (d : shown TooShort o ≡ shown (Written n) o′). omega (arith, ap (λ (p : Printing). p .outcome .number) d)) (sym e) .1 in
+    let long : length text ≡ n = ap (λ (p : Printing). getD (p .outcome .counts) 0 0) written in
+    let whole : text ++ drop (length text) o ≡ o′ = ap (λ (p : Printing). p .buffer) written in
+    let first : take n o′ ≡ text = ap (take n) (sym whole) ∙ take-at text (drop (length text) o) n long in
+    (omega (arith, ap length whole, length-append text (drop (length text) o)), sym long ∙ ap length (sym first))

@@ -3,12 +3,13 @@
 use Prim.Native.Nat.{ℕ, _≤_, _<_}
 use mathlib.Core.Path.{_≡_}
 use mathlib.Core.Logic.{_↔_}
-use mathlib.Core.Bool.{Bool, true, false, not}
-use mathlib.Core.List.{List, _++_}
+use mathlib.Core.Bool.{not}
+use mathlib.Core.List.{List, [], _∷_, _++_}
 use lib.ListN.{length, drop}
-use lib.Dec.{T, leb}
+use lib.Dec.{T, ltb}
 use Rattle.format.specs.Basics.{pick}
 use Rattle.format.specs.Format.{Book}
+use Rattle.format.specs.Reading.{Outcome, refused, accepted}
 use Rattle.consistency.specs.Consistency.{Subdomain, IsLargest}
 use Rattle.consistency.specs.Counts.{answered, Line, lines, total}
 use Rattle.consistency.specs.Order.{In, InOrder}
@@ -38,22 +39,19 @@ textLimit = 11305
 abbrev pub TextFits : Type 0
 TextFits = (bytes form : List ℕ) → length (reportText bytes form) ≤ textLimit
 
--- what report leaves: whether the text fits in the buffer, how long it is, and the buffer's contents
+-- what report leaves: its answer, and the buffer's contents
 pub record Printing : Type 0 where
-  pub fits : Bool
-  pub size : ℕ
+  pub outcome : Outcome
   pub buffer : List ℕ
 
--- a text that fits stands before what o keeps; one that does not leaves o as it was
+-- a text that fits stands before what o keeps, and its length is counted; 18, too few bytes lent, leaves o as it was
 unfoldable pub printing : List ℕ → List ℕ → Printing
 printing text o =
-    record {
-      fits = leb (length text) (length o);
-      size = length text;
-      buffer = pick (leb (length text) (length o)) (text ++ drop (length text) o) o;
-    }
+    pick (ltb (length o) (length text))
+    (record { outcome = refused 1 18 0; buffer = o })
+    (record { outcome = accepted (length text ∷ []); buffer = text ++ drop (length text) o })
 
 -- the answer of report, with the buffer's contents
 abbrev pub shown : Printed → List ℕ → Printing
-shown (Written n) o = record { fits = true; size = n; buffer = o }
-shown (TooShort n) o = record { fits = false; size = n; buffer = o }
+shown (Written n) o = record { outcome = accepted (n ∷ []); buffer = o }
+shown TooShort o = record { outcome = refused 1 18 0; buffer = o }

@@ -24,12 +24,12 @@ const PAIR_BYTES: usize = 2048;
 
 const FIELDS: usize = 32;
 
-const NONE_RELAXED: u8 = 255;
+const NONE_RELAXED: usize = 255;
 
-// The text's length, and whether it was written.
+// The length of the text that was written; or 18, too few bytes lent.
 pub enum Printed {
     Written(usize),
-    TooShort(usize),
+    TooShort,
 }
 
 // The sheet's line, the lines of alternatives and the open lines, of a book and a sheet that pass.
@@ -100,7 +100,7 @@ pub fn report(book: &[u8], form: &[u8], out: &mut [u8]) -> Printed
     let mut text = [0; TEXT_LIMIT];
     let length = put_text(&mut text, book, form);
     if out.len() < length {
-        return Printed::TooShort(length);
+        return Printed::TooShort;
     }
     writers::put_word(out, 0, &text[..length]);
     Printed::Written(length)

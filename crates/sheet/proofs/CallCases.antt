@@ -10,7 +10,7 @@ use Rattle.format.specs.Reading.{fail}
 use Rattle.consistency.specs.Consistency.{places, answer}
 use Rattle.calls.specs.Calls.{turned, done, entered, withdrawn, stored}
 use Rattle.sheet.specs.Opened.{opening}
-use Rattle.sheet.proofs.Openings.{fields-count, fields-few, codes-at, on-ready, on-turned, IsOpen}
+use Rattle.sheet.proofs.Openings.{fields-count, fields-few, codes-at, codes-few, on-ready, on-turned, IsOpen}
 use Rattle.sheet.proofs.Places.{answer-at}
 
 -- ---- enter
@@ -34,6 +34,10 @@ module _ (bytes s : List ℕ) (f c : ℕ) where
       entered-16 k =
           on-ready 0 bytes s [] _ (o .passes) _
           (simp (fields-count bytes list fields (o .at), lt-ltb f fields h, codes-at bytes list fields (o .at) f h, le-ltb c (byte bytes (list + f)) k))
+
+      -- a code of the field is a byte
+      pub entered-byte : c < byte bytes (list + f) → c < 256
+      entered-byte k = omega (arith, codes-few bytes list fields (o .at) f h)
 
       -- the field has that code as its answer
       pub entered-done : c < byte bytes (list + f) → done [] (set s f c) [] ≡ entered bytes s f c

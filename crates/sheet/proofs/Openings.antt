@@ -6,7 +6,7 @@ use native.Mathlib.Omega.{arith}
 use lib.Dec.{ltb, eqb}
 use lib.ListN.{length, List·getD-eq-default}
 use borrow.Author.Tests.{lt-ltb, le-ltb}
-use Rattle.format.specs.Format.{Book, byte, versionOf, bookOf}
+use Rattle.format.specs.Format.{Book, codeLimit, byte, versionOf, bookOf}
 use Rattle.format.specs.Reading.{Outcome, refused, Verdict, pass, fail, andThen, verdict, outcome, checking}
 use Rattle.format.proofs.Picks.{pick-holds, pick-first, pick-second}
 use Rattle.format.proofs.Trailer.{fail≢pass}
@@ -76,6 +76,12 @@ module _ (bytes : List ℕ) (list fields : ℕ) (at : FieldsAt bytes list fields
   -- a field's number of codes stands in the field list
   pub codes-at : (f : ℕ) → f < fields → codes (bookOf bytes) f ≡ byte bytes (list + f)
   codes-at f h = counts-view bytes f (omega (arith, at .fields-is)) ∙ ap (λ (l : ℕ). byte bytes (l + f)) (sym (at .list-is))
+
+  -- and is at most the limit
+  pub codes-few : (f : ℕ) → f < fields → byte bytes (list + f) ≤ codeLimit
+  codes-few f h =
+      let few = verdict-promise bytes (at .passes) .sized f (omega (arith, at .fields-is)) .1 in
+      subst (λ (l : ℕ). byte bytes (l + f) ≤ codeLimit) (sym (at .list-is)) few
 
   -- what is no field has no codes
   pub codes-none : (f : ℕ) → fields ≤ f → codes (bookOf bytes) f ≡ 0

@@ -1,25 +1,40 @@
--- Condition 3 of the running code: what `replay` left behind, by its contract, is what the definitions give. Assumes nothing.
-use Prim.Native.Nat.{ℕ, _*_, _≤_}
-use mathlib.Core.Path.{_≡_, sym, subst}
-use mathlib.Core.List.{List}
-use lib.ListN.{length}
+-- Condition 3 of the running code: what `replay` left behind, and what a caller's own run of the methods answered, by their contracts. Assumes nothing.
+use Prim.Native.Nat.{ℕ}
+use mathlib.Core.Path.{_≡_, refl, sym, subst, ap, ap₂, _∙_}
+use mathlib.Core.List.{List, [], _∷_, map}
 use Rattle.format.specs.Format.{bookOf}
-use Rattle.format.specs.Reading.{Accepted}
-use Rattle.consistency.specs.Consistency.{Subdomain}
-use Rattle.calls.specs.Calls.{Result, alternatives}
-use Rattle.calls.specs.Histories.{Answer, callsIn, answersAfter, sheetAfter}
-use Rattle.calls.specs.Conditions.{Cases, theSum, Lists}
+use Rattle.calls.specs.Calls.{Result, freshSheet, alternatives}
+use Rattle.calls.specs.Histories.{Call, results, sheetThrough, sheetAfter}
+use Rattle.calls.specs.Conditions.{ListsAfter}
 use Rattle.calls.proofs.Condition3.{condition3}
-use Rattle.sheet.specs.Shown.{listResultOf}
-use Rattle.sheet.specs.declared.HandedList.{HandedList}
+use Rattle.sheet.specs.Shown.{resultOf}
+use Rattle.sheet.specs.Replayed.{Replayed, Run, ends, goes-on, RunIs}
+use Rattle.sheet.specs.declared.Handed.{Handed}
 
--- r and o′ are what `replay` answers and leaves in the bytes lent, which were o: for an accepted book, any list of calls, and bytes enough
-pub replay-lists : (bytes calls o o′ : List ℕ) (r : HandedList)
-    → listResultOf r o′ ≡ alternatives bytes (sheetAfter bytes (callsIn calls)) o
-    → Accepted bytes
-    → (S : Answer → Subdomain) → Cases (bookOf bytes) (answersAfter (bookOf bytes) (callsIn calls)) S
-    → 2 * theSum (bookOf bytes) (answersAfter (bookOf bytes) (callsIn calls)) S ≤ length o
-    → Lists (bookOf bytes) (answersAfter (bookOf bytes) (callsIn calls)) S o (listResultOf r o′)
-replay-lists bytes calls o o′ r e accepted S cases enough =
-    subst (λ (x : Result). Lists (bookOf bytes) (answersAfter (bookOf bytes) (callsIn calls)) S o x) (sym e)
-    (condition3 .after-calls bytes accepted (callsIn calls) o .alternatives-are S cases enough)
+-- alternatives on the sheet after the calls is what condition 3 says
+pub replayed : (bytes : List ℕ) (calls : List Call) (o : List ℕ) (r : Result)
+    → r ≡ alternatives bytes (sheetAfter bytes calls) o → Replayed bytes calls o r
+replayed bytes calls o r e =
+    record {
+      lists = λ ok. subst (ListsAfter (bookOf bytes) calls o) (sym e) (condition3 .after-calls bytes ok calls o .alternatives-are);
+      alike = λ bytes′ ok ok′ p. e ∙ condition3 .alike bytes bytes′ ok ok′ p calls o .alternatives-same;
+    }
+
+-- a run from any sheet
+run-from : {bytes s t : List ℕ} {calls : List Call} {rs : List Handed} → Run bytes s calls rs t
+    → (map (λ (r : Handed). resultOf r []) rs ≡ results bytes s calls) × (t ≡ sheetThrough bytes s calls)
+unfolding results sheetThrough
+run-from ends = (refl, refl)
+run-from {bytes = bytes} {calls = _ ∷ calls} (goes-on e w) =
+    let i = run-from w in (
+      ap₂ (λ (x : Result) (y : List Result). x ∷ y) e (i .0 ∙ ap (λ (x : Result). results bytes (x .sheet) calls) e),
+      i .1 ∙ ap (λ (x : Result). sheetThrough bytes (x .sheet) calls) e,
+    )
+
+pub run-is : {bytes t : List ℕ} {calls : List Call} {rs : List Handed} → Run bytes freshSheet calls rs t → RunIs bytes calls rs t
+run-is w = let i = run-from w in record { answers = i .0; sheet = i .1 }
+
+-- so alternatives on the sheet that a run reached is what condition 3 says
+pub run-lists : {bytes t : List ℕ} {calls : List Call} {rs : List Handed} → Run bytes freshSheet calls rs t
+    → (o : List ℕ) (r : Result) → r ≡ alternatives bytes t o → Replayed bytes calls o r
+run-lists {bytes} {t} {calls} w o r e = replayed bytes calls o r (e ∙ ap (λ (s : List ℕ). alternatives bytes s o) (run-is w .sheet))

@@ -9,11 +9,11 @@ fn called(sheet: Sheet, book: &[u8], kind: u8, field: u8, code: u8) -> Sheet
     ensures { λ r. ⌜ r .places ≡ sheetThrough (now (book .entry)) (sheet .places) (addCall kind field code []) ⌝ }
 {
     if kind == 0 {
-        let entered = sheet.enter(book, field, code);
+        let entered = sheet.enter(book, field as usize, code as usize);
         return entered.sheet;
     }
     if kind == 1 {
-        let withdrawn = sheet.withdraw(book, field);
+        let withdrawn = sheet.withdraw(book, field as usize);
         return withdrawn.sheet;
     }
     if kind == 2 {

@@ -5,6 +5,7 @@ ghost use Prim.Native.Nat.{ℕ};
 ghost use Rattle.calls.specs.Calls.{freshSheet, turned, entered, withdrawn, cleared, filtered, alternatives, stored, loaded};
 ghost use Rattle.calls.specs.Histories.{callsIn, sheetAfter};
 ghost use Rattle.sheet.specs.Shown.{numberOf, resultOf, listResultOf};
+ghost use Rattle.sheet.specs.Replayed.{Replayed};
 use book::Checked;
 use book::Refusal;
 use opened::Opened;
@@ -109,7 +110,7 @@ impl Sheet {
     }
 
     // Answers a field, replacing an older answer.
-    pub fn enter(self, book: &[u8], field: u8, code: u8) -> Handed
+    pub fn enter(self, book: &[u8], field: usize, code: usize) -> Handed
         ensures { λ r. ⌜ resultOf r [] ≡ entered (now (book .entry)) (self .places) field code ⌝ }
     {
         let places = self.places;
@@ -122,15 +123,14 @@ impl Sheet {
                 tables: _,
                 rows: _,
             } => {
-                let f = field as usize;
-                if fields <= f {
+                if fields <= field {
                     return refuse(self, Reason::Field, 0);
                 }
-                if book[list + f] <= code {
+                if lists::wide(book[list + field]) <= code {
                     return refuse(self, Reason::Code, 0);
                 }
                 let mut next = places;
-                next[f] = code;
+                next[field] = code as u8;
                 Handed {
                     answer: Answer::Done,
                     sheet: Sheet { places: next },
@@ -140,7 +140,7 @@ impl Sheet {
     }
 
     // Takes the answer of a field away.
-    pub fn withdraw(self, book: &[u8], field: u8) -> Handed
+    pub fn withdraw(self, book: &[u8], field: usize) -> Handed
         ensures { λ r. ⌜ resultOf r [] ≡ withdrawn (now (book .entry)) (self .places) field ⌝ }
     {
         let places = self.places;
@@ -153,15 +153,14 @@ impl Sheet {
                 tables: _,
                 rows: _,
             } => {
-                let f = field as usize;
-                if fields <= f {
+                if fields <= field {
                     return refuse(self, Reason::Field, 0);
                 }
-                if places[f] == 255 {
+                if places[field] == 255 {
                     return refuse(self, Reason::NoAnswer, 0);
                 }
                 let mut rest = places;
-                rest[f] = 255;
+                rest[field] = 255;
                 Handed {
                     answer: Answer::Done,
                     sheet: Sheet { places: rest },
@@ -171,7 +170,7 @@ impl Sheet {
     }
 
     // Plain filtering: a number for each field, bit c of it for code c. One field may be relaxed; 255 relaxes none.
-    pub fn filtered(self, book: &[u8], relaxed: u8, out: &mut [u32]) -> Handed
+    pub fn filtered(self, book: &[u8], relaxed: usize, out: &mut [u32]) -> Handed
         ensures { λ r. ⌜ resultOf r (now (out .exit)) ≡ filtered (now (book .entry)) (self .places) relaxed (now (out .entry)) ⌝ }
     {
         let places = self.places;
@@ -187,15 +186,14 @@ impl Sheet {
                 if relaxed == 255 {
                     return masks::write_masks(self, book, list, fields, tables, rows, places, out);
                 }
-                let f = relaxed as usize;
-                if fields <= f {
+                if fields <= relaxed {
                     return refuse(self, Reason::Field, 0);
                 }
-                if places[f] == 255 {
+                if places[relaxed] == 255 {
                     return refuse(self, Reason::NoAnswer, 0);
                 }
                 let mut answers = places;
-                answers[f] = 255;
+                answers[relaxed] = 255;
                 masks::write_masks(self, book, list, fields, tables, rows, answers, out)
             }
         }
@@ -301,7 +299,8 @@ pub fn load(book: &[u8], form: &[u8]) -> Handed
 
 // Runs a list of calls from a fresh sheet, each on the sheet that the one before it handed back, then alternatives.
 pub fn replay(book: &[u8], calls: &[u8], out: &mut [u8]) -> HandedList
-    ensures { λ r. ⌜ listResultOf r (now (out .exit)) ≡ alternatives (now (book .entry)) (sheetAfter (now (book .entry)) (callsIn (now (calls .entry)))) (now (out .entry)) ⌝ }
+    ensures answer { λ r. ⌜ listResultOf r (now (out .exit)) ≡ alternatives (now (book .entry)) (sheetAfter (now (book .entry)) (callsIn (now (calls .entry)))) (now (out .entry)) ⌝ }
+    ensures condition3 { λ r. ⌜ Replayed (now (book .entry)) (callsIn (now (calls .entry))) (now (out .entry)) (listResultOf r (now (out .exit))) ⌝ }
 {
     let sheet = history::after(book, calls);
     sheet.alternatives(book, out)

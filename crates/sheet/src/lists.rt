@@ -12,7 +12,7 @@ ghost use Rattle.sheet.specs.Lists.{stands, linesBelow, InMarks, Room, P
 // The own case of the first answered field, behind the case with nothing relaxed.
 const FIRST_OWN: u64 = 1;
 
-fn wide(x: u8) -> usize
+pub(crate) fn wide(x: u8) -> usize
     ensures { λ r. ⌜ r ≡ x ⌝ }
 {
     x as usize

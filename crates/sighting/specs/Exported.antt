@@ -2,8 +2,8 @@
 -- outcome, which have the place and then the counts. Assumes nothing.
 use Prim.Native.Nat.{ℕ}
 use mathlib.Core.Path.{_≡_}
-use mathlib.Core.List.{List, [], _∷_}
-use Rattle.format.specs.Basics.{pick}
+use mathlib.Core.List.{List, _∷_}
+use lib.ListN.{getD, drop}
 use Rattle.format.specs.Reading.{Outcome}
 use Rattle.calls.specs.Calls.{Result}
 use Rattle.report.specs.Report.{Printing}
@@ -23,8 +23,12 @@ pub record Exports (number : ℕ) (cells sheet buffer : List ℕ) (r : Result) :
   pub sheet-is : sheet ≡ r .sheet
   pub buffer-is : buffer ≡ r .buffer
 
--- the report: 0 where the text is written, 18 where too few bytes are lent; the one cell has the text's length in both
+-- the result that is told so: the number returned, the place and the counts in the cells, the sheet and the buffer
+abbrev pub resultTold : ℕ → List ℕ → List ℕ → List ℕ → Result
+resultTold number cells sheet buffer =
+    record { outcome = record { number = number; place = getD cells 0 0; counts = drop 1 cells }; sheet = sheet; buffer = buffer }
+
+-- the report: its outcome told, and what the buffer holds
 pub record Prints (number : ℕ) (cells buffer : List ℕ) (p : Printing) : Type 0 where
-  pub number-is : number ≡ pick (p .fits) 0 18
-  pub cells-are : cells ≡ p .size ∷ []
+  pub tells : Tells number cells (p .outcome)
   pub buffer-is : buffer ≡ p .buffer

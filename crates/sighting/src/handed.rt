@@ -1,21 +1,17 @@
-// What a call hands back, put where the caller lent room for it.
+// What a call answers and the sheet that it hands back, put where the caller lent room for them.
 ghost use mathlib.Core.List.{List};
 ghost use Prim.Native.Nat.{ℕ};
-ghost use Rattle.sheet.specs.Shown.{resultOf, listResultOf};
-ghost use Rattle.sighting.specs.Exported.{Exports};
+ghost use Rattle.sheet.specs.Shown.{shown, shownListing, resultOf, listResultOf};
+ghost use Rattle.sighting.specs.Exported.{Tells, Exports};
 use sheet::Answer;
 use sheet::Handed;
 use sheet::HandedList;
 use sheet::Listing;
 
-// Of a call that counts nothing; whatever the buffer holds.
-pub(crate) fn hand(handed: Handed, sheet: &mut [u8; 32], outcome: &mut [u64; 1]) -> u64
-    ensures { λ r. ⌜ ((o : List ℕ) → Exports r (now (outcome .exit)) (now (sheet .exit)) o (resultOf handed o)) ⌝ }
+// The answer of a call that counts nothing.
+pub(crate) fn tell(answer: Answer, outcome: &mut [u64; 1]) -> u64
+    ensures { λ r. ⌜ Tells r (now (outcome .exit)) (shown answer) ⌝ }
 {
-    let next = handed.sheet;
-    let places = next.places;
-    *sheet = places;
-    let answer = handed.answer;
     match answer {
         Answer::Done => {
             *outcome = [0];
@@ -28,15 +24,11 @@ pub(crate) fn hand(handed: Handed, sheet: &mut [u8; 32], outcome: &mut [u64; 1])
     }
 }
 
-// Of a call that counts alternatives; whatever the buffer holds.
-pub(crate) fn hand_list(handed: HandedList, sheet: &mut [u8; 32], outcome: &mut [u64; 3]) -> u64
-    ensures { λ r. ⌜ ((o : List ℕ) → Exports r (now (outcome .exit)) (now (sheet .exit)) o (listResultOf handed o)) ⌝ }
+// The answer of a call that counts alternatives.
+pub(crate) fn tell_list(listing: Listing, outcome: &mut [u64; 3]) -> u64
+    ensures { λ r. ⌜ Tells r (now (outcome .exit)) (shownListing listing) ⌝ }
 {
-    let next = handed.sheet;
-    let places = next.places;
-    *sheet = places;
-    let answer = handed.answer;
-    match answer {
+    match listing {
         Listing::Listed { total, struck } => {
             *outcome = [0, total as u64, struck as u64];
             0
@@ -46,4 +38,26 @@ pub(crate) fn hand_list(handed: HandedList, sheet: &mut [u8; 32], outcome: &mut 
             sheet::number(reason)
         }
     }
+}
+
+// The answer and the sheet of a call that counts nothing; whatever the buffer holds.
+pub(crate) fn hand(handed: Handed, sheet: &mut [u8; 32], outcome: &mut [u64; 1]) -> u64
+    ensures { λ r. ⌜ ((o : List ℕ) → Exports r (now (outcome .exit)) (now (sheet .exit)) o (resultOf handed o)) ⌝ }
+{
+    let next = handed.sheet;
+    let places = next.places;
+    *sheet = places;
+    let answer = handed.answer;
+    tell(answer, outcome)
+}
+
+// The answer and the sheet of a call that counts alternatives; whatever the buffer holds.
+pub(crate) fn hand_list(handed: HandedList, sheet: &mut [u8; 32], outcome: &mut [u64; 3]) -> u64
+    ensures { λ r. ⌜ ((o : List ℕ) → Exports r (now (outcome .exit)) (now (sheet .exit)) o (listResultOf handed o)) ⌝ }
+{
+    let next = handed.sheet;
+    let places = next.places;
+    *sheet = places;
+    let listing = handed.answer;
+    tell_list(listing, outcome)
 }

@@ -1,17 +1,23 @@
 // The library for other languages: each call of the crates below, exported with numbers, slices and arrays alone.
-// A sheet is an array of 32 bytes, which every call on a sheet writes whole with the sheet that it hands back. A call returns its outcome's
-// number, 0 where it is accepted, and writes the place and the counts into the cells lent for them.
+// A sheet is an array of 32 bytes. A call that changes answers writes it whole with the sheet that it hands back; one that hands it back as
+// given only reads it, so that it may be shared. A call returns its outcome's number, 0 where it is accepted, and writes the place and the
+// counts into the cells lent for them. A field or a code is any number: one that the book lacks has its refusal.
 ghost use mathlib.Core.Path.{_≡_};
+ghost use mathlib.Core.Logic.{_↔_};
 ghost use mathlib.Core.List.{[]};
+ghost use Rattle.format.specs.Layout.{HasLayout};
 ghost use Rattle.format.specs.Reading.{reading};
 ghost use Rattle.calls.specs.Calls.{freshSheet, cleared, entered, withdrawn, filtered, alternatives, loaded, stored};
 ghost use Rattle.calls.specs.Histories.{sheetAfter, callsIn};
 ghost use Rattle.report.specs.Report.{printing};
 ghost use Rattle.report.specs.Text.{reportText};
-ghost use Rattle.sighting.specs.Exported.{Tells, Exports, Prints};
+ghost use Rattle.sheet.specs.Replayed.{Replayed};
+ghost use Rattle.sighting.specs.Exported.{Tells, Exports, Prints, resultTold};
 use book::Reading;
 use handed::hand;
 use handed::hand_list;
+use handed::tell;
+use handed::tell_list;
 use report::Printed;
 use sheet::Sheet;
 
@@ -20,7 +26,8 @@ mod handed;
 // Reads a book. Cells: place, fields, tables, rows written, different rows.
 #[no_mangle]
 pub extern "C" fn sighting_read(book: &[u8], outcome: &mut [u64; 5]) -> u64
-    ensures { λ r. ⌜ Tells r (now (outcome .exit)) (reading (now (book .entry))) ⌝ }
+    ensures answer { λ r. ⌜ Tells r (now (outcome .exit)) (reading (now (book .entry))) ⌝ }
+    ensures layout { λ r. ⌜ r ≡ 0 ↔ HasLayout (now (book .entry)) ⌝ }
 {
     let reading = book::read(book);
     match reading {
@@ -73,8 +80,8 @@ pub extern "C" fn sighting_clear(sheet: &mut [u8; 32])
 pub extern "C" fn sighting_enter(
     sheet: &mut [u8; 32],
     book: &[u8],
-    field: u8,
-    code: u8,
+    field: usize,
+    code: usize,
     outcome: &mut [u64; 1],
 ) -> u64
     ensures { λ r. ⌜ Exports r (now (outcome .exit)) (now (sheet .exit)) [] (entered (now (book .entry)) (now (sheet .entry)) field code) ⌝ }
@@ -88,7 +95,7 @@ pub extern "C" fn sighting_enter(
 pub extern "C" fn sighting_withdraw(
     sheet: &mut [u8; 32],
     book: &[u8],
-    field: u8,
+    field: usize,
     outcome: &mut [u64; 1],
 ) -> u64
     ensures { λ r. ⌜ Exports r (now (outcome .exit)) (now (sheet .exit)) [] (withdrawn (now (book .entry)) (now (sheet .entry)) field) ⌝ }
@@ -100,30 +107,34 @@ pub extern "C" fn sighting_withdraw(
 // Plain filtering with one answer relaxed, or none for 255. Cells: place.
 #[no_mangle]
 pub extern "C" fn sighting_filtered(
-    sheet: &mut [u8; 32],
+    sheet: &[u8; 32],
     book: &[u8],
-    relaxed: u8,
+    relaxed: usize,
     out: &mut [u32],
     outcome: &mut [u64; 1],
 ) -> u64
-    ensures { λ r. ⌜ Exports r (now (outcome .exit)) (now (sheet .exit)) (now (out .exit)) (filtered (now (book .entry)) (now (sheet .entry)) relaxed (now (out .entry))) ⌝ }
+    ensures { λ r. ⌜ Exports r (now (outcome .exit)) (now (sheet .entry)) (now (out .exit)) (filtered (now (book .entry)) (now (sheet .entry)) relaxed (now (out .entry))) ⌝ }
 {
     let given = Sheet { places: *sheet };
-    hand(given.filtered(book, relaxed, out), sheet, outcome)
+    let handed = given.filtered(book, relaxed, out);
+    let answer = handed.answer;
+    tell(answer, outcome)
 }
 
 // The alternatives of the answered fields. Cells: place, total, struck.
 #[no_mangle]
 pub extern "C" fn sighting_alternatives(
-    sheet: &mut [u8; 32],
+    sheet: &[u8; 32],
     book: &[u8],
     out: &mut [u8],
     outcome: &mut [u64; 3],
 ) -> u64
-    ensures { λ r. ⌜ Exports r (now (outcome .exit)) (now (sheet .exit)) (now (out .exit)) (alternatives (now (book .entry)) (now (sheet .entry)) (now (out .entry))) ⌝ }
+    ensures { λ r. ⌜ Exports r (now (outcome .exit)) (now (sheet .entry)) (now (out .exit)) (alternatives (now (book .entry)) (now (sheet .entry)) (now (out .entry))) ⌝ }
 {
     let given = Sheet { places: *sheet };
-    hand_list(given.alternatives(book, out), sheet, outcome)
+    let handed = given.alternatives(book, out);
+    let listing = handed.answer;
+    tell_list(listing, outcome)
 }
 
 // Reads the stored form of a sheet; a refusal leaves a fresh one. Cells: place.
@@ -142,15 +153,17 @@ pub extern "C" fn sighting_load(
 // Writes the stored form of a sheet. Cells: place.
 #[no_mangle]
 pub extern "C" fn sighting_store(
-    sheet: &mut [u8; 32],
+    sheet: &[u8; 32],
     book: &[u8],
     out: &mut [u8],
     outcome: &mut [u64; 1],
 ) -> u64
-    ensures { λ r. ⌜ Exports r (now (outcome .exit)) (now (sheet .exit)) (now (out .exit)) (stored (now (book .entry)) (now (sheet .entry)) (now (out .entry))) ⌝ }
+    ensures { λ r. ⌜ Exports r (now (outcome .exit)) (now (sheet .entry)) (now (out .exit)) (stored (now (book .entry)) (now (sheet .entry)) (now (out .entry))) ⌝ }
 {
     let given = Sheet { places: *sheet };
-    hand(given.store(book, out), sheet, outcome)
+    let handed = given.store(book, out);
+    let answer = handed.answer;
+    tell(answer, outcome)
 }
 
 // A list of calls from a fresh sheet, then the alternatives of the sheet so reached, which is handed back. Cells: place, total, struck.
@@ -162,29 +175,30 @@ pub extern "C" fn sighting_replay(
     out: &mut [u8],
     outcome: &mut [u64; 3],
 ) -> u64
-    ensures { λ r. ⌜ Exports r (now (outcome .exit)) (now (sheet .exit)) (now (out .exit)) (alternatives (now (book .entry)) (sheetAfter (now (book .entry)) (callsIn (now (calls .entry)))) (now (out .entry))) ⌝ }
+    ensures answer { λ r. ⌜ Exports r (now (outcome .exit)) (now (sheet .exit)) (now (out .exit)) (alternatives (now (book .entry)) (sheetAfter (now (book .entry)) (callsIn (now (calls .entry)))) (now (out .entry))) ⌝ }
+    ensures condition3 { λ r. ⌜ Replayed (now (book .entry)) (callsIn (now (calls .entry))) (now (out .entry)) (resultTold r (now (outcome .exit)) (now (sheet .exit)) (now (out .exit))) ⌝ }
 {
     hand_list(sheet::replay(book, calls, out), sheet, outcome)
 }
 
-// The text that the desk prints for a book and a stored sheet: 0 where it is written, 18 where it does not fit. Cells: its length, in both.
+// The text that the desk prints for a book and a stored sheet; 18 where it does not fit. Cells: place, length.
 #[no_mangle]
 pub extern "C" fn sighting_report(
     book: &[u8],
     form: &[u8],
     out: &mut [u8],
-    outcome: &mut [u64; 1],
+    outcome: &mut [u64; 2],
 ) -> u64
     ensures { λ r. ⌜ Prints r (now (outcome .exit)) (now (out .exit)) (printing (reportText (now (book .entry)) (now (form .entry))) (now (out .entry))) ⌝ }
 {
     let printed = report::report(book, form, out);
     match printed {
         Printed::Written(length) => {
-            *outcome = [length as u64];
+            *outcome = [0, length as u64];
             0
         }
-        Printed::TooShort(length) => {
-            *outcome = [length as u64];
+        Printed::TooShort => {
+            *outcome = [0, 0];
             18
         }
     }

@@ -1,6 +1,7 @@
 -- `desk::main` is safe: the text that report wrote stands within the buffer. Assumes nothing.
 use Rattle.report.proofs.Printing.{written-counts}
 use borrow.Author.Needs.{needs}
+use native.Mathlib.Omega.{arith}
 use Rattle.desk.proofs.main.Statement.{statement}
 use Rattle.desk.proofs.main.Tie as tie
 
@@ -52,6 +53,12 @@ slice-aggregate-write-all c = written-counts _ _ _ _ _ (c .before .before .print
 write-all-requires : tie.Need-write-all-requires
 write-all-requires c κs = search needs
 
+slice-aggregate-fail : tie.Need-slice-aggregate-fail
+slice-aggregate-fail c = search needs
+
+fail-requires : tie.Need-fail-requires
+fail-requires c κs = search needs
+
 enum-told : tie.Need-enum-told
 enum-told c = search needs
 
@@ -60,6 +67,9 @@ returns c = search needs
 
 returns-2 : tie.Need-returns-2
 returns-2 c = search needs
+
+returns-3 : tie.Need-returns-3
+returns-3 c = search needs
 
 pub main-spec : {M : Type 1} → statement M
 main-spec =
@@ -81,6 +91,9 @@ main-spec =
     array-share-prefix-text
     slice-aggregate-write-all
     write-all-requires
+    slice-aggregate-fail
+    fail-requires
     enum-told
     returns
-    returns-2)
+    returns-2
+    returns-3)

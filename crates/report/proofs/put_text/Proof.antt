@@ -36,12 +36,12 @@ enum-told c = search needs
 
 put-book-requires : tie.Need-put-book-requires
 put-book-requires c κs = let a = (c .before .before .before .before .before .before .before .before .before .before .before .before .args) in
-    book-room (a .book .now) (a .form .now) _ (c .before .before .before .before .before .before .before .before .read .ensures) (c .before .before .before .before .load .result) (c .before .before .before .before .load .ensures) _ _ _ _ (c .before .before .before .before .before .before .reading2 .given .1) (c .before .enum-told .given .1) (a .out .now) (c .before .before .before .before .before .before .before .before .before .before .before .before .pre)
+    book-room (a .book .now) (a .form .now) _ (c .before .before .before .before .before .before .before .before .read .ensures .0) (c .before .before .before .before .load .result) (c .before .before .before .before .load .ensures) _ _ _ _ (c .before .before .before .before .before .before .reading2 .given .1) (c .before .enum-told .given .1) (a .out .now) (c .before .before .before .before .before .before .before .before .before .before .before .before .pre)
 
 put-held-requires : tie.Need-put-held-requires
 put-held-requires c κs = let a = (c .before .before .before .before .before .before .before .before .before .before .before .before .before .before .before .before .args) in
     let h = (c .before .before .before .before .before .before .before .before .load) in
-    let read = c .before .before .before .before .before .before .before .before .before .before .before .before .read .ensures in
+    let read = c .before .before .before .before .before .before .before .before .before .before .before .before .read .ensures .0 in
     let both = c .before .before .before .before .before .before .before .before .before .before .reading2 .given .1 in
     let done = c .before .before .before .before .before .enum-told .given .1 in (
       held-stands (a .book .now) (a .form .now) _ read (h .result) (h .ensures) _ _ _ _ both done,
@@ -53,7 +53,7 @@ same-length c = search needs
 
 returns : tie.Need-returns
 returns c = let a = (c .before .before .before .before .before .before .before .before .before .before .before .before .args) in
-    refused-puts (a .book .now) (a .form .now) (a .out .now) _ _ (read-text (a .book .now) (a .form .now) _ _ _ _ (c .before .before .before .before .before .before .reading .given .1) (c .before .before .before .before .number .ensures) (c .before .before .before .before .before .before .before .before .read .ensures)) (c .before .before .put-refused .ensures)
+    refused-puts (a .book .now) (a .form .now) (a .out .now) _ _ (read-text (a .book .now) (a .form .now) _ _ _ _ (c .before .before .before .before .before .before .reading .given .1) (c .before .before .before .before .number .ensures) (c .before .before .before .before .before .before .before .before .read .ensures .0)) (c .before .before .put-refused .ensures)
 
 same-length-2 : tie.Need-same-length-2
 same-length-2 c = search needs
@@ -68,7 +68,7 @@ same-length-3 c = search needs
 returns-3 : tie.Need-returns-3
 returns-3 c = let a = (c .before .before .before .before .before .before .before .before .before .before .before .before .before .before .before .before .before .before .before .args) in
     let h = (c .before .before .before .before .before .before .before .before .before .before .before .load) in
-    accepted-puts (a .book .now) (a .form .now) _ (c .before .before .before .before .before .before .before .before .before .before .before .before .before .before .before .read .ensures) (h .result) (h .ensures) _ _ _ _ (c .before .before .before .before .before .before .before .before .before .before .before .before .before .reading2 .given .1) (c .before .before .before .before .before .before .before .before .enum-told .given .1) (a .out .now) (c .before .before .before .before .before .before .before .before .before .before .before .before .before .before .before .before .before .before .before .pre) (c .before .before .before .before .before .before .put-book .ensures) (c .before .before .put-held .ensures)
+    accepted-puts (a .book .now) (a .form .now) _ (c .before .before .before .before .before .before .before .before .before .before .before .before .before .before .before .read .ensures .0) (h .result) (h .ensures) _ _ _ _ (c .before .before .before .before .before .before .before .before .before .before .before .before .before .reading2 .given .1) (c .before .before .before .before .before .before .before .before .enum-told .given .1) (a .out .now) (c .before .before .before .before .before .before .before .before .before .before .before .before .before .before .before .before .before .before .before .pre) (c .before .before .before .before .before .before .put-book .ensures) (c .before .before .put-held .ensures)
 
 pub put-text-spec : {M : Type 1} → statement M
 put-text-spec =

@@ -1,20 +1,22 @@
--- `sighting_filtered` meets its contract: what the call hands back is put where room is lent for it. Assumes nothing.
-use Rattle.sighting.proofs.Along.{exports-along}
+-- `sighting_filtered` meets its contract: the answer is told, and the sheet was only read. Assumes nothing.
+use Rattle.calls.proofs.Kept.{filtered-keeps}
+use Rattle.sighting.proofs.Along.{exports-kept}
 use borrow.Author.Needs.{needs}
+use native.Mathlib.Omega.{arith}
 use Rattle.sighting.proofs.sighting_filtered.Statement.{statement}
 use Rattle.sighting.proofs.sighting_filtered.Tie as tie
 
 filtered-requires : tie.Need-filtered-requires
 filtered-requires c κs = search needs
 
-hand-requires : tie.Need-hand-requires
-hand-requires c κs = search needs
+tell-requires : tie.Need-tell-requires
+tell-requires c κs = search needs
 
 same-length : tie.Need-same-length
 same-length c = search needs
 
 returns : tie.Need-returns
-returns c = exports-along (c .hand .ensures _) (c .before .before .before .before .before .filtered .ensures)
+returns c = exports-kept (c .tell .ensures) (c .before .before .before .before .filtered .ensures) (filtered-keeps (c .before .before .before .before .before .before .before .before .before .args .book .now) (c .before .before .before .before .before .before .before .before .before .args .sheet .now) (c .before .before .before .before .before .before .before .before .before .args .out .now) (c .before .before .before .before .before .before .before .before .before .args .relaxed))
 
 pub sighting-filtered-spec : {M : Type 1} → statement M
-sighting-filtered-spec = tie.close (tie.spec filtered-requires hand-requires same-length returns)
+sighting-filtered-spec = tie.close (tie.spec filtered-requires tell-requires same-length returns)

@@ -1,7 +1,7 @@
 -- `sighting_read` meets its contract: the outcome of an accepted and of a refused book. Assumes nothing.
-use mathlib.Core.Path.{refl, sym, ap, _∙_}
+use mathlib.Core.Path.{refl, sym, ap}
 use Rattle.book.specs.Shown.{shown}
-use Rattle.sighting.proofs.Along.{tells-along}
+use Rattle.sighting.proofs.Along.{tells-along, reads-told}
 use borrow.Author.Needs.{needs}
 use Rattle.sighting.proofs.sighting_read.Statement.{statement}
 use Rattle.sighting.proofs.sighting_read.Tie as tie
@@ -19,10 +19,14 @@ number-requires : tie.Need-number-requires
 number-requires c κs = search needs
 
 returns : tie.Need-returns
-returns c = tells-along (record { number-is = refl; cells-are = refl }) (sym (ap shown (c .before .before .reading .given .1)) ∙ c .before .before .before .before .read .ensures)
+returns c =
+    let read = c .before .before .before .before .read in
+    reads-told (tells-along (record { number-is = refl; cells-are = refl }) (sym (ap shown (c .before .before .reading .given .1)))) (read .ensures .0) (read .ensures .1)
 
 returns-2 : tie.Need-returns-2
-returns-2 c = tells-along (record { number-is = c .number .ensures; cells-are = refl }) (sym (ap shown (c .before .before .before .reading2 .given .1)) ∙ c .before .before .before .before .before .read .ensures)
+returns-2 c =
+    let read = c .before .before .before .before .before .read in
+    reads-told (tells-along (record { number-is = c .number .ensures; cells-are = refl }) (sym (ap shown (c .before .before .before .reading2 .given .1)))) (read .ensures .0) (read .ensures .1)
 
 pub sighting-read-spec : {M : Type 1} → statement M
 sighting-read-spec =

@@ -1,6 +1,8 @@
 -- `sighting_replay` meets its contract: what the call hands back is put where room is lent for it. Assumes nothing.
-use Rattle.sighting.proofs.Along.{exports-along}
+use Rattle.calls.specs.Histories.{callsIn}
+use Rattle.sighting.proofs.Along.{exports-along, replay-told}
 use borrow.Author.Needs.{needs}
+use native.Mathlib.Omega.{arith}
 use Rattle.sighting.proofs.sighting_replay.Statement.{statement}
 use Rattle.sighting.proofs.sighting_replay.Tie as tie
 
@@ -14,7 +16,7 @@ same-length : tie.Need-same-length
 same-length c = search needs
 
 returns : tie.Need-returns
-returns c = exports-along (c .hand-list .ensures _) (c .before .before .before .before .before .replay .ensures)
+returns c = replay-told (c .before .before .before .before .before .before .before .before .before .before .args .book .now) (callsIn (c .before .before .before .before .before .before .before .before .before .before .args .calls .now)) (c .before .before .before .before .before .before .before .before .before .before .args .out .now) (exports-along (c .hand-list .ensures _) (c .before .before .before .before .before .replay .ensures .0))
 
 pub sighting-replay-spec : {M : Type 1} → statement M
 sighting-replay-spec = tie.close (tie.spec replay-requires hand-list-requires same-length returns)

@@ -3,6 +3,7 @@ use mathlib.Core.Path.{refl, sym, ap₂, _∙_}
 use Rattle.report.specs.Report.{shown}
 use Rattle.sighting.proofs.Along.{prints-along}
 use borrow.Author.Needs.{needs}
+use native.Mathlib.Omega.{arith}
 use Rattle.sighting.proofs.sighting_report.Statement.{statement}
 use Rattle.sighting.proofs.sighting_report.Tie as tie
 
@@ -12,20 +13,20 @@ report-requires c κs = search needs
 enum-known-printed : tie.Need-enum-known-printed
 enum-known-printed c = search needs
 
-enum-known-printed-2 : tie.Need-enum-known-printed-2
-enum-known-printed-2 c = search needs
+enum-told : tie.Need-enum-told
+enum-told c = search needs
 
 same-length : tie.Need-same-length
 same-length c = search needs
 
 returns : tie.Need-returns
-returns c = prints-along (record { number-is = refl; cells-are = refl; buffer-is = refl }) (sym (ap₂ shown (c .before .before .printed .given .1) refl) ∙ c .before .before .before .before .before .before .report .ensures)
+returns c = prints-along (record { tells = record { number-is = refl; cells-are = refl }; buffer-is = refl }) (sym (ap₂ shown (c .before .before .printed .given .1) refl) ∙ c .before .before .before .before .before .before .report .ensures)
 
 same-length-2 : tie.Need-same-length-2
 same-length-2 c = search needs
 
 returns-2 : tie.Need-returns-2
-returns-2 c = prints-along (record { number-is = refl; cells-are = refl; buffer-is = refl }) (sym (ap₂ shown (c .before .before .printed2 .given .1) refl) ∙ c .before .before .before .before .before .before .report .ensures)
+returns-2 c = prints-along (record { tells = record { number-is = refl; cells-are = refl }; buffer-is = refl }) (sym (ap₂ shown (c .before .enum-told .given .1) refl) ∙ c .before .before .before .before .before .report .ensures)
 
 pub sighting-report-spec : {M : Type 1} → statement M
 sighting-report-spec =
@@ -33,7 +34,7 @@ sighting-report-spec =
     (tie.spec
     report-requires
     enum-known-printed
-    enum-known-printed-2
+    enum-told
     same-length
     returns
     same-length-2

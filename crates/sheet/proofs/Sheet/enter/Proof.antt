@@ -1,10 +1,11 @@
 -- `sheet::Sheet::enter` meets its contract: each way through its tests. Assumes nothing.
-use mathlib.Core.Path.{_∙_}
+use mathlib.Core.Path.{_∙_, subst}
 use mathlib.Core.List.{[]}
-use Rattle.sheet.proofs.Openings.{fields-end, fields-few, opens-ready, opens-turned}
-use Rattle.sheet.proofs.CallCases.{entered-turned, entered-15, entered-16, entered-done}
-use borrow.Author.Needs.{needs}
+use Prim.Native.Nat.{ℕ, _≤_, _<_}
 use native.Mathlib.Omega.{arith}
+use Rattle.sheet.proofs.Openings.{fields-end, fields-few, opens-ready, opens-turned}
+use Rattle.sheet.proofs.CallCases.{entered-turned, entered-15, entered-16, entered-byte, entered-done}
+use borrow.Author.Needs.{needs}
 use Rattle.sheet.proofs.Sheet.enter.Statement.{statement}
 use Rattle.sheet.proofs.Sheet.enter.Tie as tie
 
@@ -24,40 +25,41 @@ refuse-requires-2 : tie.Need-refuse-requires-2
 refuse-requires-2 c κs = search needs
 
 returns : tie.Need-returns
-returns c =
-    let o = opens-ready _ _ _ (c .before .before .before .before .before .«open» .ensures) _ _ _ _ (c .before .before .before .opened2 .given .1) in
+returns c = let o = opens-ready _ _ _ (c .before .before .before .before .before .«open» .ensures) _ _ _ _ (c .before .before .before .opened2 .given .1) in
     c .refuse2 .ensures [] ∙ entered-15 _ _ _ _ _ _ o (c .before .if1 .taken)
 
-add-if2 : tie.Need-add-if2
-add-if2 c =
-    let o = opens-ready _ _ _ (c .before .before .before .before .«open» .ensures) _ _ _ _ (c .before .before .opened2 .given .1) in
+add-wide : tie.Need-add-wide
+add-wide c = let o = opens-ready _ _ _ (c .before .before .before .before .«open» .ensures) _ _ _ _ (c .before .before .opened2 .given .1) in
     omega (arith, fields-end _ _ _ (o .at))
 
-shared-slice-read-if2 : tie.Need-shared-slice-read-if2
-shared-slice-read-if2 c =
-    let o = opens-ready _ _ _ (c .before .before .before .before .before .«open» .ensures) _ _ _ _ (c .before .before .before .opened2 .given .1) in
+shared-slice-read-wide : tie.Need-shared-slice-read-wide
+shared-slice-read-wide c = let o = opens-ready _ _ _ (c .before .before .before .before .before .«open» .ensures) _ _ _ _ (c .before .before .before .opened2 .given .1) in
     omega (arith, fields-end _ _ _ (o .at))
+
+wide-requires : tie.Need-wide-requires
+wide-requires c κs = search needs
 
 refuse-requires-3 : tie.Need-refuse-requires-3
 refuse-requires-3 c κs = search needs
 
 returns-2 : tie.Need-returns-2
-returns-2 c =
-    let o = opens-ready _ _ _ (c .before .before .before .before .before .before .before .«open» .ensures) _ _ _ _ (c .before .before .before .before .before .opened2 .given .1) in
-    c .refuse3 .ensures [] ∙ entered-16 _ _ _ _ _ _ o (c .before .before .before .if1 .left) (c .before .if2 .taken)
+returns-2 c = let o = opens-ready _ _ _ (c .before .before .before .before .before .before .before .before .«open» .ensures) _ _ _ _ (c .before .before .before .before .before .before .opened2 .given .1) in
+    c .refuse3 .ensures [] ∙ entered-16 _ _ _ _ _ _ o (c .before .before .before .before .if1 .left) (subst (λ (n : ℕ). n ≤ c .before .before .before .before .before .before .before .before .before .before .before .args .code) (c .before .before .wide .ensures) (c .before .if2 .taken))
+
+cast-next : tie.Need-cast-next
+cast-next c = let o = opens-ready _ _ _ (c .before .before .before .before .before .before .before .«open» .ensures) _ _ _ _ (c .before .before .before .before .before .opened2 .given .1) in
+    omega (arith, entered-byte _ _ _ _ _ _ o (c .before .before .before .if1 .left) (subst (λ (n : ℕ). c .before .before .before .before .before .before .before .before .before .before .args .code < n) (c .before .wide .ensures) (c .if2 .left)))
 
 array-write-next : tie.Need-array-write-next
-array-write-next c =
-    let o = opens-ready _ _ _ (c .before .before .before .before .before .before .«open» .ensures) _ _ _ _ (c .before .before .before .before .opened2 .given .1) in
+array-write-next c = let o = opens-ready _ _ _ (c .before .before .before .before .before .before .before .«open» .ensures) _ _ _ _ (c .before .before .before .before .before .opened2 .given .1) in
     omega (arith, fields-few _ _ _ (o .at))
 
 returns-3 : tie.Need-returns-3
 returns-3 c = c .refuse .ensures [] ∙ entered-turned _ _ _ _ _ _ (opens-turned _ _ _ (c .before .before .before .before .«open» .ensures) _ _ (c .before .before .opened .given .1))
 
 returns-4 : tie.Need-returns-4
-returns-4 c =
-    let o = opens-ready _ _ _ (c .before .before .before .before .before .before .«open» .ensures) _ _ _ _ (c .before .before .before .before .opened2 .given .1) in
-    entered-done _ _ _ _ _ _ o (c .before .before .if1 .left) (c .if2 .left)
+returns-4 c = let o = opens-ready _ _ _ (c .before .before .before .before .before .before .before .«open» .ensures) _ _ _ _ (c .before .before .before .before .before .opened2 .given .1) in
+    entered-done _ _ _ _ _ _ o (c .before .before .before .if1 .left) (subst (λ (n : ℕ). c .before .before .before .before .before .before .before .before .before .before .args .code < n) (c .before .wide .ensures) (c .if2 .left))
 
 pub enter-spec : {M : Type 1} → statement M
 enter-spec =
@@ -69,10 +71,12 @@ enter-spec =
     enum-known-opened-2
     refuse-requires-2
     returns
-    add-if2
-    shared-slice-read-if2
+    add-wide
+    shared-slice-read-wide
+    wide-requires
     refuse-requires-3
     returns-2
+    cast-next
     array-write-next
     returns-3
     returns-4)

@@ -1,0 +1,43 @@
+-- The calls that only read the sheet hand it back as given, accepted or refused. Assumes nothing.
+use Prim.Native.Nat.{ℕ, _*_}
+use mathlib.Core.Path.{_≡_, refl}
+use mathlib.Core.List.{List}
+use lib.ListN.{length}
+use lib.Dec.{ltb, eqb}
+use Rattle.format.specs.Format.{Book, bookOf}
+use Rattle.format.specs.Reading.{Verdict, pass, fail, verdict}
+use Rattle.format.proofs.Picks.{pick-holds}
+use Rattle.consistency.specs.Consistency.{places, answer}
+use Rattle.consistency.specs.Counts.{total}
+use Rattle.calls.specs.Calls.{Result, turned, faultOf, withBook, faultThen, onSheet, masksInto, filtered, alternatives, stored}
+
+module _ (bytes s o : List ℕ) where
+  -- a result with this sheet
+  abbrev Kept : Result → Type 0
+  Kept r = r .sheet ≡ s
+
+  -- what a refusal and the rest keep, the whole call keeps
+  on-sheet : (k : ℕ) (go : Book → Result) → Kept (go (bookOf bytes)) → Kept (onSheet k bytes s o go)
+  on-sheet k go h = at (verdict bytes)
+    where
+      at : (v : Verdict) → Kept (withBook bytes (turned k s o) v (λ b. faultThen (turned k s o) (faultOf b s) (go b)))
+      at pass = pick-holds Kept (ltb (faultOf (bookOf bytes) s) places) refl h
+      at (fail number place) = refl
+
+  masks-into : (a : List ℕ) → Kept (masksInto (bookOf bytes) s a o)
+  masks-into a = pick-holds Kept (ltb (length o) (length (bookOf bytes .counts))) refl refl
+
+  pub filtered-keeps : (f : ℕ) → filtered bytes s f o .sheet ≡ s
+  unfolding filtered
+  filtered-keeps f =
+      on-sheet 0 _
+      (pick-holds Kept (eqb f 255) (masks-into _)
+      (pick-holds Kept (ltb f (length (bookOf bytes .counts))) (pick-holds Kept (eqb (answer s f) 255) refl (masks-into _)) refl))
+
+  pub alternatives-keeps : alternatives bytes s o .sheet ≡ s
+  unfolding alternatives
+  alternatives-keeps = on-sheet 2 _ (pick-holds Kept (ltb (length o) (2 * total (bookOf bytes) s)) refl refl)
+
+  pub stored-keeps : stored bytes s o .sheet ≡ s
+  unfolding stored
+  stored-keeps = on-sheet 0 _ (pick-holds Kept (ltb (length o) (length (bookOf bytes .counts))) refl refl)
