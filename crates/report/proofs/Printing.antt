@@ -9,10 +9,12 @@ use lib.ListN.{length, getD, take, drop, length-append}
 use lib.Seq.{sets, sets-eq, take-at}
 use lib.Dec.{ltb}
 use Rattle.format.proofs.Picks.{pick-second}
-use Rattle.report.specs.Report.{Printing, printing, shown}
+use Rattle.report.specs.Text.{reportText}
+use Rattle.report.specs.Report.{Printing, printing, shown, ReportSuffices}
 use Rattle.report.specs.Writes.{Puts}
 use Rattle.report.specs.declared.Printed.{Printed}
 use Rattle.report.specs.declared.Printed.the-variants.{Written, TooShort}
+use Rattle.report.proofs.Sizes.{text-fits}
 
 -- what is written at the start of a buffer stands before what the buffer keeps
 from-start : (o text : List ℕ) → length text ≤ length o → sets o 0 text ≡ text ++ drop (length text) o
@@ -59,3 +61,9 @@ written-counts text o o′ r n w h =
     let whole : text ++ drop (length text) o ≡ o′ = ap (λ (p : Printing). p .buffer) written in
     let first : take n o′ ≡ text = ap (take n) (sym whole) ∙ take-at text (drop (length text) o) n long in
     (omega (arith, ap length whole, length-append text (drop (length text) o)), sym long ∙ ap length (sym first))
+
+-- a buffer with room for any text
+pub report-suffices : ReportSuffices
+unfolding printing
+report-suffices bytes form o l =
+    rw (le-ltb (length o) (length (reportText bytes form)) (omega (arith, text-fits bytes form)))

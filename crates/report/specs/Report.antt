@@ -35,7 +35,7 @@ TotalIsLines = (b : Book) (s : List ℕ) → total b s ≡ length (lines b s)
 abbrev pub textLimit : ℕ
 textLimit = 11305
 
--- so a buffer of this size has room for any text
+-- no text has more
 abbrev pub TextFits : Type 0
 TextFits = (bytes form : List ℕ) → length (reportText bytes form) ≤ textLimit
 
@@ -55,3 +55,7 @@ printing text o =
 abbrev pub shown : Printed → List ℕ → Printing
 shown (Written n) o = record { outcome = accepted (n ∷ []); buffer = o }
 shown TooShort o = record { outcome = refused 1 18 0; buffer = o }
+
+-- where textLimit bytes are lent, 18 does not happen
+abbrev pub ReportSuffices : Type 0
+ReportSuffices = (bytes form o : List ℕ) → textLimit ≤ length o → printing (reportText bytes form) o .outcome .number ≡ 0
