@@ -13,7 +13,7 @@ use Rattle.consistency.specs.Counting.{tabulate}
 use Rattle.consistency.specs.Consistency.{places, codes}
 use Rattle.calls.specs.Calls.{Result, freshSheet, entered, withdrawn, cleared}
 
--- field and code; field; nothing
+-- field and code; field; nothing. Any numbers, as the calls take them
 pub data Call : Type 0 where
   enter : ℕ → ℕ → Call
   withdraw : ℕ → Call
@@ -113,7 +113,7 @@ pub record SameCalls (bytes : List ℕ) (calls calls′ : List Call) : Type 0 wh
   pub sheet-same : sheetAfter bytes calls ≡ sheetAfter bytes calls′
   pub answers-same : answersAfter (bookOf bytes) calls ≡ answersAfter (bookOf bytes) calls′
 
--- Some bytes write every list of calls, "of any length and also empty", whatever book is accepted: a number too large for a byte is no field
--- and no code, and nor is 255
+-- Every list of calls, "of any length and also empty", is written by some bytes, the same for every accepted book: a number too large for a byte
+-- is no field and no code, and nor is 255
 abbrev pub EveryListWritten : Type 0
 EveryListWritten = (calls : List Call) → (l : List ℕ) × Bytes l × ((bytes : List ℕ) → Accepted bytes → SameCalls bytes (callsIn l) calls)
