@@ -8,6 +8,7 @@ pub mod Members
 pub mod Sums
 pub mod CodeCounts
 pub mod Lines
+pub mod Marks
 pub mod Limits
 pub mod Masks
 pub mod SameLargest
