@@ -11,6 +11,7 @@ pub mod Condition3
 pub mod Condition1
 pub mod Buffers
 pub mod Condition2
+pub mod Repeats
 pub mod Instances
 pub mod Held
 pub mod Agreement

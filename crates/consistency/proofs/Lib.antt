@@ -15,6 +15,7 @@ pub mod SameLargest
 pub mod Positions
 pub mod Tables
 pub mod AlikeLaws
+pub mod Repeats
 pub mod CountsAlike
 pub mod AlikeExample
 pub mod Answers
