@@ -2,47 +2,44 @@
 -- test turns the call down, it is its rest. Assumes nothing.
 use mathlib.Core.Path.{_≡_, refl, ap, _∙_}
 use mathlib.Core.List.{List}
-use mathlib.Core.Bool.{Bool, true, false}
-use Prim.Native.Nat.{ℕ, _≤_}
+use mathlib.Core.Bool.{Bool}
+use Prim.Native.Nat.{ℕ, _≤_, _<_}
 use native.Mathlib.Omega.{arith}
 use lib.Dec.{ltb}
-use borrow.Author.Tests.{ltb-false, le-ltb}
+use borrow.Author.Tests.{ltb-true, ltb-false, le-ltb}
 use Rattle.format.specs.Basics.{pick}
 use Rattle.format.specs.Format.{Book, bookOf}
 use Rattle.format.specs.Reading.{Verdict, pass, fail, verdict}
 use Rattle.format.proofs.Numbers.{fail-number}
 use Rattle.consistency.specs.Consistency.{places}
 use Rattle.calls.specs.Calls.{Result, turned, faultOf, withBook, faultThen, onSheet}
-
 -- either way of a test, with what the test says
-pub pick-cases : (P : Result → Type 0) (t : Bool) {r r′ : Result} → (t ≡ true → P r) → (t ≡ false → P r′) → P (pick t r r′)
-pick-cases P true h h′ = h refl
-pick-cases P false h h′ = h′ refl
+pub use Rattle.format.proofs.Picks.{pick-cases}
 
 -- ---- what holds of each refusal and of the rest
 
 module _ (P : Result → Type 0) (refuse : ℕ → ℕ → Result) where
   -- 14, then the rest
-  pub fault-holds : (fault : ℕ) {r : Result} → P (refuse 14 fault) → (places ≤ fault → P r) → P (faultThen refuse fault r)
-  fault-holds fault k h = pick-cases P (ltb fault places) (λ e. k) (λ e. h (ltb-false fault places e))
+  pub fault-holds : (fault : ℕ) {r : Result} → (fault < places → P (refuse 14 fault)) → (places ≤ fault → P r) → P (faultThen refuse fault r)
+  fault-holds fault k h = pick-cases P (ltb fault places) (λ e. k (ltb-true fault places e)) (λ e. h (ltb-false fault places e))
 
   -- 1 to 13, then the rest
-  pub book-holds : (bytes : List ℕ) (go : Book → Result) → ((number place : ℕ) → 1 ≤ number → number ≤ 13 → P (refuse number place))
+  pub book-holds : (bytes : List ℕ) (go : Book → Result) → ((number place : ℕ) → verdict bytes ≡ fail number place → P (refuse number place))
       → (verdict bytes ≡ pass → P (go (bookOf bytes))) → P (withBook bytes refuse (verdict bytes) go)
-  book-holds bytes go k = at (verdict bytes) (fail-number bytes)
+  book-holds bytes go k h = at (verdict bytes) refl
     where
-      at : (v : Verdict) → ((number place : ℕ) → v ≡ fail number place → (1 ≤ number) × (number ≤ 13))
-          → (v ≡ pass → P (go (bookOf bytes))) → P (withBook bytes refuse v go)
-      at pass n h = h refl
-      at (fail number place) n h = let l = n number place refl in k number place (l .0) (l .1)
+      at : (v : Verdict) → verdict bytes ≡ v → P (withBook bytes refuse v go)
+      at pass e = h e
+      at (fail number place) e = k number place e
 
 -- 1 to 14, then the rest
 pub sheet-holds : (P : Result → Type 0) (k : ℕ) (bytes s o : List ℕ) (go : Book → Result)
-    → ((number place : ℕ) → 1 ≤ number → number ≤ 14 → P (turned k s o number place))
+    → ((number place : ℕ) → verdict bytes ≡ fail number place → P (turned k s o number place))
+    → (verdict bytes ≡ pass → faultOf (bookOf bytes) s < places → P (turned k s o 14 (faultOf (bookOf bytes) s)))
     → (verdict bytes ≡ pass → places ≤ faultOf (bookOf bytes) s → P (go (bookOf bytes))) → P (onSheet k bytes s o go)
-sheet-holds P k bytes s o go n h =
-    book-holds P (turned k s o) bytes (λ b. faultThen (turned k s o) (faultOf b s) (go b)) (λ number place l u. n number place l (omega arith))
-    (λ e. fault-holds P (turned k s o) (faultOf (bookOf bytes) s) (n 14 (faultOf (bookOf bytes) s) (omega arith) (omega arith)) (h e))
+sheet-holds P k bytes s o go n f h =
+    book-holds P (turned k s o) bytes (λ b. faultThen (turned k s o) (faultOf b s) (go b)) n
+    (λ e. fault-holds P (turned k s o) (faultOf (bookOf bytes) s) (f e) (h e))
 
 -- ---- what an accepted call has passed
 
@@ -55,12 +52,15 @@ module _ (P : Result → Type 0) (k : ℕ) (bytes s o : List ℕ) (go : Book →
   refusal-where : (number place : ℕ) → 1 ≤ number → Where P (turned k s o number place)
   refusal-where number place l e = absurd (omega arith)
 
+  book-refused : (number place : ℕ) → verdict bytes ≡ fail number place → Where P (turned k s o number place)
+  book-refused number place e = refusal-where number place (fail-number bytes number place e .0)
+
   pub book-where : (verdict bytes ≡ pass → Where P (go (bookOf bytes))) → Where P (withBook bytes (turned k s o) (verdict bytes) go)
-  book-where h = book-holds (Where P) (turned k s o) bytes go (λ number place l u. refusal-where number place l) h
+  book-where h = book-holds (Where P) (turned k s o) bytes go book-refused h
 
   pub sheet-where : (verdict bytes ≡ pass → places ≤ faultOf (bookOf bytes) s → Where P (go (bookOf bytes)))
       → Where P (onSheet k bytes s o go)
-  sheet-where h = sheet-holds (Where P) k bytes s o go (λ number place l u. refusal-where number place l) h
+  sheet-where h = sheet-holds (Where P) k bytes s o go book-refused (λ e l. refusal-where 14 (faultOf (bookOf bytes) s) (omega arith)) h
 
 -- ---- where no test turns it down
 

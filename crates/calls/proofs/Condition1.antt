@@ -1,83 +1,123 @@
--- Condition 1: a refusal has its counts 0, and leaves the sheet and the lent buffer as they were. Assumes nothing.
-use mathlib.Core.Path.{refl}
+-- Condition 1: a refusal has its number and place on its condition only, its counts 0, and leaves the sheet and the lent buffer as they were.
+-- Assumes nothing.
+use mathlib.Core.Path.{_≡_, refl}
 use mathlib.Core.Logic.{_≢_}
-use mathlib.Core.List.{List}
-use mathlib.Core.Bool.{Bool}
-use Prim.Native.Nat.{ℕ, _*_, _≤_}
+use mathlib.Core.List.{List, []}
+use mathlib.Core.Bool.{Bool, true, false}
+use Prim.Native.Nat.{ℕ, _*_, _<_}
 use native.Mathlib.Omega.{arith}
 use lib.ListN.{length}
 use lib.Dec.{ltb, eqb}
+use borrow.Author.Tests.{ltb-true, ltb-false, eqb-true, eqb-false}
 use Rattle.format.specs.Basics.{pick}
-use Rattle.format.specs.Format.{Book, bookOf}
-use Rattle.format.proofs.Picks.{pick-holds}
-use Rattle.consistency.specs.Consistency.{codes, answer, relax}
+use Rattle.format.specs.Format.{Book, bookCounts, bookOf}
+use Rattle.format.specs.Reading.{Verdict, pass, fail, verdict, outcome, reading}
+use Rattle.format.proofs.Scans.{bad-before, bad-fails}
+use Rattle.format.proofs.Numbers.{book-refusal}
+use Rattle.consistency.specs.Consistency.{places, codes, answer, relax}
 use Rattle.consistency.specs.Counts.{total}
-use Rattle.calls.specs.Calls.{Result, turned, done, faultOf, onSheet, masksInto, sheetFrom, entered, withdrawn, filtered, alternatives, loaded, stored}
-use Rattle.calls.specs.Conditions.{Request, to-enter, to-withdraw, to-clear, to-filter, to-list, to-store, to-load, sheetGiven, lentTo, countsOf, ChangesNothing, Condition1}
-use Rattle.calls.proofs.CallLaws.{fault-holds, book-holds, sheet-holds}
+use Rattle.calls.specs.Calls.{Result, turned, done, placeOk, faultOf, onSheet, masksInto, sheetFrom, entered, withdrawn, filtered, alternatives, loaded, stored}
+use Rattle.calls.specs.Conditions.{Request, to-read, to-fresh, to-enter, to-withdraw, to-clear, to-filter, to-list, to-store, to-load, resultOf, sheetGiven, lentTo, countsOf, FirstFault, Refusal, enter-14, enter-15, enter-16, withdraw-14, withdraw-15, withdraw-17, filter-14, filter-15, filter-17, filter-18, list-14, list-18, store-14, store-18, load-19, load-14, RefusedBy, the-book, the-call, IsRefusal, Condition1}
+use Rattle.calls.proofs.CallLaws.{pick-cases, fault-holds, book-holds, sheet-holds}
 
--- r is an answer that accepts, or a refusal that changes nothing
-abbrev Settled : List ℕ → Request → Result → Type 0
-Settled s q r = r .outcome .number ≢ 0 → ChangesNothing s q r
+-- the first place at which the test of 14 fails is the first field at fault
+first-fault : (b : Book) (s : List ℕ) → faultOf b s < places → FirstFault b s (faultOf b s)
+first-fault b s l =
+    record {
+      in-sheet = l;
+      fails = bad-fails (placeOk b s) 0 places (omega arith) l;
+      before = λ k u. bad-before (placeOk b s) 0 places k (omega arith) u;
+    }
+
+-- r is an answer that accepts, or a refusal of call q
+abbrev Settled : List ℕ → List ℕ → Request → Result → Type 0
+Settled bytes s q r = r .outcome .number ≢ 0 → IsRefusal bytes s q r
 
 -- call q on sheet s turned down
 abbrev refusal : List ℕ → Request → ℕ → ℕ → Result
 refusal s q number place = turned (countsOf q) (sheetGiven s q) (lentTo q) number place
 
-module _ {s : List ℕ} {q : Request} where
-  -- 1 to 14, with their place
-  refusal-settled : (number place : ℕ) → number ≤ 14 → Settled s q (refusal s q number place)
-  refusal-settled number place l n = record { counts = refl; sheet = refl; buffer = refl; place = λ m. absurd (omega arith) }
+module _ {bytes s : List ℕ} {q : Request} where
+  refused-by : {number place : ℕ} → RefusedBy bytes s q number place → Settled bytes s q (refusal s q number place)
+  refused-by why n = record { reason = why; counts = refl; sheet = refl; buffer = refl }
 
-  -- the others, place 0
-  late-settled : (number : ℕ) → Settled s q (refusal s q number 0)
-  late-settled number n = record { counts = refl; sheet = refl; buffer = refl; place = λ m. refl }
+  -- 1 to 13
+  by-book : (number place : ℕ) → verdict bytes ≡ fail number place → Settled bytes s q (refusal s q number place)
+  by-book number place e = refused-by (the-book e (book-refusal bytes e))
 
-  done-settled : {counts t o : List ℕ} → Settled s q (done counts t o)
+  -- the others
+  by-call : {number place : ℕ} → verdict bytes ≡ pass → Refusal (bookOf bytes) s q number place → Settled bytes s q (refusal s q number place)
+  by-call e why = refused-by (the-call e why)
+
+  done-settled : {counts t o : List ℕ} → Settled bytes s q (done counts t o)
   done-settled n = absurd (n refl)
 
-  -- a test that turns the call down, place 0, where it passes; and one where it fails
-  pass-settled : (t : Bool) (number : ℕ) {r : Result} → Settled s q r → Settled s q (pick t (refusal s q number 0) r)
-  pass-settled t number h = pick-holds (Settled s q) t (late-settled number) h
+  -- a test that turns the call down where it passes, and one where it fails
+  pass-settled : verdict bytes ≡ pass → (t : Bool) {number : ℕ} {r : Result} → (t ≡ true → Refusal (bookOf bytes) s q number 0)
+      → (t ≡ false → Settled bytes s q r) → Settled bytes s q (pick t (refusal s q number 0) r)
+  pass-settled e t why h = pick-cases (Settled bytes s q) t (λ y. by-call e (why y)) h
 
-  fail-settled : (t : Bool) (number : ℕ) {r : Result} → Settled s q r → Settled s q (pick t r (refusal s q number 0))
-  fail-settled t number h = pick-holds (Settled s q) t h (late-settled number)
+  fail-settled : verdict bytes ≡ pass → (t : Bool) {number : ℕ} {r : Result} → (t ≡ false → Refusal (bookOf bytes) s q number 0)
+      → (t ≡ true → Settled bytes s q r) → Settled bytes s q (pick t r (refusal s q number 0))
+  fail-settled e t why h = pick-cases (Settled bytes s q) t h (λ y. by-call e (why y))
 
   -- a call on a sheet: 1 to 14, then the rest
-  sheet-settled : (bytes : List ℕ) (go : Book → Result) → Settled s q (go (bookOf bytes))
-      → Settled s q (onSheet (countsOf q) bytes (sheetGiven s q) (lentTo q) go)
-  sheet-settled bytes go h =
-      sheet-holds (Settled s q) (countsOf q) bytes (sheetGiven s q) (lentTo q) go
-      (λ number place l u. refusal-settled number place u) (λ e w. h)
+  sheet-settled : (go : Book → Result)
+      → ((p : ℕ) → FirstFault (bookOf bytes) (sheetGiven s q) p → Refusal (bookOf bytes) s q 14 p)
+      → (verdict bytes ≡ pass → Settled bytes s q (go (bookOf bytes)))
+      → Settled bytes s q (onSheet (countsOf q) bytes (sheetGiven s q) (lentTo q) go)
+  sheet-settled go at-fault h =
+      sheet-holds (Settled bytes s q) (countsOf q) bytes (sheetGiven s q) (lentTo q) go by-book
+      (λ e l. by-call e (at-fault (faultOf (bookOf bytes) (sheetGiven s q)) (first-fault (bookOf bytes) (sheetGiven s q) l))) (λ e w. h e)
+
+-- what reading answers
+read-settled : (bytes s : List ℕ) → Settled bytes s to-read (resultOf bytes s to-read)
+unfolding reading
+read-settled bytes s = at (verdict bytes) refl
+  where
+    at : (v : Verdict) → verdict bytes ≡ v → Settled bytes s to-read (record { outcome = outcome v (bookCounts (bookOf bytes)); sheet = s; buffer = [] })
+    at pass e = done-settled
+    at (fail number place) e = by-book number place e
 
 pub condition1 : Condition1
 unfolding entered withdrawn filtered alternatives loaded stored
+condition1 bytes s to-read = read-settled bytes s
+condition1 bytes s to-fresh = done-settled
 condition1 bytes s (to-enter f c) =
     let b : Book = bookOf bytes in
-    sheet-settled bytes _
-    (fail-settled (ltb f (length (b .counts))) 15
-    (fail-settled (ltb c (codes b f)) 16 done-settled))
+    sheet-settled _ (λ p. enter-14) (λ e.
+    fail-settled e (ltb f (length (b .counts))) (λ t. enter-15 (ltb-false f (length (b .counts)) t)) (λ t.
+    fail-settled e (ltb c (codes b f)) (λ u. enter-16 (ltb-true f (length (b .counts)) t) (ltb-false c (codes b f) u)) (λ u.
+    done-settled)))
 condition1 bytes s (to-withdraw f) =
     let b : Book = bookOf bytes in
-    sheet-settled bytes _
-    (fail-settled (ltb f (length (b .counts))) 15
-    (pass-settled (eqb (answer s f) 255) 17 done-settled))
+    sheet-settled _ (λ p. withdraw-14) (λ e.
+    fail-settled e (ltb f (length (b .counts))) (λ t. withdraw-15 (ltb-false f (length (b .counts)) t)) (λ t.
+    pass-settled e (eqb (answer s f) 255) (λ u. withdraw-17 (ltb-true f (length (b .counts)) t) (eqb-true (answer s f) 255 u)) (λ u.
+    done-settled)))
 condition1 bytes s to-clear = done-settled
 condition1 bytes s (to-filter f o) =
     let b : Book = bookOf bytes in
-    let masks-settled : (a : List ℕ) → Settled s (to-filter f o) (masksInto b s a o) =
-    (λ a. pass-settled (ltb (length o) (length (b .counts))) 18 done-settled) in
-    sheet-settled bytes _
-    (pick-holds (Settled s (to-filter f o)) (eqb f 255) (masks-settled s)
-    (fail-settled (ltb f (length (b .counts))) 15
-    (pass-settled (eqb (answer s f) 255) 17 (masks-settled (relax s f)))))
+    let n : ℕ = length (b .counts) in
+    let masks-settled : verdict bytes ≡ pass → (a : List ℕ) → Settled bytes s (to-filter f o) (masksInto b s a o) =
+    (λ e a. pass-settled e (ltb (length o) n) (λ t. filter-18 (ltb-true (length o) n t)) (λ t. done-settled)) in
+    sheet-settled _ (λ p. filter-14) (λ e.
+    pick-cases (Settled bytes s (to-filter f o)) (eqb f 255) (λ t. masks-settled e s) (λ t.
+    let some : f ≢ 255 = eqb-false f 255 t in
+    fail-settled e (ltb f n) (λ u. filter-15 some (ltb-false f n u)) (λ u.
+    pass-settled e (eqb (answer s f) 255) (λ v. filter-17 some (ltb-true f n u) (eqb-true (answer s f) 255 v)) (λ v.
+    masks-settled e (relax s f)))))
 condition1 bytes s (to-list o) =
-    sheet-settled bytes _ (pass-settled (ltb (length o) (2 * total (bookOf bytes) s)) 18 done-settled)
+    let enough : ℕ = 2 * total (bookOf bytes) s in
+    sheet-settled _ (λ p. list-14) (λ e. pass-settled e (ltb (length o) enough) (λ t. list-18 (ltb-true (length o) enough t)) (λ t. done-settled))
 condition1 bytes s (to-store o) =
-    sheet-settled bytes _ (pass-settled (ltb (length o) (length (bookOf bytes .counts))) 18 done-settled)
+    let n : ℕ = length (bookOf bytes .counts) in
+    sheet-settled _ (λ p. store-14) (λ e. pass-settled e (ltb (length o) n) (λ t. store-18 (ltb-true (length o) n t)) (λ t. done-settled))
 condition1 bytes s (to-load form) =
-    let S : Result → Type 0 = Settled s (to-load form) in
-    book-holds S (refusal s (to-load form)) bytes _ (λ number place l u. refusal-settled number place (omega arith))
-    (λ e. fail-settled (eqb (length form) (length (bookOf bytes .counts))) 19
-    (fault-holds S (refusal s (to-load form)) (faultOf (bookOf bytes) (sheetFrom form)) (refusal-settled 14 _ (omega arith))
-    (λ w. done-settled)))
+    let S : Result → Type 0 = Settled bytes s (to-load form) in
+    let b : Book = bookOf bytes in
+    let n : ℕ = length (b .counts) in
+    book-holds S (refusal s (to-load form)) bytes _ by-book (λ e.
+    fail-settled e (eqb (length form) n) (λ t. load-19 (eqb-false (length form) n t)) (λ t.
+    fault-holds S (refusal s (to-load form)) (faultOf b (sheetFrom form))
+    (λ l. by-call e (load-14 (eqb-true (length form) n t) (first-fault b (sheetFrom form) l))) (λ w. done-settled)))

@@ -1,8 +1,9 @@
--- Condition 3 at work: two different books, both accepted, that are alike; and a list of calls with every refusal, with what listing answers behind
--- it, computed. Assumes nothing.
+-- Condition 3 at work: two different books, both accepted, that are alike; a list of calls with every refusal, with what listing answers behind
+-- it, computed; and an enter of a code that does not stand. Assumes nothing.
 use Prim.Native.Nat.{ℕ}
 use mathlib.Core.Path.{_≡_, refl, sym, ap, _∙_, subst₂}
 use mathlib.Core.Logic.{_≢_}
+use mathlib.Core.Bool.{false}
 use mathlib.Core.List.{List, [], _∷_}
 use native.Mathlib.Omega.{arith}
 use lib.ListN.{replicate}
@@ -12,11 +13,11 @@ use Rattle.format.specs.Reading.{Outcome, trailerTest, listTest, rowsStep, tabl
 use Rattle.format.specs.Examples.{e1, e1′}
 use Rattle.format.proofs.Witness.{e1-reading}
 use Rattle.consistency.specs.Consistency.{fieldOf, nth}
-use Rattle.consistency.specs.Largest.{largestDomains, rounds, start, remove, removeFrom, count, countOf, bookSupports, tableSupports, rowSupports}
+use Rattle.consistency.specs.Largest.{largest, largestDomains, rounds, start, remove, removeFrom, count, countOf, bookSupports, tableSupports, rowSupports}
 use Rattle.consistency.specs.Counts.{total, struck, lines, outside}
 use Rattle.consistency.specs.Alike.{Alike}
 use Rattle.consistency.proofs.AlikeExample.{example, turned, example-alike}
-use Rattle.calls.specs.Calls.{freshSheet, done, entered, withdrawn, alternatives}
+use Rattle.calls.specs.Calls.{freshSheet, done, sheetFrom, entered, withdrawn, alternatives}
 use Rattle.calls.specs.Histories.{Call, enter, withdraw, clear, results, sheetThrough, sheetAfter}
 use Rattle.calls.specs.Conditions.{SameResults, numbers}
 use Rattle.calls.proofs.Condition3.{condition3}
@@ -70,3 +71,19 @@ pub some-alternatives : alternatives e1 (sheetAfter e1 someCalls) (replicate 9 7
     ≡ done (4 ∷ 11 ∷ []) (0 ∷ 1 ∷ replicate 30 255) (0 ∷ 0 ∷ 0 ∷ 1 ∷ 1 ∷ 0 ∷ 1 ∷ 1 ∷ 7 ∷ [])
 unfolding alternatives total struck lines outside largestDomains rounds start remove removeFrom count countOf bookSupports tableSupports rowSupports sheetThrough entered withdrawn verdict trailerTest listTest tablesStep tableStep rowsStep firstBad scan bookOf tablesAt tableAt rowsAt
 some-alternatives = refl
+
+-- ---- "It is accepted even if the code isn't standing: the observer saw it"
+
+-- E1 with field 0 answered 1
+abbrev seen : List ℕ
+seen = sheetAfter e1 (enter 0 1 ∷ [])
+
+-- code 0 of field 1 does not stand
+pub not-standing : largest (bookOf e1) seen 1 0 ≡ false
+unfolding largestDomains rounds start remove removeFrom count countOf bookSupports tableSupports rowSupports sheetThrough entered verdict trailerTest listTest tablesStep tableStep rowsStep firstBad scan bookOf tablesAt tableAt rowsAt
+not-standing = refl
+
+-- entering it is accepted, and gives E2's sheet
+pub still-entered : entered e1 seen 1 0 ≡ done [] (sheetFrom (1 ∷ 0 ∷ 255 ∷ [])) []
+unfolding sheetThrough entered verdict trailerTest listTest tablesStep tableStep rowsStep firstBad scan bookOf tablesAt tableAt rowsAt
+still-entered = refl

@@ -9,7 +9,9 @@ pub mod Examples
 pub mod Written
 pub mod Condition3
 pub mod Condition1
+pub mod Buffers
 pub mod Condition2
+pub mod Repeats
 pub mod Instances
 pub mod Held
 pub mod Agreement

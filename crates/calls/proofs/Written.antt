@@ -1,14 +1,24 @@
--- Lists of calls as bytes: a loop over them takes three at a time, and every list of calls whose arguments are bytes is written by some bytes.
--- Assumes nothing.
+-- Lists of calls as bytes: a loop over them takes three at a time, and every list of calls is written by some bytes. Assumes nothing.
 use Prim.Native.Nat.{ℕ, _+_, _≤_, _<_}
-use mathlib.Core.Path.{_≡_, refl, ap}
-use mathlib.Core.List.{List, [], _∷_}
+use mathlib.Core.Path.{_≡_, refl, sym, ap, _∙_, subst}
+use mathlib.Core.Bool.{Bool, true, false}
+use mathlib.Core.List.{List, [], _∷_, map}
 use native.Mathlib.Omega.{arith}
+use borrow.Author.Tests.{ltb-true, ltb-false, le-ltb}
 use lib.ListN.{length, getD, drop, length-drop}
-use Rattle.format.specs.Basics.{All}
+use lib.Dec.{ltb}
+use Rattle.format.specs.Basics.{pick}
+use Rattle.format.specs.Format.{Book, bookOf}
+use Rattle.format.specs.Reading.{Accepted}
 use Rattle.format.specs.Layout.{Bytes}
+use Rattle.format.proofs.Picks.{pick-cases}
 use Rattle.format.proofs.Drops.{one-then}
-use Rattle.calls.specs.Histories.{Call, enter, withdraw, clear, addCall, callsIn, Small}
+use Rattle.consistency.specs.Consistency.{codes}
+use Rattle.calls.specs.Calls.{Result}
+use Rattle.calls.specs.Histories.{Call, enter, withdraw, clear, Answers, refusalOf, after, answersFrom, noAnswers, sheetOf, addCall, callsIn, SameCalls, EveryListWritten}
+use Rattle.calls.proofs.Sheets.{Within, accepted-within}
+use Rattle.calls.proofs.Steps.{stepOf}
+use Rattle.calls.proofs.CallLists.{stepsFrom, results-are, sheet-after}
 
 -- ---- by places in the bytes
 
@@ -37,27 +47,101 @@ module _ (l : List ℕ) (i : ℕ) where
 
 -- ---- writing
 
+-- a number as a byte: 255 for any that is larger
+abbrev clip : ℕ → ℕ
+clip x = pick (ltb x 255) x 255
+
+clip-byte : (x : ℕ) → clip x < 256
+clip-byte x = pick-cases (λ y. y < 256) (ltb x 255) (λ e. omega (arith, ltb-true x 255 e)) (λ e. omega arith)
+
+abbrev clipped : Call → Call
+clipped (enter f c) = enter (clip f) (clip c)
+clipped (withdraw f) = withdraw (clip f)
+clipped clear = clear
+
 -- the three bytes of a call, before those of the calls behind it
 unfoldable bytesOf : List Call → List ℕ
 bytesOf [] = []
-bytesOf (enter f c ∷ calls) = 0 ∷ f ∷ c ∷ bytesOf calls
-bytesOf (withdraw f ∷ calls) = 1 ∷ f ∷ 0 ∷ bytesOf calls
+bytesOf (enter f c ∷ calls) = 0 ∷ clip f ∷ clip c ∷ bytesOf calls
+bytesOf (withdraw f ∷ calls) = 1 ∷ clip f ∷ 0 ∷ bytesOf calls
 bytesOf (clear ∷ calls) = 2 ∷ 0 ∷ 0 ∷ bytesOf calls
 
-bytes-small : (calls : List Call) → All Small calls → Bytes (bytesOf calls)
+bytes-small : (calls : List Call) → Bytes (bytesOf calls)
 unfolding bytesOf
-bytes-small [] s = tt
-bytes-small (enter f c ∷ calls) s = (omega arith, (s .0 .0, (s .0 .1, bytes-small calls (s .1))))
-bytes-small (withdraw f ∷ calls) s = (omega arith, (s .0, (omega arith, bytes-small calls (s .1))))
-bytes-small (clear ∷ calls) s = (omega arith, (omega arith, (omega arith, bytes-small calls (s .1))))
+bytes-small [] = tt
+bytes-small (enter f c ∷ calls) = (omega arith, (clip-byte f, (clip-byte c, bytes-small calls)))
+bytes-small (withdraw f ∷ calls) = (omega arith, (clip-byte f, (omega arith, bytes-small calls)))
+bytes-small (clear ∷ calls) = (omega arith, (omega arith, (omega arith, bytes-small calls)))
 
-bytes-calls : (calls : List Call) → callsIn (bytesOf calls) ≡ calls
+bytes-calls : (calls : List Call) → callsIn (bytesOf calls) ≡ map clipped calls
 unfolding bytesOf callsIn
 bytes-calls [] = refl
-bytes-calls (enter f c ∷ calls) = ap (λ (x : List Call). enter f c ∷ x) (bytes-calls calls)
-bytes-calls (withdraw f ∷ calls) = ap (λ (x : List Call). withdraw f ∷ x) (bytes-calls calls)
+bytes-calls (enter f c ∷ calls) = ap (λ (x : List Call). enter (clip f) (clip c) ∷ x) (bytes-calls calls)
+bytes-calls (withdraw f ∷ calls) = ap (λ (x : List Call). withdraw (clip f) ∷ x) (bytes-calls calls)
 bytes-calls (clear ∷ calls) = ap (λ (x : List Call). clear ∷ x) (bytes-calls calls)
 
--- "of any length and also empty"
-pub written : (calls : List Call) → All Small calls → (bytes : List ℕ) × Bytes bytes × (callsIn bytes ≡ calls)
-written calls s = (bytesOf calls, bytes-small calls s, bytes-calls calls)
+-- ---- a book has no field 255, no code 255, and none above
+
+module _ (b : Book) (w : Within b) where
+  -- two calls that the answers a do not tell apart
+  record Same (a : Answers) (call call′ : Call) : Type 0 where
+    refusal : refusalOf b a call ≡ refusalOf b a call′
+    answers : after b a call ≡ after b a call′
+
+  same : (a : Answers) (call : Call) → Same a call call
+  same a call = record { refusal = refl; answers = refl }
+
+  no-field : (f : ℕ) → 255 ≤ f → ltb f (length (b .counts)) ≡ false
+  no-field f l = le-ltb f (length (b .counts)) (omega (arith, w .few))
+
+  no-code : (f c : ℕ) → 255 ≤ c → ltb c (codes b f) ≡ false
+  no-code f c l = le-ltb c (codes b f) (omega (arith, w .small f))
+
+  -- both have no such field, or no such code
+  field-same : (a : Answers) (f f′ c c′ : ℕ) → 255 ≤ f → 255 ≤ f′ → Same a (enter f c) (enter f′ c′)
+  field-same a f f′ c c′ l l′ = record { refusal = rw (no-field f l, no-field f′ l′); answers = rw (no-field f l, no-field f′ l′) }
+
+  code-same : (a : Answers) (f c c′ : ℕ) → 255 ≤ c → 255 ≤ c′ → (t : Bool) → ltb f (length (b .counts)) ≡ t → Same a (enter f c) (enter f c′)
+  code-same a f c c′ l l′ true e = record { refusal = rw (no-code f c l, no-code f c′ l′); answers = rw (e, no-code f c l, no-code f c′ l′) }
+  code-same a f c c′ l l′ false e = record { refusal = rw e; answers = rw e }
+
+  withdraw-same : (a : Answers) (f f′ : ℕ) → 255 ≤ f → 255 ≤ f′ → Same a (withdraw f) (withdraw f′)
+  withdraw-same a f f′ l l′ = record { refusal = rw (no-field f l, no-field f′ l′); answers = rw (no-field f l, no-field f′ l′) }
+
+  clipped-same : (a : Answers) (call : Call) → Same a (clipped call) call
+  clipped-same a (enter f c) =
+      pick-cases (λ x. Same a (enter x (clip c)) (enter f c)) (ltb f 255)
+      (λ e. pick-cases (λ y. Same a (enter f y) (enter f c)) (ltb c 255) (λ d. same a (enter f c))
+      (λ d. code-same a f 255 c (omega arith) (ltb-false c 255 d) (ltb f (length (b .counts))) refl))
+      (λ e. field-same a 255 f (clip c) c (omega arith) (ltb-false f 255 e))
+  clipped-same a (withdraw f) =
+      pick-cases (λ x. Same a (withdraw x) (withdraw f)) (ltb f 255) (λ e. same a (withdraw f))
+      (λ e. withdraw-same a 255 f (omega arith) (ltb-false f 255 e))
+  clipped-same a clear = same a clear
+
+  answers-clipped : (a : Answers) (calls : List Call) → answersFrom b a (map clipped calls) ≡ answersFrom b a calls
+  unfolding answersFrom
+  answers-clipped a [] = refl
+  answers-clipped a (call ∷ calls) =
+      ap (λ (e : Answers). answersFrom b e (map clipped calls)) (clipped-same a call .answers) ∙ answers-clipped (after b a call) calls
+
+  steps-clipped : (a : Answers) (calls : List Call) → stepsFrom b a (map clipped calls) ≡ stepsFrom b a calls
+  unfolding stepsFrom
+  steps-clipped a [] = refl
+  steps-clipped a (call ∷ calls) =
+      let h = clipped-same a call in
+      rw (h .answers, h .refusal) (ap (λ (x : List Result). stepOf b a call ∷ x) (steps-clipped (after b a call) calls))
+
+pub written : EveryListWritten
+written calls = (bytesOf calls, bytes-small calls, λ bytes ok. subst (λ (x : List Call). SameCalls bytes x calls) (sym (bytes-calls calls)) (at bytes ok))
+  where
+    at : (bytes : List ℕ) → Accepted bytes → SameCalls bytes (map clipped calls) calls
+    at bytes ok =
+        let b : Book = bookOf bytes in
+        let w : Within b = accepted-within bytes ok in
+        let e = answers-clipped b w noAnswers calls in
+        record {
+          results-same = results-are bytes ok (map clipped calls) ∙ steps-clipped b w noAnswers calls ∙ sym (results-are bytes ok calls);
+          sheet-same = sheet-after bytes ok (map clipped calls) ∙ ap sheetOf e ∙ sym (sheet-after bytes ok calls);
+          answers-same = e;
+        }

@@ -4,18 +4,18 @@ use Prim.Native.Nat.{ℕ, _+_, _*_, _^_, _≤_, _<_}
 use mathlib.Core.Path.{_≡_}
 use mathlib.Core.Logic.{_≢_, _↔_}
 use mathlib.Core.List.{List, [], _∷_, _++_}
-use mathlib.Core.Bool.{not}
+use mathlib.Core.Bool.{true, false, not}
 use lib.ListN.{length, getD, take, drop, replicate}
 use lib.Dec.{T, eqb}
 use Rattle.format.specs.Basics.{pick}
 use Rattle.format.specs.Format.{Book, bookOf}
-use Rattle.format.specs.Reading.{accepted, Accepted}
+use Rattle.format.specs.Reading.{accepted, pass, fail, verdict, BookRefusal, reading, Accepted}
 use Rattle.consistency.specs.Counting.{sumOver, those}
-use Rattle.consistency.specs.Consistency.{places, Subdomain, codes, relax, IsLargest}
-use Rattle.consistency.specs.Counts.{bit, codesIn, outside, answered, Line, lineBytes}
+use Rattle.consistency.specs.Consistency.{places, Subdomain, codes, answer, relax, IsLargest}
+use Rattle.consistency.specs.Counts.{bit, codesIn, outside, answered, total, Line, lineBytes}
 use Rattle.consistency.specs.Order.{InOrder, In}
 use Rattle.consistency.specs.Alike.{Alike}
-use Rattle.calls.specs.Calls.{Result, freshSheet, done, entered, withdrawn, cleared, filtered, alternatives, loaded, stored}
+use Rattle.calls.specs.Calls.{Result, freshSheet, done, placeOk, sheetFrom, entered, withdrawn, cleared, filtered, alternatives, loaded, stored}
 use Rattle.calls.specs.Histories.{Call, Answer, none, is, Answers, given, noAnswers, answersAfter, refusalsFrom, sheetOf, results, sheetAfter}
 
 -- ---- Condition 1: "The answer to any bytes, sheet and call is the one that document 01 defines" is the contracts of the calls;
@@ -23,6 +23,8 @@ use Rattle.calls.specs.Histories.{Call, Answer, none, is, Answers, given
 
 -- a call with its arguments, and the buffer lent where it takes one
 pub data Request : Type 0 where
+  to-read : Request
+  to-fresh : Request
   to-enter : ℕ → ℕ → Request
   to-withdraw : ℕ → Request
   to-clear : Request
@@ -32,6 +34,8 @@ pub data Request : Type 0 where
   to-load : List ℕ → Request
 
 abbrev pub resultOf : List ℕ → List ℕ → Request → Result
+resultOf bytes s to-read = record { outcome = reading bytes; sheet = s; buffer = [] }
+resultOf bytes s to-fresh = done [] freshSheet []
 resultOf bytes s (to-enter f c) = entered bytes s f c
 resultOf bytes s (to-withdraw f) = withdrawn bytes s f
 resultOf bytes s to-clear = cleared s
@@ -42,6 +46,8 @@ resultOf bytes s (to-load form) = loaded bytes form
 
 -- the sheet given; "It is given no sheet: a refused load hands back a fresh one"
 abbrev pub sheetGiven : List ℕ → Request → List ℕ
+sheetGiven s to-read = s
+sheetGiven s to-fresh = s
 sheetGiven s (to-enter f c) = s
 sheetGiven s (to-withdraw f) = s
 sheetGiven s to-clear = s
@@ -51,6 +57,8 @@ sheetGiven s (to-store o) = s
 sheetGiven s (to-load form) = freshSheet
 
 abbrev pub lentTo : Request → List ℕ
+lentTo to-read = []
+lentTo to-fresh = []
 lentTo (to-enter f c) = []
 lentTo (to-withdraw f) = []
 lentTo to-clear = []
@@ -61,6 +69,8 @@ lentTo (to-load form) = []
 
 -- how many things the call counts
 abbrev pub countsOf : Request → ℕ
+countsOf to-read = 4
+countsOf to-fresh = 0
 countsOf (to-enter f c) = 0
 countsOf (to-withdraw f) = 0
 countsOf to-clear = 0
@@ -69,16 +79,52 @@ countsOf (to-list o) = 2
 countsOf (to-store o) = 0
 countsOf (to-load form) = 0
 
--- "All counts in it are 0, each lent buffer keeps its bytes, and the sheet comes back as given"; "a byte of the book for 1 to 13, the
--- first field at fault for 14, else 0"
-pub record ChangesNothing (s : List ℕ) (q : Request) (r : Result) : Type 0 where
+-- 14, "the first field at fault": place p fails the test of 14, and each place before it passes
+pub record FirstFault (b : Book) (s : List ℕ) (p : ℕ) : Type 0 where
+  pub in-sheet : p < places
+  pub fails : placeOk b s p ≡ false
+  pub before : (k : ℕ) → k < p → placeOk b s k ≡ true
+
+-- The refusals of each call on sheet s behind 1 to 13, with number and place, each on its condition only; reading has none, "Fresh and clear: none"
+pub data Refusal (b : Book) (s : List ℕ) : Request → ℕ → ℕ → Type 0 where
+  -- Enter: "14 ..; 15, no such field; 16, no such code"
+  enter-14 : {f c p : ℕ} → FirstFault b s p → Refusal b s (to-enter f c) 14 p
+  enter-15 : {f c : ℕ} → length (b .counts) ≤ f → Refusal b s (to-enter f c) 15 0
+  enter-16 : {f c : ℕ} → f < length (b .counts) → codes b f ≤ c → Refusal b s (to-enter f c) 16 0
+  -- Withdraw: "14, 15, then 17, the field has no answer"
+  withdraw-14 : {f p : ℕ} → FirstFault b s p → Refusal b s (to-withdraw f) 14 p
+  withdraw-15 : {f : ℕ} → length (b .counts) ≤ f → Refusal b s (to-withdraw f) 15 0
+  withdraw-17 : {f : ℕ} → f < length (b .counts) → answer s f ≡ 255 → Refusal b s (to-withdraw f) 17 0
+  -- Plain filtering: "a number, or 255 for none: .. 14, 15, 17, then 18, fewer numbers lent than fields"
+  filter-14 : {f p : ℕ} {o : List ℕ} → FirstFault b s p → Refusal b s (to-filter f o) 14 p
+  filter-15 : {f : ℕ} {o : List ℕ} → f ≢ 255 → length (b .counts) ≤ f → Refusal b s (to-filter f o) 15 0
+  filter-17 : {f : ℕ} {o : List ℕ} → f ≢ 255 → f < length (b .counts) → answer s f ≡ 255 → Refusal b s (to-filter f o) 17 0
+  filter-18 : {f : ℕ} {o : List ℕ} → length o < length (b .counts) → Refusal b s (to-filter f o) 18 0
+  -- Alternatives: "14, then 18, exactly when fewer than 2 × total bytes are lent"
+  list-14 : {p : ℕ} {o : List ℕ} → FirstFault b s p → Refusal b s (to-list o) 14 p
+  list-18 : {o : List ℕ} → length o < 2 * total b s → Refusal b s (to-list o) 18 0
+  -- Storing: "14, 18 if fewer bytes are lent than fields"
+  store-14 : {p : ℕ} {o : List ℕ} → FirstFault b s p → Refusal b s (to-store o) 14 p
+  store-18 : {o : List ℕ} → length o < length (b .counts) → Refusal b s (to-store o) 18 0
+  -- Loading: "19 if its length isn't the number of fields, 14"
+  load-19 : {form : List ℕ} → length form ≢ length (b .counts) → Refusal b s (to-load form) 19 0
+  load-14 : {p : ℕ} {form : List ℕ} → length form ≡ length (b .counts) → FirstFault b (sheetFrom form) p → Refusal b s (to-load form) 14 p
+
+-- "A refusal gives its number and a place (a byte of the book for 1 to 13, the first field at fault for 14, else 0)"
+pub data RefusedBy (bytes s : List ℕ) (q : Request) (number place : ℕ) : Type 0 where
+  -- 1 to 13: the reader's first
+  the-book : verdict bytes ≡ fail number place → BookRefusal (length bytes) number place → RefusedBy bytes s q number place
+  the-call : verdict bytes ≡ pass → Refusal (bookOf bytes) s q number place → RefusedBy bytes s q number place
+
+-- r is a refusal of call q: number and place; "All counts in it are 0, each lent buffer keeps its bytes, and the sheet comes back as given"
+pub record IsRefusal (bytes s : List ℕ) (q : Request) (r : Result) : Type 0 where
+  pub reason : RefusedBy bytes s q (r .outcome .number) (r .outcome .place)
   pub counts : r .outcome .counts ≡ replicate (countsOf q) 0
   pub sheet : r .sheet ≡ sheetGiven s q
   pub buffer : r .buffer ≡ lentTo q
-  pub place : 14 < r .outcome .number → r .outcome .place ≡ 0
 
 abbrev pub Condition1 : Type 0
-Condition1 = (bytes s : List ℕ) (q : Request) → resultOf bytes s q .outcome .number ≢ 0 → ChangesNothing s q (resultOf bytes s q)
+Condition1 = (bytes s : List ℕ) (q : Request) → resultOf bytes s q .outcome .number ≢ 0 → IsRefusal bytes s q (resultOf bytes s q)
 
 -- ---- Condition 2: "Open codes are exactly the unanswered fields' codes in the largest arc-consistent subdomain under the answers".
 -- ("a book is accepted exactly when it has document 01's layout" is Condition2-layout of crate `format`.)

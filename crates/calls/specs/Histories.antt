@@ -1,16 +1,19 @@
 -- Document 01: "The answers after a list of enter, withdraw and clear calls", and the calls themselves one after another. Assumes nothing.
-use Prim.Native.Nat.{ℕ, _<_}
+use Prim.Native.Nat.{ℕ}
+use mathlib.Core.Path.{_≡_}
 use mathlib.Core.List.{List, [], _∷_}
 use mathlib.Core.Bool.{Bool, true, false}
 use lib.ListN.{length}
 use lib.Dec.{ltb, eqb}
 use Rattle.format.specs.Basics.{pick}
-use Rattle.format.specs.Format.{Book}
+use Rattle.format.specs.Format.{Book, bookOf}
+use Rattle.format.specs.Reading.{Accepted}
+use Rattle.format.specs.Layout.{Bytes}
 use Rattle.consistency.specs.Counting.{tabulate}
 use Rattle.consistency.specs.Consistency.{places, codes}
 use Rattle.calls.specs.Calls.{Result, freshSheet, entered, withdrawn, cleared}
 
--- field and code; field; nothing
+-- field and code; field; nothing. Any numbers, as the calls take them
 pub data Call : Type 0 where
   enter : ℕ → ℕ → Call
   withdraw : ℕ → Call
@@ -104,8 +107,13 @@ callsIn (kind ∷ []) = []
 callsIn (kind ∷ f ∷ []) = []
 callsIn (kind ∷ f ∷ c ∷ rest) = addCall kind f c (callsIn rest)
 
--- the arguments of a call are bytes
-abbrev pub Small : Call → Type 0
-Small (enter f c) = (f < 256) × (c < 256)
-Small (withdraw f) = f < 256
-Small clear = Unit {0}
+-- with these bytes of a book, from a fresh sheet, no answer tells the two lists of calls apart
+pub record SameCalls (bytes : List ℕ) (calls calls′ : List Call) : Type 0 where
+  pub results-same : results bytes freshSheet calls ≡ results bytes freshSheet calls′
+  pub sheet-same : sheetAfter bytes calls ≡ sheetAfter bytes calls′
+  pub answers-same : answersAfter (bookOf bytes) calls ≡ answersAfter (bookOf bytes) calls′
+
+-- Every list of calls, "of any length and also empty", is written by some bytes, the same for every accepted book: a number too large for a byte
+-- is no field and no code, and nor is 255
+abbrev pub EveryListWritten : Type 0
+EveryListWritten = (calls : List Call) → (l : List ℕ) × Bytes l × ((bytes : List ℕ) → Accepted bytes → SameCalls bytes (callsIn l) calls)

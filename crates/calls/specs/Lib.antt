@@ -1,4 +1,5 @@
 pub mod Calls
+pub mod Buffers
 pub mod Histories
 pub mod Conditions
 pub mod Examples

@@ -8,11 +8,14 @@ pub mod Members
 pub mod Sums
 pub mod CodeCounts
 pub mod Lines
+pub mod Marks
+pub mod Limits
 pub mod Masks
 pub mod SameLargest
 pub mod Positions
 pub mod Tables
 pub mod AlikeLaws
+pub mod Repeats
 pub mod CountsAlike
 pub mod AlikeExample
 pub mod Answers

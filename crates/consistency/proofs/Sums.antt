@@ -73,7 +73,7 @@ tabulate-at g (suc n) i (suc k) z l = tabulate-at g n (suc i) k z (le-of-suc-le-
 -- ---- a test and its negation
 
 -- a test or its negation passes, not both
-one-of-two : (x : Bool) → pick x 1 0 + pick (not x) 1 0 ≡ 1
+pub one-of-two : (x : Bool) → pick x 1 0 + pick (not x) 1 0 ≡ 1
 one-of-two true = refl
 one-of-two false = refl
 

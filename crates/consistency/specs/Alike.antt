@@ -1,9 +1,10 @@
--- Document 01, "The book's bytes": when two books are alike. Assumes nothing.
-use Prim.Native.Nat.{ℕ, _<_}
+-- Document 01, "The book's bytes": when two books are alike, and that a row repeated has no further effect. Assumes nothing.
+use Prim.Native.Nat.{ℕ, zero, suc, _<_}
 use mathlib.Core.Path.{_≡_}
-use mathlib.Core.List.{[]}
-use lib.ListN.{length, getD}
-use Rattle.format.specs.Format.{Table, Book}
+use mathlib.Core.Logic.{_≢_}
+use mathlib.Core.List.{List, [], _∷_}
+use lib.ListN.{length, getD, set}
+use Rattle.format.specs.Format.{Table, Book, WellFormed}
 use Rattle.consistency.specs.Consistency.{nth}
 
 -- each row of t stands in u
@@ -26,3 +27,37 @@ pub record Alike (b d : Book) : Type 0 where
   pub from-to : (i : ℕ) → i < length (b .tables) → from (to i) ≡ i
   pub to-from : (i : ℕ) → i < length (d .tables) → to (from i) ≡ i
   pub pairs : (i : ℕ) → i < length (b .tables) → AlikeTables (nth b i) (nth d (to i))
+
+-- ---- "A row repeated in its table has no further effect"
+
+-- a list without what stands at place r
+abbrev pub dropAt : {A : Type 0} → ℕ → List A → List A
+dropAt r [] = []
+dropAt zero (x ∷ xs) = xs
+dropAt (suc r) (x ∷ xs) = x ∷ dropAt r xs
+
+-- b without row r of its table i
+abbrev pub withoutRow : Book → ℕ → ℕ → Book
+withoutRow b i r =
+    record {
+      version = b .version;
+      counts = b .counts;
+      tables = set (b .tables) i (record { fields = nth b i .fields; rows = dropAt r (nth b i .rows) });
+    }
+
+-- row r of table i stands in that table at another place too
+pub record Repeated (b : Book) (i r : ℕ) : Type 0 where
+  pub table-in : i < length (b .tables)
+  pub row-in : r < length (nth b i .rows)
+  pub other : ℕ
+  pub other-in : other < length (nth b i .rows)
+  pub elsewhere : other ≢ r
+  pub same : getD (nth b i .rows) other [] ≡ getD (nth b i .rows) r []
+
+-- the book without such a row is alike, and well-formed if b is
+pub record WithoutEffect (b : Book) (i r : ℕ) : Type 0 where
+  pub alike : Alike b (withoutRow b i r)
+  pub well : WellFormed b → WellFormed (withoutRow b i r)
+
+abbrev pub NoFurtherEffect : Type 0
+NoFurtherEffect = (b : Book) (i r : ℕ) → Repeated b i r → WithoutEffect b i r

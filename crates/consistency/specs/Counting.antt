@@ -24,6 +24,11 @@ abbrev pub those : ℕ → (ℕ → Bool) → List ℕ
 those zero p = []
 those (suc n) p = those n p ++ pick (p n) (n ∷ []) []
 
+-- of how many elements of a list p holds
+abbrev pub howManyIn : {A : Type 0} → (A → Bool) → List A → ℕ
+howManyIn p [] = 0
+howManyIn p (x ∷ xs) = pick (p x) 1 0 + howManyIn p xs
+
 -- the sum of g over the numbers below n
 abbrev pub sumBelow : ℕ → (ℕ → ℕ) → ℕ
 sumBelow zero g = 0
@@ -38,6 +43,11 @@ sumOver (x ∷ xs) g = g x + sumOver xs g
 abbrev pub joinOver : {A : Type 0} → List ℕ → (ℕ → List A) → List A
 joinOver [] g = []
 joinOver (x ∷ xs) g = g x ++ joinOver xs g
+
+-- and over the numbers below n
+abbrev pub joinBelow : {A : Type 0} → ℕ → (ℕ → List A) → List A
+joinBelow zero g = []
+joinBelow (suc n) g = joinBelow n g ++ g n
 
 -- g at i, i + 1, .., n of them
 unfoldable pub tabulate : {A : Type 0} → (ℕ → A) → ℕ → ℕ → List A

@@ -1,12 +1,12 @@
 -- Document 01, "The sheet and its one pass": the cases, and what the pass counts and lists over them. Assumes nothing.
 use Prim.Native.Nat.{ℕ, zero, suc, _+_, _/_, _%_, _^_}
-use mathlib.Core.List.{List, [], _∷_, map}
+use mathlib.Core.List.{List, [], _∷_, _++_, map}
 use mathlib.Core.Bool.{Bool, not}
 use lib.ListN.{length}
 use lib.Dec.{eqb}
 use Rattle.format.specs.Basics.{pick}
 use Rattle.format.specs.Format.{Book}
-use Rattle.consistency.specs.Counting.{howMany, those, sumBelow, sumOver, joinOver, tabulate}
+use Rattle.consistency.specs.Counting.{howMany, those, sumBelow, sumOver, joinOver, joinBelow, tabulate}
 use Rattle.consistency.specs.Consistency.{Subdomain, codes, answer, relax}
 use Rattle.consistency.specs.Largest.{largest}
 
@@ -37,6 +37,28 @@ total b a = sumOver (relaxable b a) (λ f. howMany (codes b f) (listed b a f))
 -- "the number struck": the codes outside the subdomain of each of the n + 1 cases, "those forbidden by an answer included"
 unfoldable pub struck : Book → List ℕ → ℕ
 struck b a = outside b (largest b a) + sumOver (relaxable b a) (λ f. outside b (largest b (relax a f)))
+
+-- "K is the number of codes of all fields of the book together"
+unfoldable pub codeTotal : Book → ℕ
+codeTotal b = sumBelow (length (b .counts)) (codes b)
+
+-- "A mark is a case, a field and a code"; a case by the answers that it keeps
+pub record Mark : Type 0 where
+  pub answers : List ℕ
+  pub field : ℕ
+  pub code : ℕ
+
+-- the marks of the case with answers a: each code of each field
+unfoldable pub caseMarks : Book → List ℕ → List Mark
+caseMarks b a = joinBelow (length (b .counts)) (λ f. joinBelow (codes b f) (λ c. record { answers = a; field = f; code = c } ∷ []))
+
+-- the marks of a pass: "The one pass considers n+1 cases"
+unfoldable pub marks : Book → List ℕ → List Mark
+marks b a = caseMarks b a ++ joinOver (relaxable b a) (λ f. caseMarks b (relax a f))
+
+-- the mark's code is in the largest subdomain of its case
+abbrev pub stays : Book → Mark → Bool
+stays b m = largest b (m .answers) (m .field) (m .code)
 
 pub record Line : Type 0 where
   pub field : ℕ

@@ -12,6 +12,11 @@ pub pick-holds : {A : Type 0} (P : A → Type 0) (t : Bool) {a b : A} → P a �
 pick-holds P true p q = p
 pick-holds P false p q = q
 
+-- either way of a test, with what the test says
+pub pick-cases : {A : Type 0} (P : A → Type 0) (t : Bool) {a b : A} → (t ≡ true → P a) → (t ≡ false → P b) → P (pick t a b)
+pick-cases P true p q = p refl
+pick-cases P false p q = q refl
+
 -- where the second is not the result, the test passed
 pub pick-first : {A : Type 0} (t : Bool) {a b c : A} → (b ≡ c → ⊥) → pick t a b ≡ c → (t ≡ true) × (a ≡ c)
 pick-first true n e = (refl, e)

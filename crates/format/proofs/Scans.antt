@@ -1,7 +1,8 @@
--- Laws of firstBad: one place on, a stop, the end; it reaches the end exactly where the test holds at each place. Assumes nothing.
+-- Laws of firstBad: one place on, a stop, the end; the test holds at each place before the answer and fails at it, so the end is reached
+-- exactly where the test holds at each place. Assumes nothing.
 use mathlib.Core.Path.{_≡_, refl, subst}
 use mathlib.Core.Bool.{Bool, true, false}
-use mathlib.Core.Logic.{_⊎_, inl, inr}
+use mathlib.Core.Logic.{_⊎_, inl, inr, ⊎-elim}
 use Prim.Native.Nat.{ℕ, zero, suc, _+_, _-_, _≤_, _<_}
 use native.Mathlib.Nat.{eq-or-lt-of-le}
 use native.Mathlib.Omega.{arith}
@@ -29,27 +30,41 @@ module _ (ok : ℕ → Bool) where
       let d : e - i ≡ 0 = omega arith in
       rw d
 
-  -- the place i, or one behind it
-  turn : (n i k : ℕ) → (i + 1 + n ≤ scan ok (i + 1) n → i + 1 ≤ k → ok k ≡ true)
-      → i + suc n ≤ pick (ok i) (scan ok (i + 1) n) i → (b : Bool) → ok i ≡ b → (i ≡ k) ⊎ (i < k) → ok k ≡ true
-  turn n i k rest h false e w = let h′ : i + suc n ≤ i = rw e at h in absurd (omega arith)
-  turn n i k rest h true e (inl d) = subst (λ (x : ℕ). ok x ≡ true) d e
-  turn n i k rest h true e (inr d) =
-      let h′ : i + suc n ≤ scan ok (i + 1) n = rw e at h in
-      rest (omega arith) (omega arith)
+  -- at the place i, or behind it
+  turn : (n i k : ℕ) → (i + 1 ≤ k → k < scan ok (i + 1) n → ok k ≡ true) → k < pick (ok i) (scan ok (i + 1) n) i
+      → (b : Bool) → ok i ≡ b → (i ≡ k) ⊎ (i < k) → ok k ≡ true
+  turn n i k rest u false e w = let u′ : k < i = rw e at u in ⊎-elim (λ d. absurd (omega arith)) (λ d. absurd (omega arith)) w
+  turn n i k rest u true e (inl d) = subst (λ (x : ℕ). ok x ≡ true) d e
+  turn n i k rest u true e (inr d) = rest (omega arith) (rw e at u)
 
-  scan-all : (n i : ℕ) → i + n ≤ scan ok i n → (k : ℕ) → i ≤ k → k < i + n → ok k ≡ true
+  scan-before : (n i k : ℕ) → i ≤ k → k < scan ok i n → ok k ≡ true
   unfolding scan
-  scan-all zero i h k l u = absurd (omega arith)
-  scan-all (suc n) i h k l u =
-      turn n i k (λ h′ l′. scan-all n (i + 1) h′ k l′ (omega arith)) h (ok i) refl (eq-or-lt-of-le l)
+  scan-before zero i k l u = absurd (omega arith)
+  scan-before (suc n) i k l u = turn n i k (scan-before n (i + 1) k) u (ok i) refl (eq-or-lt-of-le l)
+
+  -- each place before the answer passes
+  pub bad-before : (i e k : ℕ) → i ≤ k → k < firstBad ok i e → ok k ≡ true
+  unfolding firstBad
+  bad-before i e k l u = scan-before (e - i) i k l u
 
   -- where the end is reached, each place passes
   pub all-pass : (i e : ℕ) → i ≤ e → e ≤ firstBad ok i e → (k : ℕ) → i ≤ k → k < e → ok k ≡ true
+  all-pass i e h b k l u = bad-before i e k l (omega arith)
+
+  stop : (n i : ℕ) → (scan ok (i + 1) n < i + 1 + n → ok (scan ok (i + 1) n) ≡ false) → (b : Bool) → ok i ≡ b
+      → pick b (scan ok (i + 1) n) i < i + suc n → ok (pick b (scan ok (i + 1) n) i) ≡ false
+  stop n i rest true e u = rest (omega arith)
+  stop n i rest false e u = e
+
+  scan-stop : (n i : ℕ) → scan ok i n < i + n → ok (scan ok i n) ≡ false
+  unfolding scan
+  scan-stop zero i u = absurd (omega arith)
+  scan-stop (suc n) i u = stop n i (scan-stop n (i + 1)) (ok i) refl u
+
+  -- where the end is not reached, the answer is a place that fails
+  pub bad-fails : (i e : ℕ) → i ≤ e → firstBad ok i e < e → ok (firstBad ok i e) ≡ false
   unfolding firstBad
-  all-pass i e h b k l u =
-      let d : i + (e - i) ≡ e = omega arith in
-      scan-all (e - i) i (omega arith) k l (omega arith)
+  bad-fails i e h u = scan-stop (e - i) i (omega arith)
 
   pass-scan : (n i : ℕ) → ((k : ℕ) → i ≤ k → k < i + n → ok k ≡ true) → scan ok i n ≡ i + n
   unfolding scan

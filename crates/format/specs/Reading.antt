@@ -1,5 +1,5 @@
 -- Document 01, "When a call is turned down": what an answer says, and what reading a book answers for any bytes. Assumes nothing.
-use Prim.Native.Nat.{ℕ, zero, suc, _+_, _-_, _%_}
+use Prim.Native.Nat.{ℕ, zero, suc, _+_, _-_, _%_, _≤_, _<_}
 use mathlib.Core.Path.{_≡_}
 use mathlib.Core.List.{List, [], _∷_}
 use mathlib.Core.Bool.{Bool, _&&_, _||_}
@@ -131,6 +131,11 @@ bodyVerdict s list fields tables =
 -- "Reading a book, in this order"
 unfoldable pub verdict : List ℕ → Verdict
 verdict s = andThen (trailerVerdict s) (bodyVerdict s (listPlace s) (fieldCount s) (tableCount s))
+
+-- the numbers and places of a refusal of n bytes: 1, "place 0"; 2 to 13, "a byte of the book"
+pub data BookRefusal (n : ℕ) : ℕ → ℕ → Type 0 where
+  of-length : BookRefusal n 1 0
+  of-byte : {number place : ℕ} → 2 ≤ number → number ≤ 13 → place < n → BookRefusal n number place
 
 abbrev pub outcome : Verdict → List ℕ → Outcome
 outcome pass counts = accepted counts

@@ -1,0 +1,26 @@
+-- Buffers that always suffice, by the limits of a book: with them lent, 18 does not happen. Assumes nothing.
+use Prim.Native.Nat.{ℕ, _*_, _≤_}
+use mathlib.Core.Logic.{_≢_}
+use mathlib.Core.List.{List}
+use lib.ListN.{length}
+use Rattle.format.specs.Format.{codeLimit}
+use Rattle.consistency.specs.Consistency.{places}
+use Rattle.calls.specs.Calls.{filtered, alternatives, stored}
+
+-- bytes for alternatives: a pair for each code of each place
+abbrev pub pairsEnough : ℕ
+pairsEnough = 2 * (places * codeLimit)
+
+-- numbers for plain filtering: one for each place
+abbrev pub numbersEnough : ℕ
+numbersEnough = places
+
+-- bytes for storing: one for each place
+abbrev pub formEnough : ℕ
+formEnough = places
+
+-- whatever the bytes and the sheet
+pub record Suffices : Type 0 where
+  pub pairs : (bytes s o : List ℕ) → pairsEnough ≤ length o → alternatives bytes s o .outcome .number ≢ 18
+  pub numbers : (bytes s : List ℕ) (f : ℕ) (o : List ℕ) → numbersEnough ≤ length o → filtered bytes s f o .outcome .number ≢ 18
+  pub form : (bytes s o : List ℕ) → formEnough ≤ length o → stored bytes s o .outcome .number ≢ 18
