@@ -28,17 +28,17 @@ refused-18 bytes s q e = at (condition1 bytes s q (λ z. omega arith) .reason) e
 module _ {b : Book} {s o : List ℕ} where
   filter-short : {f number place : ℕ} → Refusal b s (to-filter f o) number place → number ≡ 18 → length o < length (b .counts)
   filter-short (filter-14 h) n = absurd (omega arith)
-  filter-short (filter-15 h l) n = absurd (omega arith)
-  filter-short (filter-17 h l e) n = absurd (omega arith)
-  filter-short (filter-18 l) n = l
+  filter-short (filter-15 w h l) n = absurd (omega arith)
+  filter-short (filter-17 w h l e) n = absurd (omega arith)
+  filter-short (filter-18 w h l) n = l
 
   list-short : {number place : ℕ} → Refusal b s (to-list o) number place → number ≡ 18 → length o < 2 * total b s
   list-short (list-14 h) n = absurd (omega arith)
-  list-short (list-18 l) n = l
+  list-short (list-18 w l) n = l
 
   store-short : {number place : ℕ} → Refusal b s (to-store o) number place → number ≡ 18 → length o < length (b .counts)
   store-short (store-14 h) n = absurd (omega arith)
-  store-short (store-18 l) n = l
+  store-short (store-18 w l) n = l
 
 pub suffices : Suffices
 suffices =

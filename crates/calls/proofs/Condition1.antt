@@ -1,10 +1,10 @@
 -- Condition 1: a refusal has its number and place on its condition only, its counts 0, and leaves the sheet and the lent buffer as they were.
 -- Assumes nothing.
 use mathlib.Core.Path.{_≡_, refl}
-use mathlib.Core.Logic.{_≢_}
+use mathlib.Core.Logic.{_⊎_, inl, inr, _≢_}
 use mathlib.Core.List.{List, []}
 use mathlib.Core.Bool.{Bool, true, false}
-use Prim.Native.Nat.{ℕ, _*_, _<_}
+use Prim.Native.Nat.{ℕ, _*_, _≤_, _<_}
 use native.Mathlib.Omega.{arith}
 use lib.ListN.{length}
 use lib.Dec.{ltb, eqb}
@@ -12,12 +12,12 @@ use borrow.Author.Tests.{ltb-true, ltb-false, eqb-true, eqb-false}
 use Rattle.format.specs.Basics.{pick}
 use Rattle.format.specs.Format.{Book, bookCounts, bookOf}
 use Rattle.format.specs.Reading.{Verdict, pass, fail, verdict, outcome, reading}
-use Rattle.format.proofs.Scans.{bad-before, bad-fails}
+use Rattle.format.proofs.Scans.{bad-before, all-pass, bad-fails}
 use Rattle.format.proofs.Numbers.{book-refusal}
 use Rattle.consistency.specs.Consistency.{places, codes, answer, relax}
 use Rattle.consistency.specs.Counts.{total}
 use Rattle.calls.specs.Calls.{Result, turned, done, placeOk, faultOf, onSheet, masksInto, sheetFrom, entered, withdrawn, filtered, alternatives, loaded, stored}
-use Rattle.calls.specs.Conditions.{Request, to-read, to-fresh, to-enter, to-withdraw, to-clear, to-filter, to-list, to-store, to-load, resultOf, sheetGiven, lentTo, countsOf, FirstFault, Refusal, enter-14, enter-15, enter-16, withdraw-14, withdraw-15, withdraw-17, filter-14, filter-15, filter-17, filter-18, list-14, list-18, store-14, store-18, load-19, load-14, RefusedBy, the-book, the-call, IsRefusal, Condition1}
+use Rattle.calls.specs.Conditions.{Request, to-read, to-fresh, to-enter, to-withdraw, to-clear, to-filter, to-list, to-store, to-load, resultOf, sheetGiven, lentTo, countsOf, FirstFault, NoFault, Refusal, enter-14, enter-15, enter-16, withdraw-14, withdraw-15, withdraw-17, filter-14, filter-15, filter-17, filter-18, list-14, list-18, store-14, store-18, load-19, load-14, RefusedBy, the-book, the-call, IsRefusal, Condition1}
 use Rattle.calls.proofs.CallLaws.{pick-cases, fault-holds, book-holds, sheet-holds}
 
 -- the first place at which the test of 14 fails is the first field at fault
@@ -28,6 +28,10 @@ first-fault b s l =
       fails = bad-fails (placeOk b s) 0 places (omega arith) l;
       before = λ k u. bad-before (placeOk b s) 0 places k (omega arith) u;
     }
+
+-- where the test fails at no place, there is no 14
+fault-free : (b : Book) (s : List ℕ) → places ≤ faultOf b s → NoFault b s
+fault-free b s l k u = all-pass (placeOk b s) 0 places (omega arith) l k (omega arith) u
 
 -- r is an answer that accepts, or a refusal of call q
 abbrev Settled : List ℕ → List ℕ → Request → Result → Type 0
@@ -64,11 +68,11 @@ module _ {bytes s : List ℕ} {q : Request} where
   -- a call on a sheet: 1 to 14, then the rest
   sheet-settled : (go : Book → Result)
       → ((p : ℕ) → FirstFault (bookOf bytes) (sheetGiven s q) p → Refusal (bookOf bytes) s q 14 p)
-      → (verdict bytes ≡ pass → Settled bytes s q (go (bookOf bytes)))
+      → (verdict bytes ≡ pass → NoFault (bookOf bytes) (sheetGiven s q) → Settled bytes s q (go (bookOf bytes)))
       → Settled bytes s q (onSheet (countsOf q) bytes (sheetGiven s q) (lentTo q) go)
   sheet-settled go at-fault h =
       sheet-holds (Settled bytes s q) (countsOf q) bytes (sheetGiven s q) (lentTo q) go by-book
-      (λ e l. by-call e (at-fault (faultOf (bookOf bytes) (sheetGiven s q)) (first-fault (bookOf bytes) (sheetGiven s q) l))) (λ e w. h e)
+      (λ e l. by-call e (at-fault (faultOf (bookOf bytes) (sheetGiven s q)) (first-fault (bookOf bytes) (sheetGiven s q) l))) (λ e l. h e (fault-free (bookOf bytes) (sheetGiven s q) l))
 
 -- what reading answers
 read-settled : (bytes s : List ℕ) → Settled bytes s to-read (resultOf bytes s to-read)
@@ -85,34 +89,37 @@ condition1 bytes s to-read = read-settled bytes s
 condition1 bytes s to-fresh = done-settled
 condition1 bytes s (to-enter f c) =
     let b : Book = bookOf bytes in
-    sheet-settled _ (λ p. enter-14) (λ e.
-    fail-settled e (ltb f (length (b .counts))) (λ t. enter-15 (ltb-false f (length (b .counts)) t)) (λ t.
-    fail-settled e (ltb c (codes b f)) (λ u. enter-16 (ltb-true f (length (b .counts)) t) (ltb-false c (codes b f) u)) (λ u.
+    let n : ℕ = length (b .counts) in
+    sheet-settled _ (λ p. enter-14) (λ e w.
+    fail-settled e (ltb f n) (λ t. enter-15 w (ltb-false f n t)) (λ t.
+    fail-settled e (ltb c (codes b f)) (λ u. enter-16 w (ltb-true f n t) (ltb-false c (codes b f) u)) (λ u.
     done-settled)))
 condition1 bytes s (to-withdraw f) =
-    let b : Book = bookOf bytes in
-    sheet-settled _ (λ p. withdraw-14) (λ e.
-    fail-settled e (ltb f (length (b .counts))) (λ t. withdraw-15 (ltb-false f (length (b .counts)) t)) (λ t.
-    pass-settled e (eqb (answer s f) 255) (λ u. withdraw-17 (ltb-true f (length (b .counts)) t) (eqb-true (answer s f) 255 u)) (λ u.
+    let n : ℕ = length (bookOf bytes .counts) in
+    sheet-settled _ (λ p. withdraw-14) (λ e w.
+    fail-settled e (ltb f n) (λ t. withdraw-15 w (ltb-false f n t)) (λ t.
+    pass-settled e (eqb (answer s f) 255) (λ u. withdraw-17 w (ltb-true f n t) (eqb-true (answer s f) 255 u)) (λ u.
     done-settled)))
 condition1 bytes s to-clear = done-settled
 condition1 bytes s (to-filter f o) =
     let b : Book = bookOf bytes in
     let n : ℕ = length (b .counts) in
-    let masks-settled : verdict bytes ≡ pass → (a : List ℕ) → Settled bytes s (to-filter f o) (masksInto b s a o) =
-    (λ e a. pass-settled e (ltb (length o) n) (λ t. filter-18 (ltb-true (length o) n t)) (λ t. done-settled)) in
-    sheet-settled _ (λ p. filter-14) (λ e.
-    pick-cases (Settled bytes s (to-filter f o)) (eqb f 255) (λ t. masks-settled e s) (λ t.
+    let masks-settled : verdict bytes ≡ pass → NoFault b s → (f ≡ 255) ⊎ ((f < n) × (answer s f ≢ 255)) → (a : List ℕ)
+    → Settled bytes s (to-filter f o) (masksInto b s a o) =
+    (λ e w g a. pass-settled e (ltb (length o) n) (λ t. filter-18 w g (ltb-true (length o) n t)) (λ t. done-settled)) in
+    sheet-settled _ (λ p. filter-14) (λ e w.
+    pick-cases (Settled bytes s (to-filter f o)) (eqb f 255) (λ t. masks-settled e w (inl (eqb-true f 255 t)) s) (λ t.
     let some : f ≢ 255 = eqb-false f 255 t in
-    fail-settled e (ltb f n) (λ u. filter-15 some (ltb-false f n u)) (λ u.
-    pass-settled e (eqb (answer s f) 255) (λ v. filter-17 some (ltb-true f n u) (eqb-true (answer s f) 255 v)) (λ v.
-    masks-settled e (relax s f)))))
+    fail-settled e (ltb f n) (λ u. filter-15 w some (ltb-false f n u)) (λ u.
+    pass-settled e (eqb (answer s f) 255) (λ v. filter-17 w some (ltb-true f n u) (eqb-true (answer s f) 255 v)) (λ v.
+    masks-settled e w (inr (ltb-true f n u, eqb-false (answer s f) 255 v)) (relax s f)))))
 condition1 bytes s (to-list o) =
     let enough : ℕ = 2 * total (bookOf bytes) s in
-    sheet-settled _ (λ p. list-14) (λ e. pass-settled e (ltb (length o) enough) (λ t. list-18 (ltb-true (length o) enough t)) (λ t. done-settled))
+    sheet-settled _ (λ p. list-14) (λ e w.
+    pass-settled e (ltb (length o) enough) (λ t. list-18 w (ltb-true (length o) enough t)) (λ t. done-settled))
 condition1 bytes s (to-store o) =
     let n : ℕ = length (bookOf bytes .counts) in
-    sheet-settled _ (λ p. store-14) (λ e. pass-settled e (ltb (length o) n) (λ t. store-18 (ltb-true (length o) n t)) (λ t. done-settled))
+    sheet-settled _ (λ p. store-14) (λ e w. pass-settled e (ltb (length o) n) (λ t. store-18 w (ltb-true (length o) n t)) (λ t. done-settled))
 condition1 bytes s (to-load form) =
     let S : Result → Type 0 = Settled bytes s (to-load form) in
     let b : Book = bookOf bytes in
@@ -120,4 +127,4 @@ condition1 bytes s (to-load form) =
     book-holds S (refusal s (to-load form)) bytes _ by-book (λ e.
     fail-settled e (eqb (length form) n) (λ t. load-19 (eqb-false (length form) n t)) (λ t.
     fault-holds S (refusal s (to-load form)) (faultOf b (sheetFrom form))
-    (λ l. by-call e (load-14 (eqb-true (length form) n t) (first-fault b (sheetFrom form) l))) (λ w. done-settled)))
+    (λ l. by-call e (load-14 (eqb-true (length form) n t) (first-fault b (sheetFrom form) l))) (λ l. done-settled)))

@@ -2,7 +2,7 @@
 -- Condition2.antt, Agreement.antt, Stored.antt, Condition3.antt). Assumes nothing.
 use Prim.Native.Nat.{ℕ, _+_, _*_, _^_, _≤_, _<_}
 use mathlib.Core.Path.{_≡_}
-use mathlib.Core.Logic.{_≢_, _↔_}
+use mathlib.Core.Logic.{_⊎_, _≢_, _↔_}
 use mathlib.Core.List.{List, [], _∷_, _++_}
 use mathlib.Core.Bool.{true, false, not}
 use lib.ListN.{length, getD, take, drop, replicate}
@@ -85,27 +85,33 @@ pub record FirstFault (b : Book) (s : List ℕ) (p : ℕ) : Type 0 where
   pub fails : placeOk b s p ≡ false
   pub before : (k : ℕ) → k < p → placeOk b s k ≡ true
 
--- The refusals of each call on sheet s behind 1 to 13, with number and place, each on its condition only; reading has none, "Fresh and clear: none"
+-- no 14
+abbrev pub NoFault : Book → List ℕ → Type 0
+NoFault b s = (k : ℕ) → k < places → placeOk b s k ≡ true
+
+-- The refusals of each call on sheet s behind 1 to 13, with number and place, each on its condition only: that the tests before it in the
+-- paper's order passed, and its own. Reading has none, "Fresh and clear: none"
 pub data Refusal (b : Book) (s : List ℕ) : Request → ℕ → ℕ → Type 0 where
   -- Enter: "14 ..; 15, no such field; 16, no such code"
   enter-14 : {f c p : ℕ} → FirstFault b s p → Refusal b s (to-enter f c) 14 p
-  enter-15 : {f c : ℕ} → length (b .counts) ≤ f → Refusal b s (to-enter f c) 15 0
-  enter-16 : {f c : ℕ} → f < length (b .counts) → codes b f ≤ c → Refusal b s (to-enter f c) 16 0
+  enter-15 : {f c : ℕ} → NoFault b s → length (b .counts) ≤ f → Refusal b s (to-enter f c) 15 0
+  enter-16 : {f c : ℕ} → NoFault b s → f < length (b .counts) → codes b f ≤ c → Refusal b s (to-enter f c) 16 0
   -- Withdraw: "14, 15, then 17, the field has no answer"
   withdraw-14 : {f p : ℕ} → FirstFault b s p → Refusal b s (to-withdraw f) 14 p
-  withdraw-15 : {f : ℕ} → length (b .counts) ≤ f → Refusal b s (to-withdraw f) 15 0
-  withdraw-17 : {f : ℕ} → f < length (b .counts) → answer s f ≡ 255 → Refusal b s (to-withdraw f) 17 0
+  withdraw-15 : {f : ℕ} → NoFault b s → length (b .counts) ≤ f → Refusal b s (to-withdraw f) 15 0
+  withdraw-17 : {f : ℕ} → NoFault b s → f < length (b .counts) → answer s f ≡ 255 → Refusal b s (to-withdraw f) 17 0
   -- Plain filtering: "a number, or 255 for none: .. 14, 15, 17, then 18, fewer numbers lent than fields"
   filter-14 : {f p : ℕ} {o : List ℕ} → FirstFault b s p → Refusal b s (to-filter f o) 14 p
-  filter-15 : {f : ℕ} {o : List ℕ} → f ≢ 255 → length (b .counts) ≤ f → Refusal b s (to-filter f o) 15 0
-  filter-17 : {f : ℕ} {o : List ℕ} → f ≢ 255 → f < length (b .counts) → answer s f ≡ 255 → Refusal b s (to-filter f o) 17 0
-  filter-18 : {f : ℕ} {o : List ℕ} → length o < length (b .counts) → Refusal b s (to-filter f o) 18 0
+  filter-15 : {f : ℕ} {o : List ℕ} → NoFault b s → f ≢ 255 → length (b .counts) ≤ f → Refusal b s (to-filter f o) 15 0
+  filter-17 : {f : ℕ} {o : List ℕ} → NoFault b s → f ≢ 255 → f < length (b .counts) → answer s f ≡ 255 → Refusal b s (to-filter f o) 17 0
+  filter-18 : {f : ℕ} {o : List ℕ} → NoFault b s → (f ≡ 255) ⊎ ((f < length (b .counts)) × (answer s f ≢ 255)) → length o < length (b .counts)
+      → Refusal b s (to-filter f o) 18 0
   -- Alternatives: "14, then 18, exactly when fewer than 2 × total bytes are lent"
   list-14 : {p : ℕ} {o : List ℕ} → FirstFault b s p → Refusal b s (to-list o) 14 p
-  list-18 : {o : List ℕ} → length o < 2 * total b s → Refusal b s (to-list o) 18 0
+  list-18 : {o : List ℕ} → NoFault b s → length o < 2 * total b s → Refusal b s (to-list o) 18 0
   -- Storing: "14, 18 if fewer bytes are lent than fields"
   store-14 : {p : ℕ} {o : List ℕ} → FirstFault b s p → Refusal b s (to-store o) 14 p
-  store-18 : {o : List ℕ} → length o < length (b .counts) → Refusal b s (to-store o) 18 0
+  store-18 : {o : List ℕ} → NoFault b s → length o < length (b .counts) → Refusal b s (to-store o) 18 0
   -- Loading: "19 if its length isn't the number of fields, 14"
   load-19 : {form : List ℕ} → length form ≢ length (b .counts) → Refusal b s (to-load form) 19 0
   load-14 : {p : ℕ} {form : List ℕ} → length form ≡ length (b .counts) → FirstFault b (sheetFrom form) p → Refusal b s (to-load form) 14 p
