@@ -9,12 +9,12 @@ use lib.ListN.{length, length-map}
 use lib.Dec.{T}
 use Rattle.format.specs.Format.{Book}
 use Rattle.consistency.specs.Counting.{howMany, those, sumOver, joinOver}
-use Rattle.consistency.specs.Consistency.{OfBook, codes, relax}
+use Rattle.consistency.specs.Consistency.{Subdomain, OfBook, IsLargest, codes, relax}
 use Rattle.consistency.specs.Counts.{answered, relaxable, listed, total, Line, linesOf, lines, lineBytes}
 use Rattle.consistency.specs.Order.{In, Before, by-field, by-code, InOrder}
 use Rattle.consistency.proofs.Sums.{length-those, length-join, sum-over-ext}
 use Rattle.consistency.proofs.Members.{in-map, in-join, join-in, in-those, those-in, those-rising, map-in-order, join-in-order}
-use Rattle.consistency.proofs.Largest.{largest-is}
+use Rattle.consistency.proofs.Largest.{largest-is, largest-unique}
 
 -- the fields that get a case of their own are the book's answered ones
 pub relaxable-are : (b : Book) (a : List ℕ) (f : ℕ) → In f (relaxable b a) ↔ ((f < length (b .counts)) × T (answered a f))
@@ -81,6 +81,10 @@ module _ (b : Book) (q : ℕ → Bool) (p : ℕ → ℕ → Bool) where
   )
 
 module _ (b : Book) (a : List ℕ) where
+  -- "The alternatives of an answered field are its own codes in the subdomain with it lifted", whichever S is the largest
+  pub listed-are : (f : ℕ) {S : Subdomain} → IsLargest b (relax a f) S → (c : ℕ) → listed b a f c ≡ S f c
+  listed-are f h c = largest-unique (largest-is b (relax a f)) h f c
+
   -- by field, then code
   pub lines-in-order : InOrder (lines b a)
   unfolding lines
