@@ -2,21 +2,25 @@
  * The sighting desk as a library: libsighting.a, made by `rt staticlib sighting`.
  *
  * A book is lent as its bytes, a sheet is an array of SIGHTING_SHEET_BYTES bytes that the caller keeps. Every function is total: for
- * any bytes of a book and any bytes of a sheet it ends with one of the numbers below. It takes no memory from the heap, keeps
- * nothing between calls, and may be called from several threads at once on different sheets and buffers.
+ * any bytes of a book, any bytes of a sheet and any numbers it ends with one of the numbers below. It takes no memory from the heap
+ * and keeps nothing between calls. Several threads may call at once: what is lent `const`, a sheet too, is only read and may be shared
+ * by several readers; what a call may write is for that call alone while it runs.
  *
  * What the caller owes, as for any C function: each pointer, also one whose length is 0, is not null, is aligned for its type, and
  * points to as many elements as the length beside it says (sheets: SIGHTING_SHEET_BYTES; outcomes: the number that stands in the
- * brackets). Memory that a call may write (sheet, out, outcome) overlaps no other memory lent to that call.
+ * brackets). Memory that a call may write (a sheet that is not const, out, outcome) overlaps no other memory lent to that call.
  *
  * What each call returns
  *
  * Every call but sighting_fresh and sighting_clear returns a number: 0 for accepted, else the number of the refusal. It writes all
- * cells of `outcome` in every case. outcome[0] is the place; an accepted call has place 0 (sighting_report alone has the length of
- * its text there). The other cells are counts.
+ * cells of `outcome` in every case. outcome[0] is the place, 0 for an accepted call; the other cells are counts, all 0 for a refused
+ * call.
  *
- * A refused call leaves: the sheet as it was given (sighting_load: a fresh one; sighting_replay: the one that its list reached), every
- * element of `out` as it was, and all counts 0. An accepted call leaves the elements of `out` behind those that it writes as they were.
+ * A refused call leaves every element of `out` as it was, an accepted one every element behind those that it writes.
+ *
+ * A call that may write the sheet leaves in it the sheet that it hands back, also where it is refused: after a refused enter or
+ * withdraw that is the sheet as it was given, after a refused load a fresh one, and after a replay, refused or not, the one that its
+ * list reached.
  *
  *   number  refused because                                                      place
  *   ------  -------------------------------------------------------------------  ------------------------------------------------
@@ -55,6 +59,14 @@
 /* In a sheet: no answer. As `relaxed` of sighting_filtered: no field. */
 #define SIGHTING_NO_ANSWER 255
 
+/*
+ * How many elements of `out` suffice for every book and sheet: a call that is lent as many never returns 18. Each is proved.
+ */
+#define SIGHTING_PAIRS_BYTES 2048   /* sighting_alternatives, sighting_replay */
+#define SIGHTING_NUMBERS 32         /* sighting_filtered */
+#define SIGHTING_STORED_BYTES 32    /* sighting_store */
+#define SIGHTING_REPORT_BYTES 11305 /* sighting_report */
+
 /* The three kinds of call in a list for sighting_replay. */
 #define SIGHTING_CALL_ENTER 0
 #define SIGHTING_CALL_WITHDRAW 1
@@ -79,35 +91,37 @@ void sighting_fresh(uint8_t *sheet);
 void sighting_clear(uint8_t *sheet);
 
 /*
- * Enters a code as the answer of a field, in the place of an older one; the code need not be standing.
+ * Enters a code as the answer of a field, in the place of an older one; the code need not be standing. Any numbers may be passed: one
+ * that is no field of the book is refused by 15, one that is no code of the field by 16.
  *   outcome[1]  place
  * Refusals: 1 to 13, 14, 15, 16.
  */
-uint64_t sighting_enter(uint8_t *sheet, const uint8_t *book, size_t book_len, uint8_t field, uint8_t code, uint64_t *outcome);
+uint64_t sighting_enter(uint8_t *sheet, const uint8_t *book, size_t book_len, size_t field, size_t code, uint64_t *outcome);
 
 /*
- * Withdraws the answer of a field.
+ * Withdraws the answer of a field. Any number may be passed: one that is no field of the book is refused by 15.
  *   outcome[1]  place
  * Refusals: 1 to 13, 14, 15, 17.
  */
-uint64_t sighting_withdraw(uint8_t *sheet, const uint8_t *book, size_t book_len, uint8_t field, uint64_t *outcome);
+uint64_t sighting_withdraw(uint8_t *sheet, const uint8_t *book, size_t book_len, size_t field, uint64_t *outcome);
 
 /*
- * Plain filtering, with the answer of field `relaxed` left out, or with all answers for 255. It writes one number for each field of
- * the book: bit c is set exactly when code c is in the largest arc-consistent subdomain within the answers.
+ * Plain filtering, with the answer of field `relaxed` left out, or with all answers for SIGHTING_NO_ANSWER; any other number that is no
+ * field of the book is refused by 15. It writes one number for each field of the book: bit c is set exactly when code c is in the
+ * largest arc-consistent subdomain within the answers.
  *   outcome[1]  place
- * Refusals: 1 to 13, 14, 15, 17 (15 and 17 not for 255), 18 where out_len is below the number of fields. The sheet stays as it is.
+ * Refusals: 1 to 13, 14, 15, 17 (15 and 17 not for SIGHTING_NO_ANSWER), 18 where out_len is below the number of fields.
  */
-uint64_t sighting_filtered(uint8_t *sheet, const uint8_t *book, size_t book_len, uint8_t relaxed, uint32_t *out, size_t out_len,
+uint64_t sighting_filtered(const uint8_t *sheet, const uint8_t *book, size_t book_len, size_t relaxed, uint32_t *out, size_t out_len,
                            uint64_t *outcome);
 
 /*
  * The alternatives of every answered field: its codes that stand with its own answer left out. Each is written as two bytes, field
  * then code, by rising field and then rising code.
  *   outcome[3]  place, total (the number of alternatives), struck (the marks removed in all cases together)
- * Refusals: 1 to 13, 14, 18 where out_len is below 2 * total. The sheet stays as it is.
+ * Refusals: 1 to 13, 14, 18 where out_len is below 2 * total.
  */
-uint64_t sighting_alternatives(uint8_t *sheet, const uint8_t *book, size_t book_len, uint8_t *out, size_t out_len,
+uint64_t sighting_alternatives(const uint8_t *sheet, const uint8_t *book, size_t book_len, uint8_t *out, size_t out_len,
                                uint64_t *outcome);
 
 /*
@@ -121,15 +135,16 @@ uint64_t sighting_load(uint8_t *sheet, const uint8_t *book, size_t book_len, con
 /*
  * Stores the sheet: writes one byte for each field of the book.
  *   outcome[1]  place
- * Refusals: 1 to 13, 14, 18 where out_len is below the number of fields. The sheet stays as it is.
+ * Refusals: 1 to 13, 14, 18 where out_len is below the number of fields.
  */
-uint64_t sighting_store(uint8_t *sheet, const uint8_t *book, size_t book_len, uint8_t *out, size_t out_len, uint64_t *outcome);
+uint64_t sighting_store(const uint8_t *sheet, const uint8_t *book, size_t book_len, uint8_t *out, size_t out_len, uint64_t *outcome);
 
 /*
  * Runs a list of calls, each on the sheet that the one before it handed back and the first on a fresh one, and then the
  * alternatives of the last. A call is three bytes: kind, field, code. A kind that is none of the three above is no call, and so is
  * an incomplete last one; withdraw reads no code, and clear neither field nor code. A call that is refused changes nothing and the
- * list goes on. What the sheet held before plays no part; it ends as the one that the list reached, also where the call is refused.
+ * list goes on. What the sheet held before plays no part; it ends as the one that the list reached, also where the replay is refused.
+ * By a refused book every enter and withdraw is refused, so the list then reaches a fresh sheet.
  *   outcome[3]  place, total, struck, as sighting_alternatives
  * Refusals: 1 to 13, 18 where out_len is below 2 * total.
  */
@@ -137,9 +152,10 @@ uint64_t sighting_replay(uint8_t *sheet, const uint8_t *book, size_t book_len, c
                          size_t out_len, uint64_t *outcome);
 
 /*
- * Writes the whole text that the program `desk` prints for this book and this stored sheet, refusals of either included.
- *   outcome[1]  the length of the text in bytes, written or not
- * Returns 0, or 18 where out_len is below that length.
+ * Writes the whole text that the program `desk` prints for this book and this stored sheet. A book or a stored sheet that is turned
+ * down is no refusal here: the text says it.
+ *   outcome[2]  place, the length of the text in bytes
+ * Refusals: 18 where out_len is below that length.
  */
 uint64_t sighting_report(const uint8_t *book, size_t book_len, const uint8_t *form, size_t form_len, uint8_t *out, size_t out_len,
                          uint64_t *outcome);

@@ -1,14 +1,12 @@
 //! What is measured: the library's calls, beside plain Rust and Gecode on the same books.
 
-use sighting::Sheet;
+use sighting::{Sheet, NUMBERS, PAIRS_BYTES, REPORT_BYTES};
 
 use crate::families::Family;
 use crate::gecode::Root;
 use crate::plain::{engine, reader};
 use crate::stack;
 use crate::timing::{medians, Contender};
-
-const PAIRS: usize = 2 * 32 * 32;
 
 /// The medians of one family at one n, in microseconds.
 pub struct Pass {
@@ -21,30 +19,30 @@ pub struct Pass {
 
 /// The library's total, by one pass.
 fn one_pass(book: &[u8], sheet: &Sheet) -> u64 {
-    let mut pairs = [0; PAIRS];
+    let mut pairs = [0; PAIRS_BYTES];
     sheet.alternatives(book, &mut pairs).expect("accepted").total
 }
 
 /// The library's total, by n + 1 separate filterings: nothing relaxed, then each answered field.
 fn separate(book: &[u8], sheet: &Sheet) -> u64 {
-    let mut numbers = [0; 32];
+    let mut numbers = [0; NUMBERS];
     sheet.filtered(book, None, &mut numbers).expect("accepted");
     let mut total = 0;
-    for f in (0..32u8).filter(|&f| sheet.bytes()[f as usize] != sighting::NO_ANSWER) {
+    for f in (0..sighting::SHEET_BYTES).filter(|&f| sheet.bytes()[f] != sighting::NO_ANSWER) {
         sheet.filtered(book, Some(f), &mut numbers).expect("accepted");
-        total += numbers[f as usize].count_ones() as u64;
+        total += numbers[f].count_ones() as u64;
     }
     total
 }
 
 fn plain_pass(book: &[u8], sheet: &Sheet) -> u64 {
-    let mut pairs = [0; PAIRS];
+    let mut pairs = [0; PAIRS_BYTES];
     engine::alternatives(sheet.bytes(), book, &mut pairs).expect("accepted").0
 }
 
 /// All ways give the same pairs and totals.
 fn agree(book: &[u8], sheet: &Sheet, root: Option<&Root>) {
-    let (mut pairs, mut plain) = ([0; PAIRS], [0; PAIRS]);
+    let (mut pairs, mut plain) = ([0; PAIRS_BYTES], [0; PAIRS_BYTES]);
     let found = sheet.alternatives(book, &mut pairs).expect("accepted");
     assert_eq!(engine::alternatives(sheet.bytes(), book, &mut plain), Ok((found.total, found.struck)));
     assert_eq!(pairs, plain);
@@ -98,12 +96,12 @@ pub struct Filtering {
 pub fn filtering(family: &Family, n: usize) -> Filtering {
     let (book, bytes) = (&family.book[..], family.sheet(n));
     let library = || {
-        let mut numbers = [0; 32];
+        let mut numbers = [0; NUMBERS];
         Sheet::from(bytes).filtered(book, None, &mut numbers).expect("accepted");
         numbers.iter().map(|&number| number as u64).sum::<u64>()
     };
     let plain = || {
-        let mut numbers = [0; 32];
+        let mut numbers = [0; NUMBERS];
         engine::filtered(&bytes, book, &mut numbers).expect("accepted");
         numbers.iter().map(|&number| number as u64).sum()
     };
@@ -115,7 +113,7 @@ pub fn filtering(family: &Family, n: usize) -> Filtering {
 /// The stack bytes of each call on this book.
 pub fn stacks(family: &Family) -> Vec<(&'static str, usize)> {
     let (book, bytes) = (&family.book[..], family.sheet(32));
-    let (mut pairs, mut numbers, mut text) = ([0; PAIRS], [0; 32], [0; 32_768]);
+    let (mut pairs, mut numbers, mut text) = ([0; PAIRS_BYTES], [0; NUMBERS], [0; REPORT_BYTES]);
     let list = [0, 0, 0].repeat(32);
     let sheet = Sheet::from(bytes);
     let mut entered = sheet;

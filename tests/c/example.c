@@ -6,13 +6,13 @@ static const uint8_t book[] = {2, 0, 2, 4, 0, 0, 0, 0, 1, 1, 2, 0, 1, 2, 1, 2, 4
                                1, 1, 1, 2, 2, 2, 2, 3, 3, 0x1A, 0, 3, 2, 1, 0xE5};
 
 int main(void) {
-    uint8_t sheet[SIGHTING_SHEET_BYTES], pairs[2 * 32 * 32];
+    uint8_t sheet[SIGHTING_SHEET_BYTES], pairs[SIGHTING_PAIRS_BYTES];
     uint64_t place[1], found[3];
     sighting_fresh(sheet);
     if (sighting_enter(sheet, book, sizeof book, 0, 0, place) != 0) return 1;
     if (sighting_enter(sheet, book, sizeof book, 1, 1, place) != 0) return 1;
     if (sighting_alternatives(sheet, book, sizeof book, pairs, sizeof pairs, found) != 0) return 1;
     printf("%d alternatives, %d struck\n", (int)found[1], (int)found[2]);
-    for (int i = 0; i < (int)found[1]; i++) printf("field %d code %d\n", pairs[2 * i], pairs[2 * i + 1]);
+    for (size_t i = 0; i < found[1]; i++) printf("field %d code %d\n", pairs[2 * i], pairs[2 * i + 1]);
     return 0;
 }

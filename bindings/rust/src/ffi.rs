@@ -4,19 +4,19 @@ extern "C" {
     pub fn sighting_read(book: *const u8, book_len: usize, outcome: *mut u64) -> u64;
     pub fn sighting_fresh(sheet: *mut u8);
     pub fn sighting_clear(sheet: *mut u8);
-    pub fn sighting_enter(sheet: *mut u8, book: *const u8, book_len: usize, field: u8, code: u8, outcome: *mut u64) -> u64;
-    pub fn sighting_withdraw(sheet: *mut u8, book: *const u8, book_len: usize, field: u8, outcome: *mut u64) -> u64;
+    pub fn sighting_enter(sheet: *mut u8, book: *const u8, book_len: usize, field: usize, code: usize, outcome: *mut u64) -> u64;
+    pub fn sighting_withdraw(sheet: *mut u8, book: *const u8, book_len: usize, field: usize, outcome: *mut u64) -> u64;
     pub fn sighting_filtered(
-        sheet: *mut u8,
+        sheet: *const u8,
         book: *const u8,
         book_len: usize,
-        relaxed: u8,
+        relaxed: usize,
         out: *mut u32,
         out_len: usize,
         outcome: *mut u64,
     ) -> u64;
     pub fn sighting_alternatives(
-        sheet: *mut u8,
+        sheet: *const u8,
         book: *const u8,
         book_len: usize,
         out: *mut u8,
@@ -32,7 +32,7 @@ extern "C" {
         outcome: *mut u64,
     ) -> u64;
     pub fn sighting_store(
-        sheet: *mut u8,
+        sheet: *const u8,
         book: *const u8,
         book_len: usize,
         out: *mut u8,

@@ -1,7 +1,8 @@
 //! The sighting desk: a safe wrapper over its proved static library.
 //!
 //! A book is a slice of bytes, checked in every call; a [`Sheet`] holds the answers. Nothing is taken from the heap: results go to
-//! buffers that the caller lends. A refused call changes neither the sheet nor a buffer.
+//! buffers that the caller lends; [`PAIRS_BYTES`], [`NUMBERS`], [`STORED_BYTES`] and [`REPORT_BYTES`] suffice for every book and sheet.
+//! A refused call changes neither the sheet nor a buffer. Any number may be passed as a field or a code: one that is none is refused.
 //!
 //! The book below has three fields, of 2, 3 and 3 codes, and two tables. With field 0 answered by 0 and field 1 by 1, code 1 of
 //! field 2 stands, and each answer has an alternative beside itself.
@@ -23,14 +24,14 @@
 //! sheet.enter(&book, 1, 1)?;
 //! assert_eq!(sheet.enter(&book, 3, 0).unwrap_err().number, 15); // there is no field 3
 //!
-//! let mut pairs = [0; 8];
+//! let mut pairs = [0; sighting::PAIRS_BYTES];
 //! let found = sheet.alternatives(&book, &mut pairs)?;
 //! assert_eq!((found.total, found.struck), (4, 11));
-//! assert_eq!(pairs, [0, 0, 0, 1, 1, 0, 1, 1]); // field, code; field, code; ..
+//! assert_eq!(pairs[..8], [0, 0, 0, 1, 1, 0, 1, 1]); // field, code; field, code; ..
 //!
-//! let mut codes = [0; 3];
+//! let mut codes = [0; sighting::NUMBERS];
 //! sheet.filtered(&book, None, &mut codes)?;
-//! assert_eq!(codes, [0b001, 0b010, 0b010]); // bit c of number f: code c of field f stands
+//! assert_eq!(codes[..3], [0b001, 0b010, 0b010]); // bit c of number f: code c of field f stands
 //! # Ok(())
 //! # }
 //! ```
@@ -45,6 +46,18 @@ pub const SHEET_BYTES: usize = 32;
 
 /// In a sheet: no answer.
 pub const NO_ANSWER: u8 = 255;
+
+/// So many bytes suffice for [`Sheet::alternatives`] and [`Sheet::replay`], whatever the book and the sheet.
+pub const PAIRS_BYTES: usize = 2048;
+
+/// So many numbers suffice for [`Sheet::filtered`].
+pub const NUMBERS: usize = 32;
+
+/// So many bytes suffice for [`Sheet::store`].
+pub const STORED_BYTES: usize = 32;
+
+/// So many bytes suffice for [`report`].
+pub const REPORT_BYTES: usize = 11305;
 
 /// What a book has. A row that is repeated in its table counts once among the different rows.
 #[derive(Clone, Copy, Debug, PartialEq, Eq)]
@@ -62,13 +75,7 @@ pub struct Alternatives {
     pub struck: u64,
 }
 
-/// The buffer was too short for the text, which has this many bytes; nothing was written.
-#[derive(Clone, Copy, Debug, PartialEq, Eq)]
-pub struct TooShort {
-    pub needed: u64,
-}
-
-/// A call in a list for [`Sheet::replay`].
+/// A call in a list for [`Sheet::replay`]. In the list's bytes a field and a code are bytes.
 #[derive(Clone, Copy, Debug, PartialEq, Eq)]
 pub enum Call {
     Enter { field: u8, code: u8 },
@@ -103,10 +110,11 @@ pub fn read(book: &[u8]) -> Result<Counts, Refusal> {
     answer(number, place, Counts { fields, tables, rows, different_rows })
 }
 
-/// Writes the text that the program `desk` prints for this book and this stored sheet, and answers its length.
-pub fn report(book: &[u8], form: &[u8], out: &mut [u8]) -> Result<u64, TooShort> {
-    let mut cells = [0; 1];
-    // SAFETY: each pointer has its slice's length beside it; one cell is lent.
+/// Writes the text that the program `desk` prints for this book and this stored sheet, and answers its length. What the text says
+/// of a book or a sheet that is turned down is no refusal of this call. Refusals: 18.
+pub fn report(book: &[u8], form: &[u8], out: &mut [u8]) -> Result<u64, Refusal> {
+    let mut cells = [0; 2];
+    // SAFETY: each pointer has its slice's length beside it; two cells are lent.
     let number = unsafe {
         ffi::sighting_report(
             book.as_ptr(),
@@ -118,9 +126,18 @@ pub fn report(book: &[u8], form: &[u8], out: &mut [u8]) -> Result<u64, TooShort>
             cells.as_mut_ptr(),
         )
     };
-    match number {
-        0 => Ok(cells[0]),
-        _ => Err(TooShort { needed: cells[0] }),
+    let [place, length] = cells;
+    answer(number, place, length)
+}
+
+/// The number that goes over as the field to relax. The library takes 255 for none, and no book has a field 255: a caller's own 255
+/// goes over as another number that is no field, and is refused like it.
+fn relaxed_number(relaxed: Option<usize>) -> usize {
+    const NONE: usize = NO_ANSWER as usize;
+    match relaxed {
+        None => NONE,
+        Some(NONE) => usize::MAX,
+        Some(field) => field,
     }
 }
 
@@ -161,7 +178,7 @@ impl Sheet {
     }
 
     /// Enters a code as the answer of a field. Refusals: 1 to 13, 14, 15, 16.
-    pub fn enter(&mut self, book: &[u8], field: u8, code: u8) -> Result<(), Refusal> {
+    pub fn enter(&mut self, book: &[u8], field: usize, code: usize) -> Result<(), Refusal> {
         let mut cells = [0; 1];
         let number =
             unsafe { ffi::sighting_enter(self.0.as_mut_ptr(), book.as_ptr(), book.len(), field, code, cells.as_mut_ptr()) };
@@ -169,22 +186,22 @@ impl Sheet {
     }
 
     /// Withdraws the answer of a field. Refusals: 1 to 13, 14, 15, 17.
-    pub fn withdraw(&mut self, book: &[u8], field: u8) -> Result<(), Refusal> {
+    pub fn withdraw(&mut self, book: &[u8], field: usize) -> Result<(), Refusal> {
         let mut cells = [0; 1];
         let number = unsafe { ffi::sighting_withdraw(self.0.as_mut_ptr(), book.as_ptr(), book.len(), field, cells.as_mut_ptr()) };
         answer(number, cells[0], ())
     }
 
     /// Plain filtering, with the answer of one field left out or of none. It writes one number for each field of the book, with bit c
-    /// set where code c stands. Refusals: 1 to 13, 14, 15, 17, 18.
-    pub fn filtered(&self, book: &[u8], relaxed: Option<u8>, out: &mut [u32]) -> Result<(), Refusal> {
-        let (mut sheet, mut cells) = (self.0, [0; 1]);
+    /// set where code c stands. Refusals: 1 to 13, 14, 15 for every `Some` that is no field of the book, 17, 18.
+    pub fn filtered(&self, book: &[u8], relaxed: Option<usize>, out: &mut [u32]) -> Result<(), Refusal> {
+        let mut cells = [0; 1];
         let number = unsafe {
             ffi::sighting_filtered(
-                sheet.as_mut_ptr(),
+                self.0.as_ptr(),
                 book.as_ptr(),
                 book.len(),
-                relaxed.unwrap_or(NO_ANSWER),
+                relaxed_number(relaxed),
                 out.as_mut_ptr(),
                 out.len(),
                 cells.as_mut_ptr(),
@@ -195,10 +212,10 @@ impl Sheet {
 
     /// The alternatives of every answered field, written as pairs of bytes, field then code. Refusals: 1 to 13, 14, 18.
     pub fn alternatives(&self, book: &[u8], out: &mut [u8]) -> Result<Alternatives, Refusal> {
-        let (mut sheet, mut cells) = (self.0, [0; 3]);
+        let mut cells = [0; 3];
         let number = unsafe {
             ffi::sighting_alternatives(
-                sheet.as_mut_ptr(),
+                self.0.as_ptr(),
                 book.as_ptr(),
                 book.len(),
                 out.as_mut_ptr(),
@@ -220,15 +237,18 @@ impl Sheet {
 
     /// Stores the sheet, one byte for each field of the book. Refusals: 1 to 13, 14, 18.
     pub fn store(&self, book: &[u8], out: &mut [u8]) -> Result<(), Refusal> {
-        let (mut sheet, mut cells) = (self.0, [0; 1]);
+        let mut cells = [0; 1];
         let number = unsafe {
-            ffi::sighting_store(sheet.as_mut_ptr(), book.as_ptr(), book.len(), out.as_mut_ptr(), out.len(), cells.as_mut_ptr())
+            ffi::sighting_store(self.0.as_ptr(), book.as_ptr(), book.len(), out.as_mut_ptr(), out.len(), cells.as_mut_ptr())
         };
         answer(number, cells[0], ())
     }
 
     /// Runs a list of calls, three bytes each as [`Call::bytes`] gives them, from a fresh sheet, and then the alternatives of the
-    /// sheet reached, which comes back beside the answer. Refusals: 1 to 13, 18.
+    /// sheet reached. A call of the list that is refused changes nothing, and the list goes on. Refusals: 1 to 13, 18.
+    ///
+    /// The sheet that the list reached comes back beside the answer, also where that is a refusal: after an 18 it holds the answers
+    /// after the list. By a refused book, 1 to 13, every enter and withdraw is refused too, so a fresh sheet comes back.
     pub fn replay(book: &[u8], calls: &[u8], out: &mut [u8]) -> (Sheet, Result<Alternatives, Refusal>) {
         let (mut sheet, mut cells) = ([0; SHEET_BYTES], [0; 3]);
         let number = unsafe {

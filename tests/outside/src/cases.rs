@@ -2,6 +2,8 @@
 
 use crate::book::{Book, Table};
 use crate::calls::{Call, Sheet, FRESH};
+use crate::draft::Draft;
+use crate::faults::{changed, faulty, some_faults};
 use crate::filter::NO_ANSWER;
 use crate::random::{self, Random};
 
@@ -9,8 +11,10 @@ pub struct Case {
     pub book: Vec<u8>,
     pub sheet: Sheet,
     pub calls: Vec<Call>,
-    /// For a book at a boundary size, which.
+    /// For a book at a boundary, which.
     pub boundary: Option<&'static str>,
+    /// The faults made in the book, by their places in the order.
+    pub faults: Vec<usize>,
 }
 
 /// The random numbers of one case of a run.
@@ -20,51 +24,86 @@ pub fn random(seed: u64, index: u64) -> Random {
 
 pub fn case(seed: u64, index: u64) -> Case {
     let mut r = random(seed, index);
-    let (model, book, boundary) = book(&mut r);
+    let BookCase { model, bytes, boundary, faults } = book(&mut r);
     let sheet = sheet(&mut r, &model);
     let calls = calls(&mut r, &model, &sheet);
-    Case { book, sheet, calls, boundary }
+    Case { book: bytes, sheet, calls, boundary, faults }
 }
 
-fn book(r: &mut Random) -> (Book, Vec<u8>, Option<&'static str>) {
-    if r.one_in(100) {
-        let (name, model) = boundary(r);
-        let bytes = model.write();
-        return (model, bytes, Some(name));
+/// A book's bytes, with the book that they were made from.
+struct BookCase {
+    model: Book,
+    bytes: Vec<u8>,
+    boundary: Option<&'static str>,
+    faults: Vec<usize>,
+}
+
+fn book(r: &mut Random) -> BookCase {
+    if r.one_in(80) {
+        let (name, at_boundary) = BOUNDARIES[r.from(0, BOUNDARIES.len() - 1)];
+        let (model, bytes) = at_boundary(r);
+        return BookCase { model, bytes, boundary: Some(name), faults: Vec::new() };
     }
     let model = random::book(r);
-    let bytes = if r.from(0, 9) < 3 {
-        let number = r.from(1, 14) as u64;
-        random::damaged(r, &model, number)
-    } else {
-        model.write()
+    let mut faults = Vec::new();
+    let bytes = match r.from(0, 29) {
+        0 => changed(r, &model),
+        1..=9 => {
+            faults = some_faults(r);
+            faulty(r, &model, &faults)
+        }
+        _ => model.write(),
     };
-    (model, bytes, None)
+    BookCase { model, bytes, boundary: None, faults }
 }
 
-/// The names of the boundary sizes: the largest that is accepted, and one more; and the longest book.
-pub const BOUNDARIES: [&str; 9] =
-    ["32 fields", "33 fields", "32 codes", "33 codes", "64 tables", "65 tables", "4096 rows", "4097 rows", "16870 bytes"];
+/// A boundary: its name, and a book at it with its bytes.
+type Boundary = (&'static str, fn(&mut Random) -> (Book, Vec<u8>));
+
+/// The most that is accepted and one more, the shortest and the longest book, and the lengths at which 1 begins.
+pub const BOUNDARIES: [Boundary; 15] = [
+    ("32 fields", |_| written(Book { counts: vec![2; 32], tables: vec![unary(2)] })),
+    ("33 fields", |_| written(Book { counts: vec![2; 33], tables: vec![unary(2)] })),
+    ("32 codes", |_| written(Book { counts: vec![3, 32], tables: vec![unary(2)] })),
+    ("33 codes", |_| written(Book { counts: vec![3, 33], tables: vec![unary(2)] })),
+    ("64 tables", |_| written(Book { counts: vec![2, 3], tables: vec![unary(2); 64] })),
+    ("65 tables", |_| written(Book { counts: vec![2, 3], tables: vec![unary(2); 65] })),
+    ("4096 rows", |r| written(two_tables(r, 4_096))),
+    ("4097 rows", |r| written(two_tables(r, 4_097))),
+    ("4096 rows in one table", |_| written(one_table(2))),
+    ("a fault in row 4096", |_| written(one_table(3))),
+    ("16870 bytes", |r| written(longest(r))),
+    ("6 bytes", |r| brought_to(6, random::book(r))),
+    ("7 bytes", |r| written(Book { counts: vec![r.from(1, 32) as u8], tables: Vec::new() })),
+    ("32768 bytes", |r| brought_to(32_768, random::book(r))),
+    ("32769 bytes", |r| brought_to(32_769, random::book(r))),
+];
+
+fn written(book: Book) -> (Book, Vec<u8>) {
+    let bytes = book.write();
+    (book, bytes)
+}
+
+/// The book by its last bytes alone, or with more bytes left over before its field list.
+fn brought_to(length: usize, book: Book) -> (Book, Vec<u8>) {
+    let draft = Draft { length: Some(length), ..Draft::of(&book) };
+    (book, draft.write())
+}
 
 /// A table on field 0 with this many rows.
 fn unary(rows: usize) -> Table {
     Table { fields: vec![0], rows: (0..rows).map(|i| vec![(i % 2) as u8]).collect() }
 }
 
-fn boundary(r: &mut Random) -> (&'static str, Book) {
-    let k = r.from(0, BOUNDARIES.len() - 1);
-    let more = k % 2;
-    let book = match k / 2 {
-        0 => Book { counts: vec![2; 32 + more], tables: vec![unary(2)] },
-        1 => Book { counts: vec![3, 32 + more as u8], tables: vec![unary(2)] },
-        2 => Book { counts: vec![2, 3], tables: vec![unary(2); 64 + more] },
-        3 => {
-            let first = r.from(0, 4_096);
-            Book { counts: vec![2, 3], tables: vec![unary(first), unary(4_096 + more - first)] }
-        }
-        _ => longest(r),
-    };
-    (BOUNDARIES[k], book)
+fn two_tables(r: &mut Random, rows: usize) -> Book {
+    let first = r.from(0, 4_096);
+    Book { counts: vec![2, 3], tables: vec![unary(first), unary(rows - first)] }
+}
+
+/// Two fields of three codes and one table of 4,096 rows, of which only the last has this code.
+fn one_table(last: u8) -> Book {
+    let rows = (0..4_095).map(|i| vec![i as u8 % 2, i as u8 / 2 % 2]).chain([vec![last; 2]]);
+    Book { counts: vec![3; 2], tables: vec![Table { fields: vec![0, 1], rows: rows.collect() }] }
 }
 
 /// 64 tables of four fields with 64 rows each: each code goes with itself, or with itself but for the last field.
@@ -97,19 +136,30 @@ fn spoil(r: &mut Random, book: &Book, sheet: &mut Sheet) {
     sheet[place] = r.from(least, 254) as u8;
 }
 
-/// A stored sheet, in some cases of another length or with a fault.
+/// A stored sheet, in some cases of another length, with a fault, or both.
 fn form(r: &mut Random, book: &Book) -> Vec<u8> {
     let mut form = random::form(r, book);
-    match r.from(0, 7) {
-        0 => form.truncate(r.from(0, form.len() - 1)),
-        1 => form.resize(form.len() + r.from(1, 2), r.word() as u8),
-        2 => {
-            let f = r.from(0, form.len() - 1);
-            form[f] = r.from(book.counts[f] as usize, 254) as u8;
-        }
+    let flaw = r.from(0, 11);
+    if flaw < 3 {
+        let f = r.from(0, form.len() - 1);
+        form[f] = r.from(book.counts[f] as usize, 254) as u8;
+    }
+    match flaw {
+        1 | 3 => form.truncate(r.from(0, form.len() - 1)),
+        2 | 4 => form.resize(form.len() + r.from(1, 2), r.word() as u8),
         _ => {}
     }
     form
+}
+
+/// Mostly the number itself; else one that is equal to it in its low bits.
+fn widened(r: &mut Random, number: u8) -> usize {
+    let number = number as usize;
+    match r.from(0, 9) {
+        0 => number + (1 << [8, 9, 15, 16, 31, 32, 63][r.from(0, 6)]),
+        1 if r.one_in(2) => usize::MAX - r.from(0, 255),
+        _ => number,
+    }
 }
 
 /// Mostly a field of the book.
@@ -139,10 +189,11 @@ fn answered(r: &mut Random, book: &Book, sheet: &Sheet) -> u8 {
     }
 }
 
-/// Up to ten calls of three bytes, some of no kind, and in some cases an incomplete one behind them.
+/// Calls of three bytes, mostly few, some of no kind, and in some cases an incomplete one behind them.
 fn list(r: &mut Random, book: &Book) -> Vec<u8> {
     let mut bytes = Vec::new();
-    for _ in 0..r.from(0, 10) {
+    let most = [10, 10, 30, 100][r.from(0, 3)];
+    for _ in 0..r.from(0, most) {
         let field = field(r, book);
         let code = code(r, book, field);
         let kind = [0, 0, 0, 0, 0, 0, 1, 1, 2, 3 + (r.word() % 253) as u8][r.from(0, 9)];
@@ -155,14 +206,15 @@ fn list(r: &mut Random, book: &Book) -> Vec<u8> {
 }
 
 fn calls(r: &mut Random, book: &Book, sheet: &Sheet) -> Vec<Call> {
-    let entered = field(r, book);
+    let (entered, withdrawn, relaxed) = (field(r, book), answered(r, book, sheet), answered(r, book, sheet));
+    let entered_code = code(r, book, entered);
     vec![
         Call::Read,
         Call::Fresh,
         Call::Clear,
-        Call::Enter { field: entered, code: code(r, book, entered) },
-        Call::Withdraw { field: answered(r, book, sheet) },
-        Call::Filtered { relaxed: answered(r, book, sheet) },
+        Call::Enter { field: widened(r, entered), code: widened(r, entered_code) },
+        Call::Withdraw { field: widened(r, withdrawn) },
+        Call::Filtered { relaxed: widened(r, relaxed) },
         Call::Alternatives,
         Call::Load { form: form(r, book) },
         Call::Store,

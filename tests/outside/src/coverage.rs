@@ -1,6 +1,12 @@
-//! Which refusals of which calls a run has reached, how often and at how many places.
+//! Which refusals of which calls a run has reached, how often and at how many places, and what else its cases had.
 
 use std::collections::{BTreeMap, BTreeSet};
+
+use crate::calls::Call;
+use crate::cases::{Case, BOUNDARIES};
+use crate::compare::Trial;
+use crate::desk::{Desk, Reading};
+use crate::faults::FAULTS;
 
 /// A refusal as counted: its number, and for 14 whether the place lies behind the book's fields.
 type Kind = (u64, bool);
@@ -9,7 +15,8 @@ type Kind = (u64, bool);
 pub struct Coverage {
     seen: BTreeMap<&'static str, BTreeMap<Kind, (u64, BTreeSet<u64>)>>,
     accepted: BTreeMap<&'static str, u64>,
-    sizes: BTreeMap<&'static str, u64>,
+    /// What the cases had beside that, by its name.
+    had: BTreeMap<String, u64>,
 }
 
 /// The refusals that each call has beside 1 to 13; `true` for a place behind the book's fields.
@@ -34,19 +41,59 @@ fn places_asked(number: u64) -> usize {
     }
 }
 
+/// A name for what a call's arguments are.
+type Arguments = (&'static str, fn(&Call) -> bool);
+
+/// What the arguments of a call have to be in some case.
+const ARGUMENTS: [Arguments; 5] = [
+    ("a field above a byte", |call| matches!(call, Call::Enter { field: 256.., .. })),
+    ("a code above a byte", |call| matches!(call, Call::Enter { code: 256.., .. })),
+    ("a field to withdraw above a byte", |call| matches!(call, Call::Withdraw { field: 256.. })),
+    ("a field to relax above a byte", |call| matches!(call, Call::Filtered { relaxed: 256.. })),
+    ("a list of more than ten calls", |call| matches!(call, Call::Replay { calls } if calls.len() > 30)),
+];
+
+/// The name of a pair of faults, by their places in the order.
+fn pair(first: usize, second: usize) -> String {
+    format!("{} with {}", FAULTS[first].0, FAULTS[second].0)
+}
+
 impl Coverage {
-    pub fn refused(&mut self, call: &'static str, number: u64, place: u64, behind: bool) {
-        let entry = self.seen.entry(call).or_default().entry((number, behind)).or_default();
+    /// Notes a case and its book as it was read.
+    pub fn note(&mut self, case: &Case, reading: &Reading, trials: &[Trial]) {
+        let arguments = ARGUMENTS.iter().filter(|(_, is)| case.calls.iter().any(is)).map(|(name, _)| name.to_string());
+        let faults = case.faults.windows(2).map(|faults| pair(faults[0], faults[1]));
+        for name in case.boundary.map(str::to_string).into_iter().chain(arguments).chain(faults) {
+            *self.had.entry(name).or_default() += 1;
+        }
+        trials.iter().for_each(|trial| self.note_trial(reading, trial));
+    }
+
+    fn note_trial(&mut self, reading: &Reading, trial: &Trial) {
+        let (name, number) = (trial.call.name(), trial.left.number);
+        match (trial.call, number) {
+            // what its text says
+            (Call::Report { form }, 0) => match Desk::default().loaded(reading, form) {
+                Err(r) => self.refused(name, (r.number, false), r.place),
+                Ok(_) => self.accepted(name),
+            },
+            (_, 0) => self.accepted(name),
+            _ => {
+                let place = trial.left.cells[0];
+                let behind = number == 14 && reading.as_ref().is_ok_and(|book| place >= book.counts.len() as u64);
+                self.refused(name, (number, behind), place);
+            }
+        }
+    }
+
+    fn refused(&mut self, call: &'static str, kind: Kind, place: u64) {
+        let entry = self.seen.entry(call).or_default().entry(kind).or_default();
         entry.0 += 1;
         entry.1.insert(place);
     }
 
-    pub fn accepted(&mut self, call: &'static str) {
+    fn accepted(&mut self, call: &'static str) {
         *self.accepted.entry(call).or_default() += 1;
-    }
-
-    pub fn size(&mut self, name: &'static str) {
-        *self.sizes.entry(name).or_default() += 1;
     }
 
     fn times(&self, call: &str, kind: Kind) -> (u64, usize) {
@@ -55,7 +102,7 @@ impl Coverage {
     }
 
     /// Prints what was reached, and answers whether all that had to be was.
-    pub fn print(&self, sizes: &[&str]) -> bool {
+    pub fn print(&self) -> bool {
         let mut complete = true;
         println!("refusals of each call as number:times/places; 14b is a 14 behind the book's fields");
         for (call, beside) in BESIDE {
@@ -73,8 +120,18 @@ impl Coverage {
             }
             println!("{line}");
         }
-        let counts: Vec<String> = sizes.iter().map(|&s| format!("{s} {}", self.sizes.get(s).unwrap_or(&0))).collect();
-        println!("boundary sizes: {}", counts.join(", "));
-        complete && sizes.iter().all(|s| self.sizes.contains_key(s))
+        complete &= self.print_had("boundaries", BOUNDARIES.iter().map(|(name, _)| name.to_string()));
+        complete &= self.print_had("arguments", ARGUMENTS.iter().map(|(name, _)| name.to_string()));
+        complete &= self.print_had("two faults at once", (1..FAULTS.len()).map(|place| pair(place - 1, place)));
+        complete
+    }
+
+    /// Prints how often each was had, and answers whether all were.
+    fn print_had(&self, what: &str, names: impl Iterator<Item = String>) -> bool {
+        let names: Vec<String> = names.collect();
+        let times = |name: &String| self.had.get(name).copied().unwrap_or(0);
+        let shown: Vec<String> = names.iter().map(|name| format!("{name} {}", times(name))).collect();
+        println!("{what}: {}", shown.join(", "));
+        names.iter().all(|name| times(name) > 0)
     }
 }

@@ -7,43 +7,53 @@ pub const NO_ANSWER: u8 = 255;
 /// For each field, whether each of its codes is in the subdomain.
 pub type Subdomain = Vec<Vec<bool>>;
 
+/// A filter: a subdomain for a book and answers.
+pub type Filter = fn(&Book, &[u8]) -> Subdomain;
+
 /// Some row of the table has `code` in column `column` and, in its other columns, codes that are all in the subdomain.
-fn supported(domain: &Subdomain, table: &Table, column: usize, code: u8) -> bool {
+fn supported(domain: &Subdomain, table: &Table, column: usize, code: usize) -> bool {
     table.rows.iter().any(|row| {
-        row[column] == code && (0..row.len()).all(|k| k == column || domain[table.fields[k] as usize][row[k] as usize])
+        row[column] as usize == code && (0..row.len()).all(|k| k == column || domain[table.fields[k] as usize][row[k] as usize])
     })
 }
 
-/// The codes in the subdomain that some table with their field does not support.
-fn unsupported(book: &Book, domain: &Subdomain) -> Vec<(usize, usize)> {
+/// The codes in the subdomain that the table has the field of and does not support.
+pub fn unsupported(table: &Table, domain: &Subdomain) -> Vec<(usize, usize)> {
     let mut found = Vec::new();
-    for table in &book.tables {
-        for (column, &field) in table.fields.iter().enumerate() {
-            for code in 0..book.counts[field as usize] {
-                if domain[field as usize][code as usize] && !supported(domain, table, column, code) {
-                    found.push((field as usize, code as usize));
-                }
-            }
-        }
+    for (column, &field) in table.fields.iter().enumerate() {
+        let codes = domain[field as usize].iter().enumerate().filter(|(_, &stands)| stands);
+        let codes = codes.filter(|&(code, _)| !supported(domain, table, column, code));
+        found.extend(codes.map(|(code, _)| (field as usize, code)));
     }
     found
+}
+
+pub fn remove(domain: &mut Subdomain, codes: &[(usize, usize)]) {
+    for &(field, code) in codes {
+        domain[field][code] = false;
+    }
+}
+
+/// All that the answers allow.
+pub fn allowed(book: &Book, answers: &[u8]) -> Subdomain {
+    let allowed = |f: usize, c: u8| answers[f] == NO_ANSWER || answers[f] == c;
+    let counts = book.counts.iter().enumerate();
+    counts.map(|(f, &count)| (0..count).map(|c| allowed(f, c)).collect()).collect()
+}
+
+/// Removes the codes that some table does not support, and answers whether there were any.
+pub fn round(book: &Book, domain: &mut Subdomain) -> bool {
+    let removed: Vec<_> = book.tables.iter().flat_map(|table| unsupported(table, domain)).collect();
+    remove(domain, &removed);
+    !removed.is_empty()
 }
 
 /// Removes unsupported codes again and again from all that the answers allow. What is removed is in no arc-consistent subdomain
 /// within the answers, and what is left is one.
 pub fn largest(book: &Book, answers: &[u8]) -> Subdomain {
-    let allowed = |f: usize, c: u8| answers[f] == NO_ANSWER || answers[f] == c;
-    let counts = book.counts.iter().enumerate();
-    let mut domain: Subdomain = counts.map(|(f, &count)| (0..count).map(|c| allowed(f, c)).collect()).collect();
-    loop {
-        let removed = unsupported(book, &domain);
-        if removed.is_empty() {
-            return domain;
-        }
-        for (field, code) in removed {
-            domain[field][code] = false;
-        }
-    }
+    let mut domain = allowed(book, answers);
+    while round(book, &mut domain) {}
+    domain
 }
 
 /// The answers without field f's.
@@ -64,7 +74,7 @@ pub struct Alternatives {
     pub struck: u64,
 }
 
-pub fn alternatives(book: &Book, answers: &[u8]) -> Alternatives {
+pub fn alternatives(book: &Book, answers: &[u8], largest: Filter) -> Alternatives {
     let mut lines = Vec::new();
     let mut struck = outside(&largest(book, answers));
     for f in 0..book.counts.len() {

@@ -1,11 +1,18 @@
-//! An independent slow implementation of the desk, written from document 01 alone, and seeded cases to compare the desk with it.
+//! An independent slow implementation of the desk, written from document 01 alone; seeded cases to compare libraries with it; and
+//! libraries that are wrong on purpose, to see that the cases tell them from it.
 
 pub mod book;
 pub mod calls;
 pub mod cases;
+pub mod compare;
 pub mod coverage;
+pub mod desk;
+pub mod draft;
+pub mod faults;
 pub mod filter;
 pub mod library;
+pub mod memory;
 pub mod random;
+pub mod reader;
 pub mod slips;
 pub mod text;

@@ -1,66 +1,48 @@
-//! The library's calls, twice: by the safe wrapper, and bare, where every cell of the outcome can be seen.
+//! Libraries to compare, behind one function: the library as it is exported, and its safe wrapper.
 
 use sighting::{ffi, Alternatives, Refusal};
 
-use crate::calls::{Call, Left, Sheet};
+use crate::calls::{Call, Sheet};
+use crate::memory::Part;
 
-/// What an outcome's cells hold before a call, to see that each is written.
-const UNWRITTEN: u64 = 0xDEAD_BEEF_DEAD_BEEF;
-
-/// What lies behind the lent part of a buffer, and has to stay.
-const BEHIND: usize = 8;
-
-/// A buffer of which all but the last elements are lent.
-struct Guarded<T> {
-    all: Vec<T>,
-    lent: usize,
+/// The memory lent to one call; what it has no use for is empty.
+pub struct Lent {
+    /// To be read only.
+    pub book: Part<u8>,
+    /// A stored sheet or a list of calls, to be read only.
+    pub list: Part<u8>,
+    /// To be read only by the calls that leave the sheet alone.
+    pub sheet: Part<u8>,
+    pub cells: Part<u64>,
+    pub bytes: Part<u8>,
+    pub numbers: Part<u32>,
 }
 
-impl<T: Copy + PartialEq + From<u8>> Guarded<T> {
-    fn new(lent: &[T]) -> Guarded<T> {
-        let mut all = lent.to_vec();
-        all.resize(lent.len() + BEHIND, T::from(0xA5));
-        Guarded { all, lent: lent.len() }
-    }
-
-    fn lend(&mut self) -> &mut [T] {
-        &mut self.all[..self.lent]
-    }
-
-    fn taken_back(self) -> Vec<T> {
-        assert!(self.all[self.lent..].iter().all(|&x| x == T::from(0xA5)), "written behind what was lent");
-        self.all[..self.lent].to_vec()
+impl Lent {
+    /// The sheet as it is given.
+    ///
+    /// # Safety
+    /// A sheet of 32 bytes is lent.
+    pub unsafe fn sheet(&self) -> Sheet {
+        self.sheet.elements().try_into().expect("a sheet has 32 bytes")
     }
 }
 
-/// The call by the bare functions of the library.
-pub fn bare(call: &Call, book: &[u8], sheet: &Sheet, bytes: &[u8], numbers: &[u32]) -> Left {
-    let (mut sheet, mut cells) = (Guarded::new(sheet), Guarded::new(&[UNWRITTEN; 5][..cells_of(call)]));
-    let (mut bytes, mut numbers) = (Guarded::new(bytes), Guarded::new(numbers));
-    let number = bare_number(call, book, sheet.lend(), cells.lend(), bytes.lend(), numbers.lend());
-    Left {
-        number,
-        cells: cells.taken_back(),
-        sheet: sheet.taken_back().try_into().expect("32 bytes"),
-        bytes: bytes.taken_back(),
-        numbers: numbers.taken_back(),
-    }
+pub trait Library {
+    /// Makes the call on the memory lent, and answers its number.
+    ///
+    /// # Safety
+    /// The memory is what `include/sighting.h` asks for.
+    unsafe fn call(&self, call: &Call, lent: &Lent) -> u64;
 }
 
-fn cells_of(call: &Call) -> usize {
-    match call {
-        Call::Fresh | Call::Clear => 0,
-        Call::Read => 5,
-        Call::Alternatives | Call::Replay { .. } => 3,
-        _ => 1,
-    }
-}
+/// The library by its exported functions.
+pub struct Exported;
 
-fn bare_number(call: &Call, book: &[u8], sheet: &mut [u8], cells: &mut [u64], bytes: &mut [u8], numbers: &mut [u32]) -> u64 {
-    let (b, n, s, o) = (book.as_ptr(), book.len(), sheet.as_mut_ptr(), cells.as_mut_ptr());
-    let (out, lent) = (bytes.as_mut_ptr(), bytes.len());
-    // SAFETY: the sheet has 32 bytes, the outcome the cells of `cells_of`, and each pointer the length beside it.
-    unsafe {
+impl Library for Exported {
+    unsafe fn call(&self, call: &Call, lent: &Lent) -> u64 {
+        let (b, n, s, o) = (lent.book.at, lent.book.len, lent.sheet.at, lent.cells.at);
+        let (list, list_len, out, lent_len) = (lent.list.at, lent.list.len, lent.bytes.at, lent.bytes.len);
         match call {
             Call::Read => ffi::sighting_read(b, n, o),
             Call::Fresh => {
@@ -73,84 +55,106 @@ fn bare_number(call: &Call, book: &[u8], sheet: &mut [u8], cells: &mut [u64], by
             }
             Call::Enter { field, code } => ffi::sighting_enter(s, b, n, *field, *code, o),
             Call::Withdraw { field } => ffi::sighting_withdraw(s, b, n, *field, o),
-            Call::Filtered { relaxed } => ffi::sighting_filtered(s, b, n, *relaxed, numbers.as_mut_ptr(), numbers.len(), o),
-            Call::Alternatives => ffi::sighting_alternatives(s, b, n, out, lent, o),
-            Call::Load { form } => ffi::sighting_load(s, b, n, form.as_ptr(), form.len(), o),
-            Call::Store => ffi::sighting_store(s, b, n, out, lent, o),
-            Call::Replay { calls } => ffi::sighting_replay(s, b, n, calls.as_ptr(), calls.len(), out, lent, o),
-            Call::Report { form } => ffi::sighting_report(b, n, form.as_ptr(), form.len(), out, lent, o),
+            Call::Filtered { relaxed } => ffi::sighting_filtered(s, b, n, *relaxed, lent.numbers.at, lent.numbers.len, o),
+            Call::Alternatives => ffi::sighting_alternatives(s, b, n, out, lent_len, o),
+            Call::Load { .. } => ffi::sighting_load(s, b, n, list, list_len, o),
+            Call::Store => ffi::sighting_store(s, b, n, out, lent_len, o),
+            Call::Replay { .. } => ffi::sighting_replay(s, b, n, list, list_len, out, lent_len, o),
+            Call::Report { .. } => ffi::sighting_report(b, n, list, list_len, out, lent_len, o),
         }
     }
 }
 
-/// The wrapper's answer as number, place and counts.
-fn shown(result: Result<Vec<u64>, Refusal>, counts: usize) -> (u64, Vec<u64>) {
-    match result {
-        Ok(counts) => (0, [vec![0], counts].concat()),
-        Err(r) => (r.number, [vec![r.place], vec![0; counts]].concat()),
+/// The library by its safe wrapper. What that hides, a refused load's sheet and a refusal's counts, is taken as document 01 has it.
+pub struct Wrapper;
+
+impl Library for Wrapper {
+    unsafe fn call(&self, call: &Call, lent: &Lent) -> u64 {
+        let (book, list) = (lent.book.elements(), lent.list.elements());
+        let (bytes, numbers) = (lent.bytes.elements_mut(), lent.numbers.elements_mut());
+        let mut sheet = sighting::Sheet::from(lent.sheet());
+        let result = match call {
+            Call::Read => sighting::read(book).map(|c| vec![c.fields, c.tables, c.rows, c.different_rows]),
+            Call::Fresh => {
+                sheet = sighting::Sheet::fresh();
+                Ok(Vec::new())
+            }
+            Call::Clear => {
+                sheet.clear();
+                Ok(Vec::new())
+            }
+            Call::Enter { field, code } => nothing_counted(sheet.enter(book, *field, *code)),
+            Call::Withdraw { field } => nothing_counted(sheet.withdraw(book, *field)),
+            Call::Filtered { relaxed } => {
+                let relaxed = Some(*relaxed).filter(|&f| f != sighting::NO_ANSWER as usize);
+                nothing_counted(sheet.filtered(book, relaxed, numbers))
+            }
+            Call::Alternatives => counts(sheet.alternatives(book, bytes)),
+            Call::Load { .. } => {
+                let loaded = sighting::Sheet::load(book, list);
+                sheet = loaded.unwrap_or_default();
+                nothing_counted(loaded.map(|_| ()))
+            }
+            Call::Store => nothing_counted(sheet.store(book, bytes)),
+            Call::Replay { .. } => {
+                let (reached, result) = sighting::Sheet::replay(book, list, bytes);
+                sheet = reached;
+                counts(result)
+            }
+            Call::Report { .. } => sighting::report(book, list, bytes).map(|length| vec![length]),
+        };
+        if !call.only_reads_sheet() {
+            lent.sheet.elements_mut().copy_from_slice(sheet.bytes());
+        }
+        told(result, lent.cells.elements_mut())
     }
 }
 
-fn found(result: Result<Alternatives, Refusal>) -> (u64, Vec<u64>) {
-    shown(result.map(|a| vec![a.total, a.struck]), 2)
+fn counts(result: Result<Alternatives, Refusal>) -> Result<Vec<u64>, Refusal> {
+    result.map(|found| vec![found.total, found.struck])
 }
 
-fn none(result: Result<(), Refusal>) -> (u64, Vec<u64>) {
-    shown(result.map(|()| Vec::new()), 0)
+fn nothing_counted(result: Result<(), Refusal>) -> Result<Vec<u64>, Refusal> {
+    result.map(|()| Vec::new())
 }
 
-/// The call by the safe wrapper. What it hides, a refused load's sheet and a refusal's counts, is taken as document 01 has it.
-pub fn wrapped(call: &Call, book: &[u8], sheet: &Sheet, bytes: &[u8], numbers: &[u32]) -> Left {
-    let mut sheet = sighting::Sheet::from(*sheet);
-    let (mut bytes, mut numbers) = (bytes.to_vec(), numbers.to_vec());
-    let (number, cells) = match call {
-        Call::Read => {
-            let counts = sighting::read(book);
-            shown(counts.map(|c| vec![c.fields, c.tables, c.rows, c.different_rows]), 4)
-        }
-        Call::Fresh => {
-            sheet = sighting::Sheet::fresh();
-            (0, Vec::new())
-        }
-        Call::Clear => {
-            sheet.clear();
-            (0, Vec::new())
-        }
-        Call::Enter { field, code } => none(sheet.enter(book, *field, *code)),
-        Call::Withdraw { field } => none(sheet.withdraw(book, *field)),
-        Call::Filtered { relaxed } => {
-            let relaxed = Some(*relaxed).filter(|&f| f != sighting::NO_ANSWER);
-            none(sheet.filtered(book, relaxed, &mut numbers))
-        }
-        Call::Alternatives => found(sheet.alternatives(book, &mut bytes)),
-        Call::Load { form } => {
-            let loaded = sighting::Sheet::load(book, form);
-            sheet = loaded.unwrap_or_default();
-            none(loaded.map(|_| ()))
-        }
-        Call::Store => none(sheet.store(book, &mut bytes)),
-        Call::Replay { calls } => {
-            let (reached, result) = sighting::Sheet::replay(book, calls, &mut bytes);
-            sheet = reached;
-            found(result)
-        }
-        Call::Report { form } => match sighting::report(book, form, &mut bytes) {
-            Ok(length) => (0, vec![length]),
-            Err(short) => (18, vec![short.needed]),
-        },
+/// The wrapper's answer as number and cells.
+fn told(result: Result<Vec<u64>, Refusal>, cells: &mut [u64]) -> u64 {
+    let (number, place, counts) = match result {
+        Ok(counts) => (0, 0, counts),
+        Err(r) => (r.number, r.place, Vec::new()),
     };
-    Left { number, cells, sheet: *sheet.bytes(), bytes, numbers }
+    let told = [place].into_iter().chain(counts).chain(std::iter::repeat(0));
+    cells.iter_mut().zip(told).for_each(|(cell, value)| *cell = value);
+    number
 }
 
-/// The calls of a list one by one, each on the sheet handed back before and the first on a fresh one: the number of each, then what
-/// the alternatives of the last sheet leave.
-pub fn one_by_one(book: &[u8], calls: &[u8], bytes: &[u8]) -> (Vec<u64>, Left) {
+/// The library by its safe wrapper, but the calls of a list are made one by one, and then the alternatives.
+pub struct OneByOne;
+
+impl Library for OneByOne {
+    unsafe fn call(&self, call: &Call, lent: &Lent) -> u64 {
+        let Call::Replay { calls } = call else {
+            return Wrapper.call(call, lent);
+        };
+        let book = lent.book.elements();
+        let (_, reached) = one_by_one(book, calls);
+        lent.sheet.elements_mut().copy_from_slice(&reached);
+        let found = sighting::Sheet::from(reached).alternatives(book, lent.bytes.elements_mut());
+        told(counts(found), lent.cells.elements_mut())
+    }
+}
+
+/// The calls of a list one by one, each on the sheet handed back before and the first on a fresh one: the number of each, and the last
+/// sheet.
+pub fn one_by_one(book: &[u8], calls: &[u8]) -> (Vec<u64>, Sheet) {
     let mut sheet = sighting::Sheet::fresh();
     let mut numbers = Vec::new();
     for call in calls.chunks_exact(3) {
+        let (field, code) = (call[1] as usize, call[2] as usize);
         let result = match call[0] {
-            0 => sheet.enter(book, call[1], call[2]),
-            1 => sheet.withdraw(book, call[1]),
+            0 => sheet.enter(book, field, code),
+            1 => sheet.withdraw(book, field),
             2 => {
                 sheet.clear();
                 Ok(())
@@ -159,5 +163,5 @@ pub fn one_by_one(book: &[u8], calls: &[u8], bytes: &[u8]) -> (Vec<u64>, Left) {
         };
         numbers.push(result.map_or_else(|r| r.number, |()| 0));
     }
-    (numbers, wrapped(&Call::Alternatives, book, sheet.bytes(), bytes, &[]))
+    (numbers, *sheet.bytes())
 }

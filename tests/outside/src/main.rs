@@ -1,13 +1,15 @@
 //! Compares the desk with an independent slow implementation on seeded books and sheets.
 //!
 //! `outside DESK CASES [SEED]`: DESK is the built program, which reads book.bin and sheet.bin in its folder. A seed repeats a run;
-//! a case that differs is left in its folder, whose name is printed. The run prints how often each refusal was reached and at how
+//! a case that differs is left in its folder, whose name is printed. A desk that prints ends with success. The run prints how often each refusal was reached and at how
 //! many places, and fails if one was not reached at several.
 
 use std::collections::{BTreeMap, BTreeSet};
 use std::path::{Path, PathBuf};
-use std::process::{Command, ExitCode};
+use std::process::{Command, ExitCode, Output};
 
+use outside::desk::Desk;
+use outside::faults::{changed, faulty, some_faults};
 use outside::random::{self, Random};
 use outside::text;
 
@@ -52,9 +54,10 @@ fn case(r: &mut Random) -> Case {
                 form.pop();
             }
         }
+        7 if r.one_in(4) => bytes = changed(r, &book),
         _ => {
-            let number = r.from(1, 14) as u64;
-            bytes = random::damaged(r, &book, number);
+            let faults = some_faults(r);
+            bytes = faulty(r, &book, &faults);
         }
     }
     Case { bytes, form }
@@ -64,10 +67,11 @@ fn random_byte(r: &mut Random) -> u8 {
     r.word() as u8
 }
 
-fn desk_prints(desk: &Path, folder: &Path, case: &Case) -> std::io::Result<Vec<u8>> {
+/// What the desk prints for the case, and how it ends.
+fn desk_prints(desk: &Path, folder: &Path, case: &Case) -> std::io::Result<Output> {
     std::fs::write(folder.join("book.bin"), &case.bytes)?;
     std::fs::write(folder.join("sheet.bin"), &case.form)?;
-    Ok(Command::new(desk).current_dir(folder).output()?.stdout)
+    Command::new(desk).current_dir(folder).output()
 }
 
 fn run(desk: &Path, cases: u64, seed: u64) -> std::io::Result<bool> {
@@ -75,18 +79,20 @@ fn run(desk: &Path, cases: u64, seed: u64) -> std::io::Result<bool> {
     std::fs::create_dir_all(&folder)?;
     let mut reached: BTreeMap<u64, (u64, BTreeSet<u64>)> = BTreeMap::new();
     let mut accepted = 0;
+    let slow = Desk::default();
     for i in 0..cases {
         let case = case(&mut Random(seed.wrapping_add(i.wrapping_mul(0x1_0000_0001))));
-        let (expected, refusal) = text::report(&case.bytes, &case.form);
-        let printed = desk_prints(desk, &folder, &case)?;
-        if printed != expected.as_bytes() {
+        let reading = slow.reader.read(&case.bytes);
+        let expected = text::report(&slow, &reading, &case.form);
+        let got = desk_prints(desk, &folder, &case)?;
+        if got.stdout != expected.as_bytes() || !got.status.success() {
             println!("case {i} of seed {seed} differs; book.bin and sheet.bin are in {}", folder.display());
-            println!("expected:\n{expected}printed:\n{}", String::from_utf8_lossy(&printed));
+            println!("expected:\n{expected}printed, {}:\n{}", got.status, String::from_utf8_lossy(&got.stdout));
             return Ok(false);
         }
-        match refusal {
-            None => accepted += 1,
-            Some(r) => {
+        match slow.loaded(&reading, &case.form) {
+            Ok(_) => accepted += 1,
+            Err(r) => {
                 let entry = reached.entry(r.number).or_default();
                 entry.0 += 1;
                 entry.1.insert(r.place);

@@ -1,4 +1,4 @@
-//! Seeded books, sheets and damage.
+//! Seeded books and sheets.
 
 use crate::book::{Book, Table};
 use crate::filter::{largest, NO_ANSWER};
@@ -144,18 +144,39 @@ fn ring(r: &mut Random) -> Book {
     Book { counts: vec![codes; fields], tables }
 }
 
+/// The rows of a table that carries each strike from one field to the next and none back: each code goes with the same code, or the
+/// one behind it, of the next field, and every code goes with the next field's last one.
+fn carrying(codes: u8, step: u8) -> Vec<(u8, u8)> {
+    let same = (0..codes - 1 - step).map(|c| (c, c + step));
+    same.chain((0..codes).map(|c| (c, codes - 1))).collect()
+}
+
+/// A ring of tables along which all codes but the last one of each field are struck one after another, in one direction. It begins
+/// where the step of one code leaves the first code without a partner. With the tables in any order, no few sweeps over them suffice.
+fn long_fall(r: &mut Random) -> Book {
+    let (fields, codes) = if r.one_in(2) { (r.from(3, 4) as u8, 32) } else { (32, r.from(3, 4) as u8) };
+    let mut tables: Vec<Table> = (0..fields)
+        .map(|f| {
+            let next = (f + 1) % fields;
+            let rows = carrying(codes, (next == 0) as u8);
+            let in_order = |(c, d): (u8, u8)| if f < next { vec![c, d] } else { vec![d, c] };
+            Table { fields: vec![f.min(next), f.max(next)], rows: rows.into_iter().map(in_order).collect() }
+        })
+        .collect();
+    for i in 1..tables.len() {
+        let k = r.from(0, i);
+        tables.swap(i, k);
+    }
+    Book { counts: vec![codes; fields as usize], tables }
+}
+
 pub fn book(r: &mut Random) -> Book {
-    match r.from(0, 19) {
-        0 => wide(r),
-        1 => many_tables(r),
-        2 => {
-            if r.one_in(6) {
-                many_rows(r)
-            } else {
-                small(r)
-            }
-        }
-        3..=5 => ring(r),
+    match r.from(0, 239) {
+        0..=11 => wide(r),
+        12..=23 => many_tables(r),
+        24 => many_rows(r),
+        25 => long_fall(r),
+        26..=61 => ring(r),
         _ => small(r),
     }
 }
@@ -182,104 +203,4 @@ fn standing_code(r: &mut Random, book: &Book, answers: &[u8], f: usize) -> u8 {
         return r.from(0, book.counts[f] as usize - 1) as u8;
     }
     standing[r.from(0, standing.len() - 1)]
-}
-
-/// The places of the tables of accepted bytes.
-fn places(book: &Book) -> Vec<usize> {
-    let mut at = 0;
-    let mut places = Vec::new();
-    for t in &book.tables {
-        places.push(at);
-        at += 3 + t.fields.len() * (1 + t.rows.len());
-    }
-    places
-}
-
-/// Bytes that are likely to be refused by this number, if the book has a place for it.
-pub fn damaged(r: &mut Random, book: &Book, number: u64) -> Vec<u8> {
-    let mut bytes = book.write();
-    let n = bytes.len();
-    let list = n - 6 - book.counts.len();
-    let table = if book.tables.is_empty() { None } else { Some(r.from(0, book.tables.len() - 1)) };
-    let at = table.map(|i| places(book)[i]);
-    match (number, table.zip(at)) {
-        (1, _) => {
-            if r.one_in(2) {
-                bytes.truncate(r.from(0, 5));
-            } else {
-                bytes.resize(32_769 + r.from(0, 3), 0xE5);
-            }
-        }
-        (2, _) => bytes[n - 1] = r.from(0, 0xE4) as u8,
-        (3, _) => bytes[n - 2] = [0, 2, 3, 255][r.from(0, 3)],
-        (4, _) => bytes[n - 4] = [0, 33, 60, 255][r.from(0, 3)],
-        (5, _) => bytes[n - 3] = r.from(65, 255) as u8,
-        (6, _) => {
-            let place = n - 6 + r.from(0, 1);
-            bytes[place] = bytes[place].wrapping_add(r.from(1, 255) as u8);
-        }
-        (7, _) => {
-            let place = list + r.from(0, book.counts.len() - 1);
-            bytes[place] = [0, 33, 64, 255][r.from(0, 3)];
-        }
-        (8, Some((i, at))) => match r.from(0, 2) {
-            // one table more than there are
-            0 => bytes[n - 3] = (book.tables.len() + 1).min(64) as u8,
-            // more rows than fit
-            1 => bytes[at + 2 + book.tables[i].fields.len()] |= 0x40 + r.from(0, 63) as u8,
-            // the field list moves to the front of the table's head
-            _ => cut_tables(&mut bytes, book, at + r.from(1, 2)),
-        },
-        (9, Some((_, at))) => bytes[at] = [0, 5, 6, 255][r.from(0, 3)],
-        (10, Some((i, at))) => {
-            let arity = book.tables[i].fields.len();
-            let j = r.from(0, arity - 1);
-            bytes[at + 1 + j] = if j > 0 && r.one_in(2) { bytes[at + j] } else { r.from(book.counts.len(), 255) as u8 };
-        }
-        (11, Some((i, at))) => {
-            let t = &book.tables[i];
-            if !t.rows.is_empty() {
-                let k = r.from(0, t.rows.len() * t.fields.len() - 1);
-                let count = book.counts[t.fields[k % t.fields.len()] as usize];
-                bytes[at + 3 + t.fields.len() + k] = r.from(count as usize, 255) as u8;
-            }
-        }
-        (12, Some((i, _))) => {
-            let mut large = book.clone();
-            let row = vec![0; book.tables[i].fields.len()];
-            let rows = 4_097 - (book.rows() - book.tables[i].rows.len()) + r.from(0, 3);
-            large.tables[i].rows = vec![row; rows];
-            bytes = large.write();
-        }
-        (13, _) => {
-            let more = r.from(1, 3);
-            insert_bytes(&mut bytes, book, list, more);
-        }
-        _ => {
-            let place = r.from(0, n - 1);
-            bytes[place] = r.word() as u8;
-        }
-    }
-    bytes
-}
-
-/// The first `keep` bytes of the tables, with the field list and the trailer behind them.
-fn cut_tables(bytes: &mut Vec<u8>, book: &Book, keep: usize) {
-    let list = bytes.len() - 6 - book.counts.len();
-    bytes.drain(keep.min(list)..list);
-    point_to_list(bytes, book);
-}
-
-fn insert_bytes(bytes: &mut Vec<u8>, book: &Book, at: usize, more: usize) {
-    for _ in 0..more {
-        bytes.insert(at, 1);
-    }
-    point_to_list(bytes, book);
-}
-
-fn point_to_list(bytes: &mut [u8], book: &Book) {
-    let n = bytes.len();
-    let list = n - 6 - book.counts.len();
-    bytes[n - 6] = (list & 0xFF) as u8;
-    bytes[n - 5] = (list >> 8) as u8;
 }

@@ -1,28 +1,20 @@
 //! The text that the program prints.
 
-use crate::book::{refuse, Book, Refusal};
-use crate::filter::{alternatives, largest, NO_ANSWER};
+use crate::book::Book;
+use crate::desk::{accepted, Desk, Reading};
+use crate::filter::NO_ANSWER;
 
-/// Loads a stored sheet, one byte a field: 19, then 14.
-pub fn load(book: &Book, form: &[u8]) -> Result<Vec<u8>, Refusal> {
-    if form.len() != book.counts.len() {
-        return refuse(19, 0);
-    }
-    match (0..form.len()).find(|&f| form[f] != NO_ANSWER && form[f] >= book.counts[f]) {
-        Some(f) => refuse(14, f),
-        None => Ok(form.to_vec()),
-    }
-}
-
-fn accepted(book: &Book, answers: &[u8]) -> String {
-    let mut text = format!("book {} {} {} {}\n", book.counts.len(), book.tables.len(), book.rows(), book.different_rows());
+/// The lines for a book and a sheet that are accepted.
+fn lines(desk: &Desk, book: &Book, answers: &[u8]) -> String {
+    let different = (desk.different_rows)(book);
+    let mut text = format!("book {} {} {} {different}\n", book.counts.len(), book.tables.len(), book.rows());
     let answered = answers.iter().filter(|&&a| a != NO_ANSWER).count();
-    let found = alternatives(book, answers);
+    let found = (desk.alternatives)(book, answers, desk.largest);
     text += &format!("sheet {} {} {}\n", answered, found.lines.len(), found.struck);
     for (f, c) in &found.lines {
         text += &format!("alt {f} {c}\n");
     }
-    let standing = largest(book, answers);
+    let standing = (desk.largest)(book, answers);
     for f in (0..book.counts.len()).filter(|&f| answers[f] == NO_ANSWER) {
         for c in (0..book.counts[f] as usize).filter(|&c| standing[f][c]) {
             text += &format!("open {f} {c}\n");
@@ -31,12 +23,12 @@ fn accepted(book: &Book, answers: &[u8]) -> String {
     text
 }
 
-/// The whole text for these bytes of a book and of a stored sheet, and the refusal where there is one.
-pub fn report(bytes: &[u8], form: &[u8]) -> (String, Option<Refusal>) {
-    let loaded = Book::read(bytes).and_then(|book| load(&book, form).map(|answers| (book, answers)));
+/// The whole text for a book so read and for this stored sheet.
+pub fn report(desk: &Desk, reading: &Reading, form: &[u8]) -> String {
+    let loaded = accepted(reading).and_then(|book| Ok((book, desk.loaded(reading, form)?)));
     match loaded {
-        Ok((book, answers)) => (accepted(&book, &answers), None),
-        Err(r) => (format!("refused {} {}\n", r.number, r.place), Some(r)),
+        Ok((book, answers)) => lines(desk, book, &answers),
+        Err(r) => format!("refused {} {}\n", r.number, r.place),
     }
 }
 
@@ -44,6 +36,7 @@ pub fn report(bytes: &[u8], form: &[u8]) -> (String, Option<Refusal>) {
 mod tests {
     use super::report;
     use crate::book::{Book, Table};
+    use crate::desk::Desk;
 
     const E1: [u8; 35] = [
         0x02, 0x00, 0x02, 0x04, 0x00, 0x00, 0x00, 0x00, 0x01, 0x01, 0x02, 0x00, 0x01, 0x02, 0x01, 0x02, 0x04, 0x00, 0x00, 0x00,
@@ -56,7 +49,8 @@ mod tests {
     }
 
     fn prints(bytes: &[u8], form: &[u8], text: &str) {
-        assert_eq!(report(bytes, form).0, text);
+        let desk = Desk::default();
+        assert_eq!(report(&desk, &desk.reader.read(bytes), form), text);
     }
 
     #[test]

@@ -1,0 +1,128 @@
+//! What the wrapper adds to the library: its types, and what it does with numbers and buffers.
+
+use sighting::{read, report, Alternatives, Call, Refusal, Sheet, NO_ANSWER, NUMBERS, PAIRS_BYTES, REPORT_BYTES, STORED_BYTES};
+
+/// Example E1: three fields of 2, 3 and 3 codes, and two tables.
+const BOOK: [u8; 35] =
+    [2, 0, 2, 4, 0, 0, 0, 0, 1, 1, 2, 0, 1, 2, 1, 2, 4, 0, 0, 0, 1, 1, 1, 2, 2, 2, 2, 3, 3, 0x1A, 0, 3, 2, 1, 0xE5];
+
+const NO_FIELD: Refusal = Refusal { number: 15, place: 0 };
+const NO_CODE: Refusal = Refusal { number: 16, place: 0 };
+const TOO_FEW: Refusal = Refusal { number: 18, place: 0 };
+
+/// E1's sheet: field 0 answered by 0 and field 1 by 1.
+fn answered() -> Sheet {
+    Sheet::load(&BOOK, &[0, 1, NO_ANSWER]).expect("E1's sheet")
+}
+
+/// A sheet with a fault in its first place.
+fn faulty() -> Sheet {
+    let mut places = *answered().bytes();
+    places[0] = 2;
+    Sheet::from(places)
+}
+
+#[test]
+fn numbers_that_no_byte_holds_are_refused() {
+    for above in [256, 258, 1 << 32, (1 << 32) + 1, usize::MAX - 254, usize::MAX] {
+        let mut sheet = answered();
+        assert_eq!(sheet.enter(&BOOK, above, 0), Err(NO_FIELD), "field {above}");
+        assert_eq!(sheet.enter(&BOOK, 0, above), Err(NO_CODE), "code {above}");
+        assert_eq!(sheet.withdraw(&BOOK, above), Err(NO_FIELD), "field {above}");
+        assert_eq!(sheet.filtered(&BOOK, Some(above), &mut [0; NUMBERS]), Err(NO_FIELD), "field {above}");
+        assert_eq!(sheet, answered());
+    }
+}
+
+#[test]
+fn several_readers_share_a_sheet() {
+    let (sheet, read) = (answered(), |sheet: &Sheet| {
+        let (mut pairs, mut numbers, mut form) = ([0; PAIRS_BYTES], [0; NUMBERS], [0; STORED_BYTES]);
+        assert_eq!(sheet.alternatives(&BOOK, &mut pairs), Ok(Alternatives { total: 4, struck: 11 }));
+        assert_eq!(sheet.filtered(&BOOK, Some(0), &mut numbers), Ok(()));
+        assert_eq!(sheet.store(&BOOK, &mut form), Ok(()));
+        assert_eq!((numbers[0], &form[..3]), (0b11, &[0, 1, NO_ANSWER][..]));
+    });
+    std::thread::scope(|scope| {
+        scope.spawn(|| read(&sheet));
+        scope.spawn(|| read(&sheet));
+    });
+    assert_eq!(sheet, answered());
+}
+
+#[test]
+fn relaxing_255_is_not_relaxing_none() {
+    let (sheet, mut numbers) = (answered(), [7; NUMBERS]);
+    assert_eq!(sheet.filtered(&BOOK, Some(255), &mut numbers), Err(NO_FIELD));
+    assert_eq!(numbers, [7; NUMBERS]);
+    assert_eq!(sheet.filtered(&BOOK, None, &mut numbers), Ok(()));
+    assert_eq!(numbers[..4], [0b001, 0b010, 0b010, 7]);
+}
+
+#[test]
+fn relaxing_255_is_refused_behind_book_and_sheet() {
+    let filtered = |sheet: Sheet, book: &[u8]| sheet.filtered(book, Some(255), &mut [0; NUMBERS]);
+    assert_eq!(filtered(faulty(), &BOOK[..34]), Err(Refusal { number: 2, place: 33 }));
+    assert_eq!(filtered(faulty(), &BOOK), Err(Refusal { number: 14, place: 0 }));
+}
+
+#[test]
+fn a_report_that_does_not_fit_is_an_ordinary_refusal() {
+    let text = b"book 3 2 8 7\nsheet 2 4 11\nalt 0 0\nalt 0 1\nalt 1 0\nalt 1 1\nopen 2 1\n";
+    let mut out = [7; REPORT_BYTES];
+    assert_eq!(report(&BOOK, &[0, 1, NO_ANSWER], &mut out[..text.len() - 1]), Err(TOO_FEW));
+    assert_eq!(out, [7; REPORT_BYTES]);
+    assert_eq!(report(&BOOK, &[0, 1, NO_ANSWER], &mut out), Ok(text.len() as u64));
+    assert_eq!(out[..text.len()], text[..]);
+    assert_eq!(out[text.len()..], [7; REPORT_BYTES][text.len()..]);
+}
+
+#[test]
+fn a_refused_replay_hands_back_the_sheet_that_its_list_reached() {
+    let list = [Call::Enter { field: 0, code: 0 }, Call::Enter { field: 1, code: 1 }, Call::Withdraw { field: 2 }];
+    let list = list.map(Call::bytes).concat();
+    let mut pairs = [7; PAIRS_BYTES];
+    assert_eq!(Sheet::replay(&BOOK, &list, &mut pairs[..7]), (answered(), Err(TOO_FEW)));
+    assert_eq!(Sheet::replay(&BOOK, &list, &mut pairs), (answered(), Ok(Alternatives { total: 4, struck: 11 })));
+    let refused = Err(Refusal { number: 2, place: 33 });
+    assert_eq!(Sheet::replay(&BOOK[..34], &list, &mut pairs), (Sheet::fresh(), refused));
+}
+
+/// The most alternatives: 32 fields of 32 codes, no table, all fields answered.
+#[test]
+fn the_lengths_named_suffice() {
+    let book = [&[32; 32][..], &[0, 0, 32, 0, 1, 0xE5]].concat();
+    let sheet = Sheet::from([31; 32]);
+    assert_eq!(sheet.alternatives(&book, &mut [0; PAIRS_BYTES]).map(|found| found.total), Ok(1024));
+    assert_eq!(sheet.alternatives(&book, &mut [0; PAIRS_BYTES - 1]), Err(TOO_FEW));
+    assert_eq!(sheet.filtered(&book, None, &mut [0; NUMBERS]), Ok(()));
+    assert_eq!(sheet.filtered(&book, None, &mut [0; NUMBERS - 1]), Err(TOO_FEW));
+    assert_eq!(sheet.store(&book, &mut [0; STORED_BYTES]), Ok(()));
+    assert_eq!(sheet.store(&book, &mut [0; STORED_BYTES - 1]), Err(TOO_FEW));
+    assert!(report(&book, &[NO_ANSWER; 32], &mut [0; REPORT_BYTES]).is_ok());
+    assert_eq!(read(&book).map(|counts| counts.fields), Ok(32));
+}
+
+/// Every constant of the header stands in the wrapper with the same value.
+#[test]
+fn constants_are_those_of_the_header() {
+    let header = include_str!("../../../include/sighting.h");
+    let value = |name: &str| {
+        let mut words = header.lines().map(|line| line.split_whitespace().collect::<Vec<_>>());
+        let line = words.find(|words| words.len() > 2 && words[..2] == ["#define", name]);
+        line.and_then(|words| words[2].parse::<usize>().ok())
+    };
+    assert_eq!(value("SIGHTING_SHEET_BYTES"), Some(sighting::SHEET_BYTES));
+    assert_eq!(value("SIGHTING_NO_ANSWER"), Some(NO_ANSWER as usize));
+    assert_eq!(value("SIGHTING_PAIRS_BYTES"), Some(PAIRS_BYTES));
+    assert_eq!(value("SIGHTING_NUMBERS"), Some(NUMBERS));
+    assert_eq!(value("SIGHTING_STORED_BYTES"), Some(STORED_BYTES));
+    assert_eq!(value("SIGHTING_REPORT_BYTES"), Some(REPORT_BYTES));
+    for (name, call) in [
+        ("SIGHTING_CALL_ENTER", Call::Enter { field: 0, code: 0 }),
+        ("SIGHTING_CALL_WITHDRAW", Call::Withdraw { field: 0 }),
+        ("SIGHTING_CALL_CLEAR", Call::Clear),
+    ] {
+        assert_eq!(value(name), Some(call.bytes()[0] as usize));
+    }
+}

@@ -1,0 +1,124 @@
+//! Libraries that are wrong on purpose, each by one slip, to see that the cases tell it from the desk: a slip that no case catches
+//! would pass unseen in the desk too.
+
+mod calling;
+mod filtering;
+mod reading;
+mod straying;
+
+use crate::calls::{Answer, Call, Left, Sheet};
+use crate::desk::{Desk, Reading};
+use crate::library::{Lent, Library};
+pub use straying::Stray;
+
+/// A slip in one call: in no other is it looked for.
+pub struct Slip {
+    pub name: String,
+    pub call: &'static str,
+    pub wrong: Wrong,
+}
+
+/// A slip as it is listed: what it does, the calls in which it is looked for, and what is wrong.
+type Listed = (&'static str, &'static [&'static str], Wrong);
+
+#[derive(Clone, Copy)]
+pub enum Wrong {
+    /// The desk has a wrong part.
+    Part(fn(&mut Desk)),
+    /// The desk leaves something else than it answers.
+    Left(fn(&Seen, &mut Left)),
+    /// The desk touches memory that it may not touch.
+    Memory(Stray),
+}
+
+/// What a desk knows when it leaves its answer.
+pub struct Seen<'a> {
+    pub call: &'a Call,
+    pub book: &'a [u8],
+    pub reading: &'a Reading,
+    pub sheet: &'a Sheet,
+    pub answer: &'a Answer,
+    /// How many elements are lent to be written.
+    pub lent: usize,
+}
+
+impl Slip {
+    fn new(call: &'static str, what: &str, wrong: Wrong) -> Slip {
+        Slip { name: format!("{call}: {what}"), call, wrong }
+    }
+}
+
+/// All slips, each in each of its calls.
+pub fn all() -> Vec<Slip> {
+    let listed = [reading::SLIPS, filtering::SLIPS, calling::SLIPS].concat();
+    let in_each = |(what, calls, wrong): Listed| calls.iter().map(move |call| Slip::new(call, what, wrong));
+    listed.into_iter().flat_map(in_each).chain(straying::slips()).collect()
+}
+
+/// The slow desk behind a library's interface.
+#[derive(Default)]
+pub struct SlowLibrary {
+    desk: Desk,
+    wrong: Option<Wrong>,
+}
+
+impl SlowLibrary {
+    pub fn with(slip: &Slip) -> SlowLibrary {
+        let mut desk = Desk::default();
+        if let Wrong::Part(exchange) = slip.wrong {
+            exchange(&mut desk);
+        }
+        SlowLibrary { desk, wrong: Some(slip.wrong) }
+    }
+}
+
+impl Library for SlowLibrary {
+    unsafe fn call(&self, call: &Call, lent: &Lent) -> u64 {
+        let (book, sheet) = (lent.book.elements(), lent.sheet());
+        let reading = self.desk.reader.read(book);
+        let answer = self.desk.answer(call, &reading, &sheet);
+        let mut left = answer.left(call, lent.bytes.elements(), lent.numbers.elements());
+        match &self.wrong {
+            Some(Wrong::Left(change)) => {
+                let lent = lent.bytes.len.max(lent.numbers.len);
+                change(&Seen { call, book, reading: &reading, sheet: &sheet, answer: &answer, lent }, &mut left);
+            }
+            Some(Wrong::Memory(stray)) => stray.touch(lent),
+            _ => {}
+        }
+        if !call.only_reads_sheet() {
+            lent.sheet.elements_mut().copy_from_slice(&left.sheet);
+        }
+        lent.cells.elements_mut().copy_from_slice(&left.cells);
+        lent.bytes.elements_mut().copy_from_slice(&left.bytes);
+        lent.numbers.elements_mut().copy_from_slice(&left.numbers);
+        left.number
+    }
+}
+
+#[cfg(test)]
+mod tests {
+    use super::{all, SlowLibrary};
+    use crate::cases::case;
+    use crate::compare::{trials, Rooms};
+    use crate::desk::Desk;
+
+    #[test]
+    fn a_desk_without_a_slip_is_not_caught() {
+        let (desk, library, rooms) = (Desk::default(), SlowLibrary::default(), Rooms::default());
+        for index in 0..200 {
+            let case = case(1, index);
+            let trials = trials(&case, &desk.reader.read(&case.book), 1, index);
+            assert_eq!(trials.iter().find_map(|trial| rooms.difference(&library, &case, trial)), None);
+        }
+    }
+
+    #[test]
+    fn names_are_different() {
+        let mut names: Vec<String> = all().into_iter().map(|slip| slip.name).collect();
+        let slips = names.len();
+        names.sort();
+        names.dedup();
+        assert_eq!(names.len(), slips);
+    }
+}
