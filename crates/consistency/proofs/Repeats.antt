@@ -84,7 +84,7 @@ module _ (t : Table) (r : ℕ) (row-in : r < length (t .rows)) where
         at (yes e) = let h = left q q-in n in (h .0, h .1, h .2 ∙ same ∙ ap (λ (x : ℕ). getD (t .rows) x []) (sym e))
         at (no m) = left k l m
 
-    less-alike : AlikeTables t less
+    pub less-alike : AlikeTables t less
     less-alike = record { same-fields = refl; there = still; back = was }
 
 -- ---- the book without it is alike
