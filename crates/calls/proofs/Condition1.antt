@@ -71,8 +71,10 @@ module _ {bytes s : List ℕ} {q : Request} where
       → (verdict bytes ≡ pass → NoFault (bookOf bytes) (sheetGiven s q) → Settled bytes s q (go (bookOf bytes)))
       → Settled bytes s q (onSheet (countsOf q) bytes (sheetGiven s q) (lentTo q) go)
   sheet-settled go at-fault h =
-      sheet-holds (Settled bytes s q) (countsOf q) bytes (sheetGiven s q) (lentTo q) go by-book
-      (λ e l. by-call e (at-fault (faultOf (bookOf bytes) (sheetGiven s q)) (first-fault (bookOf bytes) (sheetGiven s q) l))) (λ e l. h e (fault-free (bookOf bytes) (sheetGiven s q) l))
+      let b : Book = bookOf bytes in
+      let t : List ℕ = sheetGiven s q in
+      sheet-holds (Settled bytes s q) (countsOf q) bytes t (lentTo q) go by-book
+      (λ e l. by-call e (at-fault (faultOf b t) (first-fault b t l))) (λ e l. h e (fault-free b t l))
 
 -- what reading answers
 read-settled : (bytes s : List ℕ) → Settled bytes s to-read (resultOf bytes s to-read)

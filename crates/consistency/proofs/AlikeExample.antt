@@ -6,9 +6,10 @@ use native.Mathlib.Omega.{arith}
 use Rattle.format.specs.Format.{Table, Book}
 use Rattle.consistency.specs.Consistency.{nth}
 use Rattle.consistency.specs.Largest.{largest}
-use Rattle.consistency.specs.Alike.{RowsIn, AlikeTables, Alike}
+use Rattle.consistency.specs.Alike.{AlikeTables, Alike, Repeated}
 use Rattle.consistency.proofs.Tables.{same-alike}
 use Rattle.consistency.proofs.AlikeLaws.{alike-largest}
+use Rattle.consistency.proofs.Repeats.{less-alike}
 
 -- E1's first table, whose last row repeats its second, the same without the repeat, and E1's second table
 abbrev pub repeating : Table
@@ -27,22 +28,15 @@ example = record { version = 1; counts = 2 ∷ 3 ∷ 3 ∷ []; tables = repeatin
 abbrev pub turned : Book
 turned = record { version = 1; counts = 2 ∷ 3 ∷ 3 ∷ []; tables = second ∷ once ∷ [] }
 
--- each row of either first table stands in the other
-there : RowsIn repeating once
-there zero l = (0, omega arith, refl)
-there (suc zero) l = (1, omega arith, refl)
-there (suc (suc zero)) l = (2, omega arith, refl)
-there (suc (suc (suc zero))) l = (1, omega arith, refl)
-there (suc (suc (suc (suc r)))) l = absurd (omega arith)
-
-back : RowsIn once repeating
-back zero l = (0, omega arith, refl)
-back (suc zero) l = (1, omega arith, refl)
-back (suc (suc zero)) l = (2, omega arith, refl)
-back (suc (suc (suc r))) l = absurd (omega arith)
+-- the last row of E1's first table is its second
+pub example-repeated : Repeated example 0 3
+example-repeated =
+    record { table-in = omega arith; row-in = omega arith; other = 1; other-in = omega arith; elsewhere = λ e. omega arith; same = refl }
 
 pairs : (i : ℕ) → i < 2 → AlikeTables (nth example i) (nth turned (1 - i))
-pairs zero l = record { same-fields = refl; there = there; back = back }
+pairs zero l =
+    let h = example-repeated in
+    less-alike repeating 3 (h .row-in) (h .other) (h .other-in) (h .elsewhere) (h .same)
 pairs (suc zero) l = same-alike refl
 pairs (suc (suc i)) l = absurd (omega arith)
 

@@ -49,6 +49,6 @@ module _ (b : Book) (small : (f : ℕ) → codes b f ≤ codeLimit) where
       -- the number struck: all marks
       pub struck-few : struck b a ≤ (places + 1) * (places * codeLimit)
       struck-few =
-          let n : length (relaxable b a) ≤ places = omega (arith, length-those (length (b .counts)) (answered a), many-few (length (b .counts)) (answered a)) in
-          let cases : length (relaxable b a) + 1 ≤ places + 1 = omega arith in
+          let n : ℕ = length (b .counts) in
+          let cases : length (relaxable b a) + 1 ≤ places + 1 = omega (arith, length-those n (answered a), many-few n (answered a)) in
           omega (arith, struck-and-staying b a, mul-le-mul cases code-total-few)

@@ -79,7 +79,9 @@ module _ (b : Book) where
     unfolding marks
     length-marks =
         length-append (caseMarks b a) _
-        ∙ ap₂ _+_ (length-case a) (length-join (relaxable b a) _ ∙ sum-over-ext (relaxable b a) _ (λ f. codeTotal b) (λ f m. length-case (relax a f)) ∙ sum-over-same (relaxable b a) (codeTotal b))
+        ∙ ap₂ _+_ (length-case a)
+        (length-join (relaxable b a) _ ∙ sum-over-ext (relaxable b a) _ (λ f. codeTotal b) (λ f m. length-case (relax a f))
+        ∙ sum-over-same (relaxable b a) (codeTotal b))
         ∙ omega (arith, add-mul (length (relaxable b a)) 1 (codeTotal b))
 
     -- "The pass strikes marks and counts each as it is struck"
@@ -87,7 +89,9 @@ module _ (b : Book) where
     unfolding marks struck
     struck-marks =
         many-append (λ m. not (stays b m)) (caseMarks b a) _
-        ∙ ap₂ _+_ (struck-case a) (many-join (λ m. not (stays b m)) (relaxable b a) _ ∙ sum-over-ext (relaxable b a) _ (λ f. outside b (largest b (relax a f))) (λ f m. struck-case (relax a f)))
+        ∙ ap₂ _+_ (struck-case a)
+        (many-join (λ m. not (stays b m)) (relaxable b a) _
+        ∙ sum-over-ext (relaxable b a) _ (λ f. outside b (largest b (relax a f))) (λ f m. struck-case (relax a f)))
 
     -- so those struck and those that stay are all
     pub struck-and-staying : struck b a + howManyIn (stays b) (marks b a) ≡ (length (relaxable b a) + 1) * codeTotal b

@@ -84,7 +84,7 @@ module _ (t : Table) (r : ℕ) (row-in : r < length (t .rows)) where
         at (yes e) = let h = left q q-in n in (h .0, h .1, h .2 ∙ same ∙ ap (λ (x : ℕ). getD (t .rows) x []) (sym e))
         at (no m) = left k l m
 
-    less-alike : AlikeTables t less
+    pub less-alike : AlikeTables t less
     less-alike = record { same-fields = refl; there = still; back = was }
 
 -- ---- the book without it is alike
@@ -144,22 +144,27 @@ repeat-well b i r h w =
     let t : Table = nth b i in
     let u : Table = less t r (h .row-in) in
     let ok : TableOk (b .counts) t = all-at (TableOk (b .counts)) (b .tables) noTable (w .each) i (h .table-in) in
+    let rows : rowTotal (set (b .tables) i u) ≤ rowTotal (b .tables) =
+    sum-set rowTotal (λ x. length (x .rows)) (λ x xs. refl) (b .tables) i noTable u (omega (arith, fewer t r (h .row-in))) in
+    let bytes : length (tablesBytes (set (b .tables) i u)) ≤ length (tablesBytes (b .tables)) =
+    sum-set (λ ts. length (tablesBytes ts)) (λ x. length (tableBytes x)) (λ x xs. length-append (tableBytes x) (tablesBytes xs)) (b .tables) i noTable u
+    (omega (arith, table-length t, table-length u, flat-dropped r (t .rows))) in
+    let left-ok : TableOk (b .counts) u =
+    record {
+      some = ok .some;
+      few = ok .few;
+      rising = ok .rising;
+      known = ok .known;
+      codes = all-dropped (RowOk (b .counts) (t .fields)) r (t .rows) (ok .codes);
+    } in
     record {
       some = w .some;
       few = w .few;
       sized = w .sized;
       tables-few = rw (length-set (b .tables) i u) (w .tables-few);
-      rows-few = omega (arith, w .rows-few, sum-set rowTotal (λ x. length (x .rows)) (λ x xs. refl) (b .tables) i noTable u (omega (arith, fewer t r (h .row-in))));
-      short = omega (
-        arith,
-        w .short,
-        encode-length b,
-        encode-length (withoutRow b i r),
-        sum-set (λ ts. length (tablesBytes ts)) (λ x. length (tableBytes x)) (λ x xs. length-append (tableBytes x) (tablesBytes xs)) (b .tables) i noTable u
-            (omega (arith, table-length t, table-length u, flat-dropped r (t .rows))),
-      );
-      each = all-set (TableOk (b .counts)) (b .tables) i u (w .each)
-          (record { some = ok .some; few = ok .few; rising = ok .rising; known = ok .known; codes = all-dropped (RowOk (b .counts) (t .fields)) r (t .rows) (ok .codes) });
+      rows-few = omega (arith, w .rows-few);
+      short = omega (arith, w .short, encode-length b, encode-length (withoutRow b i r));
+      each = all-set (TableOk (b .counts)) (b .tables) i u (w .each) left-ok;
     }
 
 -- ---- so
