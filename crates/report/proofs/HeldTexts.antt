@@ -11,6 +11,7 @@ use Rattle.format.proofs.Accepted.{verdict-accepted}
 use Rattle.consistency.specs.Counts.{total, struck, lines, lineBytes, masks}
 use Rattle.consistency.proofs.Lines.{length-lines, length-line-bytes}
 use Rattle.consistency.proofs.Masks.{length-masks}
+use Rattle.consistency.proofs.Limits.{total-few}
 use Rattle.calls.specs.Calls.{Result, done, filtered, alternatives}
 use Rattle.calls.proofs.CallLaws.{sheet-go}
 use Rattle.calls.proofs.Listing.{listing, list-accepts}
@@ -24,7 +25,6 @@ use Rattle.sheet.proofs.Injective.{number-some}
 use Rattle.report.specs.Text.{openLines, sheetText}
 use Rattle.report.specs.Writes.{Room, Puts, pairLines, openIn, ListsFit, sheetPart}
 use Rattle.report.specs.Held.{Stands}
-use Rattle.report.proofs.Counts.{total-few}
 use Rattle.report.proofs.Contents.{pairs-are, masks-are}
 
 -- the buffers lent, each of zeros
@@ -54,7 +54,7 @@ module _ (bytes s : List ℕ) (fields : ℕ) (st : Stands bytes s fields) where
   listed : alternatives bytes s noPairs ≡ listing book s noPairs
   listed =
       list-accepts bytes s noPairs (st .passes) (st .no-fault)
-      (omega (arith, total-few book within s, pairs-lent))
+      (omega (arith, total-few book (within .small) (within .few) s, pairs-lent))
 
   -- the masks are written: room for 32 numbers is enough
   masked : filtered bytes s 255 noMasks ≡ done [] s (masks book s ++ drop (length (book .counts)) noMasks)
@@ -109,12 +109,12 @@ module _ (bytes s : List ℕ) (fields : ℕ) (st : Stands bytes s fields) where
       pub lists-fit : length s ≡ 32 → ListsFit s fields pairs t ms
       lists-fit long =
           let pairs-long : length pairs ≡ 2048 =
-          ap length pairs-is ∙ simp (length-append, length-drop, pairs-lent, length-line-bytes, length-lines) (omega (arith, total-few book within s)) in
+          ap length pairs-is ∙ simp (length-append, length-drop, pairs-lent, length-line-bytes, length-lines) (omega (arith, total-few book (within .small) (within .few) s)) in
           let masks-long : length ms ≡ 32 =
           ap length masks-is ∙ simp (length-append, length-drop, masks-lent, length-masks) (omega (arith, within .few)) in
           record {
             in-places = omega (arith, st .fields-are, within .few);
-            in-pairs = omega (arith, total-few book within s, total-is);
+            in-pairs = omega (arith, total-few book (within .small) (within .few) s, total-is);
             in-masks = omega (arith, st .fields-are, within .few);
           }
 

@@ -21,6 +21,7 @@ use Rattle.consistency.specs.Counts.{answered, Line, lines, total, struck}
 use Rattle.consistency.specs.Order.{In}
 use Rattle.consistency.proofs.CodeCounts.{field-in}
 use Rattle.consistency.proofs.Lines.{lines-are}
+use Rattle.consistency.proofs.Limits.{many-few, total-few, struck-few}
 use Rattle.consistency.proofs.Largest.{largest-is}
 use Rattle.calls.specs.Calls.{loaded}
 use Rattle.calls.proofs.Sheets.{Within, accepted-within}
@@ -28,7 +29,7 @@ use Rattle.calls.proofs.Stored.{load-accepted}
 use Rattle.report.specs.Text.{decimal, spaced, bookWord, sheetWord, altWord, openWord, refusedWord, openLines, linesText, acceptedText, refusedText, reportText}
 use Rattle.report.specs.Report.{textLimit, TextFits}
 use Rattle.report.proofs.Digits.{digits-short, digits-few}
-use Rattle.report.proofs.Counts.{different-total-few, lines-few, total-few, answered-few, struck-few}
+use Rattle.report.proofs.Counts.{different-total-few, lines-few}
 use Rattle.report.proofs.OpenLines.{open-are}
 
 -- ---- a line
@@ -119,10 +120,10 @@ module _ (b : Book) (w : Within b) (s : List ℕ) where
     sheet-line-short : length (sheetWord ++ spaced (howMany (length (b .counts)) (answered s) ∷ total b s ∷ struck b s ∷ [])) ≤ 20
     sheet-line-short =
         line-short sheetWord (howMany (length (b .counts)) (answered s) ∷ total b s ∷ struck b s ∷ []) (2 ∷ 4 ∷ 5 ∷ []) (
-          short 1 (howMany (length (b .counts)) (answered s)) (omega (arith, answered-few b w s)),
+          short 1 (howMany (length (b .counts)) (answered s)) (omega (arith, many-few (length (b .counts)) (answered s), w .few)),
           (
-            short 3 (total b s) (omega (arith, total-few b w s)),
-            (short 4 (struck b s) (omega (arith, struck-few b w s)), tt),
+            short 3 (total b s) (omega (arith, total-few b (w .small) (w .few) s)),
+            (short 4 (struck b s) (omega (arith, struck-few b (w .small) (w .few) s)), tt),
           ),
         )
 

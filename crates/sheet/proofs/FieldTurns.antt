@@ -1,6 +1,6 @@
 -- One turn over the fields: what the marks of a pass show of a field, and what is counted and written for it. Assumes nothing.
 use mathlib.Core.Path.{_≡_, sym, ap, _∙_, subst}
-use mathlib.Core.Bool.{Bool, true, false, not}
+use mathlib.Core.Bool.{true, false, not}
 use mathlib.Core.List.{List, _++_, map}
 use Prim.Native.Nat.{ℕ, _+_, _*_, _≤_, _<_}
 use native.Mathlib.Nat.{zero-add}
@@ -14,22 +14,20 @@ use Rattle.format.proofs.Verdict.{verdict-promise}
 use Rattle.consistency.specs.Counting.{howMany}
 use Rattle.consistency.specs.Consistency.{places, codes, answer}
 use Rattle.consistency.specs.Counts.{answered, listed, total, Line, lines, lineBytes}
-use Rattle.consistency.proofs.Sums.{many-ext, many-not, those-ext}
+use Rattle.consistency.proofs.Sums.{many-ext, those-ext}
+use Rattle.consistency.proofs.Limits.{many-few, picked-few}
 use Rattle.filter.proofs.Limits.{codes-few}
 use Rattle.sheet.specs.Lists.{stands, linesBelow, ownCase, InMarks, Room, Passed}
 use Rattle.sheet.proofs.Openings.{fields-end, fields-few, fields-count, codes-at}
 use Rattle.sheet.proofs.Places.{answer-at}
 use Rattle.sheet.proofs.Upward.{many-more, many-same, sets-append}
-use Rattle.sheet.proofs.Fields.{alternativesOf, fieldLines, totalBelow, bytesBelow, total-is, lines-are-below, length-bytes, total-more, bytes-more, total-same, bytes-same, total-rises, total-few}
-
--- a test holds at most n times below n
-many-few : (n : ℕ) (p : ℕ → Bool) → howMany n p ≤ n
-many-few n p = omega (arith, many-not n p)
+use Rattle.sheet.proofs.Fields.{alternativesOf, fieldLines, totalBelow, bytesBelow, total-is, lines-are-below, length-bytes, total-more, bytes-more, total-same, bytes-same, total-rises}
 
 module _ {s a M : List ℕ} {list fields : ℕ} (x : Passed s a M list fields) where
   -- an accepted book has few alternatives
   pub few-below : (n : ℕ) → totalBelow (bookOf s) a n ≤ n * codeLimit
-  few-below n = total-few (bookOf s) a codeLimit (codes-few s (verdict-promise s (x .at .passes))) n
+  few-below n =
+      omega (arith, picked-few (bookOf s) (codes-few s (verdict-promise s (x .at .passes))) n (answered a) (listed (bookOf s) a), many-few n (answered a))
 
   -- all fields passed: the total
   pub counted-all : {f sum : ℕ} → fields ≤ f → f ≤ fields → sum ≡ totalBelow (bookOf s) a f → sum ≡ total (bookOf s) a

@@ -1,9 +1,8 @@
 -- The total and the lines of the answered fields below a bound, one field more at a time. Assumes nothing.
 use mathlib.Core.Path.{_≡_, sym, ap, _∙_}
-use mathlib.Core.Bool.{Bool, true, false}
+use mathlib.Core.Bool.{true, false}
 use mathlib.Core.List.{List, [], _∷_, _++_, append-nil}
-use Prim.Native.Nat.{ℕ, zero, suc, _+_, _*_, _≤_}
-use native.Mathlib.Nat.{suc-mul}
+use Prim.Native.Nat.{ℕ, suc, _+_, _*_, _≤_}
 use native.Mathlib.Omega.{arith}
 use lib.ListN.{length, length-map}
 use Rattle.format.specs.Basics.{pick}
@@ -11,7 +10,7 @@ use Rattle.format.specs.Format.{Book}
 use Rattle.consistency.specs.Counting.{howMany, those, sumOver, joinOver}
 use Rattle.consistency.specs.Consistency.{codes}
 use Rattle.consistency.specs.Counts.{answered, listed, total, Line, linesOf, lines, lineBytes}
-use Rattle.consistency.proofs.Sums.{many-not, length-those, length-join, sum-over-ext}
+use Rattle.consistency.proofs.Sums.{length-those, length-join, sum-over-ext}
 use Rattle.consistency.proofs.Lines.{length-line-bytes}
 use Rattle.sheet.proofs.Upward.{those-more, those-same, rises, sum-append, join-append, line-bytes-append}
 
@@ -79,13 +78,3 @@ module _ (b : Book) (a : List ℕ) where
   -- more fields do not have fewer alternatives
   pub total-rises : (m n : ℕ) → m ≤ n → totalBelow m ≤ totalBelow n
   total-rises m n l = rises totalBelow (λ k. omega (arith, total-step k)) m n l
-
-  at-most-one : (x : Bool) (n : ℕ) → sumOver (pick x (n ∷ []) []) alternativesOf ≤ alternativesOf n
-  at-most-one true n = omega arith
-  at-most-one false n = omega arith
-
-  -- no field has more alternatives than codes
-  pub total-few : (most : ℕ) → ((f : ℕ) → codes b f ≤ most) → (n : ℕ) → totalBelow n ≤ n * most
-  total-few most h zero = omega arith
-  total-few most h (suc n) =
-      omega (arith, total-step n, at-most-one (answered a n) n, many-not (codes b n) (listed b a n), h n, total-few most h n, suc-mul n most)
