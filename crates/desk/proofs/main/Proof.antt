@@ -1,7 +1,6 @@
 -- `desk::main` is safe: the text that report wrote stands within the buffer. Assumes nothing.
 use Rattle.report.proofs.Printing.{written-counts}
 use borrow.Author.Needs.{needs}
-use native.Mathlib.Omega.{arith}
 use Rattle.desk.proofs.main.Statement.{statement}
 use Rattle.desk.proofs.main.Tie as tie
 

@@ -2,7 +2,6 @@
 use Rattle.calls.proofs.Kept.{alternatives-keeps}
 use Rattle.sighting.proofs.Along.{exports-kept}
 use borrow.Author.Needs.{needs}
-use native.Mathlib.Omega.{arith}
 use Rattle.sighting.proofs.sighting_alternatives.Statement.{statement}
 use Rattle.sighting.proofs.sighting_alternatives.Tie as tie
 

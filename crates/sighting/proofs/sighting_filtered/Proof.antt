@@ -2,7 +2,6 @@
 use Rattle.calls.proofs.Kept.{filtered-keeps}
 use Rattle.sighting.proofs.Along.{exports-kept}
 use borrow.Author.Needs.{needs}
-use native.Mathlib.Omega.{arith}
 use Rattle.sighting.proofs.sighting_filtered.Statement.{statement}
 use Rattle.sighting.proofs.sighting_filtered.Tie as tie
 

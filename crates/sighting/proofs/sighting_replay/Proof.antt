@@ -2,7 +2,6 @@
 use Rattle.calls.specs.Histories.{callsIn}
 use Rattle.sighting.proofs.Along.{exports-along, replay-told}
 use borrow.Author.Needs.{needs}
-use native.Mathlib.Omega.{arith}
 use Rattle.sighting.proofs.sighting_replay.Statement.{statement}
 use Rattle.sighting.proofs.sighting_replay.Tie as tie
 

@@ -3,7 +3,6 @@ use mathlib.Core.Path.{refl, sym, ap₂, _∙_}
 use Rattle.report.specs.Report.{shown}
 use Rattle.sighting.proofs.Along.{prints-along}
 use borrow.Author.Needs.{needs}
-use native.Mathlib.Omega.{arith}
 use Rattle.sighting.proofs.sighting_report.Statement.{statement}
 use Rattle.sighting.proofs.sighting_report.Tie as tie
 

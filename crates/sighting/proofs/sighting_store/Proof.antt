@@ -2,7 +2,6 @@
 use Rattle.calls.proofs.Kept.{stored-keeps}
 use Rattle.sighting.proofs.Along.{exports-kept}
 use borrow.Author.Needs.{needs}
-use native.Mathlib.Omega.{arith}
 use Rattle.sighting.proofs.sighting_store.Statement.{statement}
 use Rattle.sighting.proofs.sighting_store.Tie as tie
 

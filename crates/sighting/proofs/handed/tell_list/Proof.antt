@@ -3,7 +3,6 @@ use mathlib.Core.Path.{refl, sym, ap}
 use Rattle.sheet.specs.Shown.{shownListing}
 use Rattle.sighting.proofs.Along.{tells-along}
 use borrow.Author.Needs.{needs}
-use native.Mathlib.Omega.{arith}
 use Rattle.sighting.proofs.handed.tell_list.Statement.{statement}
 use Rattle.sighting.proofs.handed.tell_list.Tie as tie
 
