@@ -19,3 +19,10 @@ pub mod Bytes
 pub mod Accepts
 pub mod Sizes
 pub mod Witness
+pub mod Storing
+pub mod ByteTests
+pub mod Parsing
+pub mod Rebuilding
+pub mod ListingWords
+pub mod WriteAndShow
+pub mod E1Listing

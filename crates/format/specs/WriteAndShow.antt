@@ -5,7 +5,7 @@ use mathlib.Core.Logic.{_≢_, _↔_}
 use mathlib.Core.List.{List}
 use lib.ListN.{length}
 use Rattle.format.specs.Basics.{All}
-use Rattle.format.specs.Format.{Book, WellFormed, encode, bookOf}
+use Rattle.format.specs.Format.{Book, WellFormed, encode}
 use Rattle.format.specs.Layout.{Bytes}
 use Rattle.format.specs.Listing.{listingOf, bookIn}
 use Rattle.format.specs.Writing.{into, written, showing, writing, bookLimit, listingLimit}

@@ -1,0 +1,159 @@
+-- Request M-100: writing accepts exactly the listings of well-formed books, and showing undoes it. Assumes nothing.
+use mathlib.Core.Path.{_≡_, refl, sym, ap, subst, _∙_}
+use mathlib.Core.Logic.{_⊎_, inl, inr, _≢_, _↔_}
+use mathlib.Core.Bool.{Bool, true, false, _&&_}
+use mathlib.Core.List.{List}
+use Prim.Native.Nat.{ℕ}
+use native.Mathlib.Omega.{arith}
+use lib.Dec.{eqb, ltb}
+use lib.ListN.{length, drop}
+use lib.Seq.{take-append-seam}
+use borrow.Author.Tests.{eqb-true, eq-eqb}
+use Rattle.format.specs.Basics.{pick}
+use Rattle.format.specs.Format.{Book, WellFormed, encode, bookOf}
+use Rattle.format.specs.Reading.{reading, Verdict, pass, fail, verdict, Accepted}
+use Rattle.format.specs.Layout.{Bytes}
+use Rattle.format.proofs.Picks.{pick-cases, both-true, both-pass}
+use Rattle.format.proofs.Numbers.{fail-number}
+use Rattle.format.proofs.Accepted.{accepted-promise, promise-accepted, verdict-accepted}
+use Rattle.format.proofs.Verdict.{promise-verdict}
+use Rattle.format.proofs.Decode.{promise-layout}
+use Rattle.format.proofs.Encode.{even-book, book-of, layout-promise}
+use Rattle.format.proofs.Bytes.{encode-bytes}
+use Rattle.format.specs.Listing.{listingOf, bookIn, listingEnd}
+use Rattle.format.specs.Writing.{Reply, into, declined, written, showing, writing, writable, laidOut, allBytes}
+use Rattle.format.specs.WriteAndShow.{HasListing, WriteAndShow}
+use Rattle.format.proofs.ListingWords.{listing-words}
+use Rattle.format.proofs.Parsing.{book-in, listing-ends}
+use Rattle.format.proofs.Rebuilding.{book-even, listing-again}
+use Rattle.format.proofs.ByteTests.{bytes-true, true-bytes}
+use Rattle.format.proofs.Sizes.{book-few, listing-few}
+
+-- a listing that can be written is that of a well-formed book
+module _ (l : List ℕ) (e : writable l ≡ true) where
+  -- the three tests
+  tests : (eqb (listingEnd l) (length l) ≡ true) × ((allBytes (laidOut l) ≡ true) × (eqb (reading (laidOut l) .number) 0 ≡ true))
+  unfolding writable
+  tests =
+      let a = both-true (eqb (listingEnd l) (length l)) (allBytes (laidOut l) && eqb (reading (laidOut l) .number) 0) e in
+      (a .0, both-true (allBytes (laidOut l)) (eqb (reading (laidOut l) .number) 0) (a .1))
+
+  whole : listingEnd l ≡ length l
+  whole = eqb-true (listingEnd l) (length l) (tests .0)
+
+  laid-accepted : Accepted (laidOut l)
+  laid-accepted = eqb-true (reading (laidOut l) .number) 0 (tests .1 .1)
+
+  pub book-well : WellFormed (bookIn l)
+  book-well =
+      subst WellFormed (even-book (bookIn l) (book-even l whole))
+      (promise-layout (laidOut l) (bytes-true (laidOut l) (tests .1 .0)) (accepted-promise (laidOut l) laid-accepted) .0)
+
+  pub listed : listingOf (bookIn l) ≡ l
+  listed = listing-again l whole
+
+  has-listing : HasListing l
+  has-listing = record { book = bookIn l; well = book-well; numbers = sym listed }
+
+-- the listing of a well-formed book can be written
+module _ (b : Book) (well : WellFormed b) where
+  laid : laidOut (listingOf b) ≡ encode b
+  laid = ap encode (book-in b well)
+
+  pub writable-listing : writable (listingOf b) ≡ true
+  unfolding writable
+  writable-listing =
+      let bytes : allBytes (laidOut (listingOf b)) ≡ true = ap allBytes laid ∙ true-bytes (encode b) (encode-bytes b well) in
+      let number : reading (laidOut (listingOf b)) .number ≡ 0 =
+      ap (λ (s : List ℕ). reading s .number) laid ∙ promise-accepted (encode b) (layout-promise b well) in
+      let end = eq-eqb (listingEnd (listingOf b)) (length (listingOf b)) (listing-ends b well) in
+      both-pass (eqb (listingEnd (listingOf b)) (length (listingOf b)))
+      (allBytes (laidOut (listingOf b)) && eqb (reading (laidOut (listingOf b)) .number) 0) end
+      (both-pass (allBytes (laidOut (listingOf b))) (eqb (reading (laidOut (listingOf b)) .number) 0) bytes
+      (eq-eqb (reading (laidOut (listingOf b)) .number) 0 number))
+
+  writes : (o : List ℕ) → writing (listingOf b) o ≡ into (encode b) o
+  unfolding writing
+  writes o = rw (writable-listing, laid)
+
+  shows : (o : List ℕ) → showing (encode b) o ≡ into (listingOf b) o
+  unfolding showing
+  shows o = rw (promise-verdict (encode b) (layout-promise b well), book-of b well)
+
+-- ---- what a reply says of the call
+
+-- xs written, or 18
+module _ (xs o : List ℕ) where
+  into-number : (into xs o .outcome .number ≡ 0) ⊎ (into xs o .outcome .number ≡ 18)
+  unfolding into
+  into-number = pick-cases (λ (r : Reply). (r .outcome .number ≡ 0) ⊎ (r .outcome .number ≡ 18)) (ltb (length o) (length xs)) (λ e. inr refl) (λ e. inl refl)
+
+  -- xs, where it is not
+  into-written : into xs o .outcome .number ≡ 0 → written (into xs o) ≡ xs
+  unfolding into
+  into-written =
+      pick-cases (λ (r : Reply). r .outcome .number ≡ 0 → written r ≡ xs) (ltb (length o) (length xs)) (λ e z. absurd (omega arith))
+      (λ e z. take-append-seam xs (drop (length xs) o))
+
+-- a listing that is not refused by 20 can be written
+not-20 : (l o : List ℕ) → writing l o .outcome .number ≢ 20 → writable l ≡ true
+unfolding writing
+not-20 l o n = go (writable l) refl n
+  where
+    go : (t : Bool) → writable l ≡ t → pick t (into (laidOut l) o) (declined o 20 0) .outcome .number ≢ 20 → writable l ≡ true
+    go true e n = e
+    go false e n = absurd (n refl)
+
+-- so it is not
+is-not-20 : (l o : List ℕ) → writable l ≡ true → writing l o .outcome .number ≢ 20
+unfolding writing
+is-not-20 l o e n = numbers (into-number (laidOut l) o)
+  where
+    same : into (laidOut l) o .outcome .number ≡ 20
+    same = rw e at n
+
+    numbers : (into (laidOut l) o .outcome .number ≡ 0) ⊎ (into (laidOut l) o .outcome .number ≡ 18) → ⊥
+    numbers (inl z) = omega (arith, same)
+    numbers (inr z) = omega (arith, same)
+
+exactly : (l o : List ℕ) → (writing l o .outcome .number ≢ 20) ↔ HasListing l
+exactly l o =
+    (λ n. has-listing l (not-20 l o n), λ h. is-not-20 l o (rw (h .numbers) (writable-listing (h .book) (h .well))))
+
+-- ---- both ways, through the memory lent
+
+write-show : (l o o′ : List ℕ) → writing l o .outcome .number ≡ 0 → showing (written (writing l o)) o′ ≡ into l o′
+unfolding writing
+write-show l o o′ e =
+    let f = not-20 l o (λ n. omega arith) in
+    let a : writing l o ≡ into (laidOut l) o = rw f in
+    let w : written (writing l o) ≡ laidOut l = ap written a ∙ into-written (laidOut l) o (rw a at e) in
+    ap (λ (s : List ℕ). showing s o′) w ∙ shows (bookIn l) (book-well l f) o′ ∙ ap (λ (x : List ℕ). into x o′) (listed l f)
+
+show-write : (s o o′ : List ℕ) → Bytes s → showing s o .outcome .number ≡ 0 → writing (written (showing s o)) o′ ≡ into s o′
+unfolding showing
+show-write s o o′ bytes e = go (verdict s) refl
+  where
+    go : (v : Verdict) → verdict s ≡ v → writing (written (showing s o)) o′ ≡ into s o′
+    go pass f =
+        let l = promise-layout s bytes (accepted-promise s (verdict-accepted s f)) in
+        let a : showing s o ≡ into (listingOf (bookOf s)) o = rw f in
+        let w : written (showing s o) ≡ listingOf (bookOf s) = ap written a ∙ into-written (listingOf (bookOf s)) o (rw a at e) in
+        ap (λ (x : List ℕ). writing x o′) w ∙ writes (bookOf s) (l .0) o′ ∙ ap (λ (x : List ℕ). into x o′) (l .1)
+    go (fail number place) f = let z : number ≡ 0 = rw f at e in absurd (omega (arith, fail-number s number place f))
+
+pub write-and-show : WriteAndShow
+write-and-show =
+    record {
+      exactly = exactly;
+      each = λ b well. record {
+        words = listing-words b well;
+        says = book-in b well;
+        writes = writes b well;
+        shows = shows b well;
+        bytes-few = book-few b well;
+        numbers-few = listing-few b well;
+      };
+      write-show = write-show;
+      show-write = show-write;
+    }
