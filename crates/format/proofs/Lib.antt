@@ -20,6 +20,7 @@ pub mod Accepts
 pub mod Sizes
 pub mod Witness
 pub mod Storing
+pub mod Replies
 pub mod ByteTests
 pub mod Parsing
 pub mod Rebuilding

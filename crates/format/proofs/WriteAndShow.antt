@@ -5,15 +5,14 @@ use mathlib.Core.Bool.{Bool, true, false, _&&_}
 use mathlib.Core.List.{List}
 use Prim.Native.Nat.{ℕ}
 use native.Mathlib.Omega.{arith}
-use lib.Dec.{eqb, ltb}
-use lib.ListN.{length, drop}
-use lib.Seq.{take-append-seam}
+use lib.Dec.{eqb}
+use lib.ListN.{length}
 use borrow.Author.Tests.{eqb-true, eq-eqb}
 use Rattle.format.specs.Basics.{pick}
 use Rattle.format.specs.Format.{Book, WellFormed, encode, bookOf}
 use Rattle.format.specs.Reading.{reading, Verdict, pass, fail, verdict, Accepted}
 use Rattle.format.specs.Layout.{Bytes}
-use Rattle.format.proofs.Picks.{pick-cases, both-true, both-pass}
+use Rattle.format.proofs.Picks.{both-true, both-pass}
 use Rattle.format.proofs.Numbers.{fail-number}
 use Rattle.format.proofs.Accepted.{accepted-promise, promise-accepted, verdict-accepted}
 use Rattle.format.proofs.Verdict.{promise-verdict}
@@ -21,13 +20,14 @@ use Rattle.format.proofs.Decode.{promise-layout}
 use Rattle.format.proofs.Encode.{even-book, book-of, layout-promise}
 use Rattle.format.proofs.Bytes.{encode-bytes}
 use Rattle.format.specs.Listing.{listingOf, bookIn, listingEnd}
-use Rattle.format.specs.Writing.{Reply, into, declined, written, showing, writing, writable, laidOut, allBytes}
+use Rattle.format.specs.Writing.{into, declined, written, showing, writing, writable, laidOut, allBytes}
 use Rattle.format.specs.WriteAndShow.{HasListing, WriteAndShow}
 use Rattle.format.proofs.ListingWords.{listing-words}
 use Rattle.format.proofs.Parsing.{book-in, listing-ends}
 use Rattle.format.proofs.Rebuilding.{book-even, listing-again}
 use Rattle.format.proofs.ByteTests.{bytes-true, true-bytes}
 use Rattle.format.proofs.Sizes.{book-few, listing-few}
+use Rattle.format.proofs.Replies.{into-number, into-written}
 
 -- a listing that can be written is that of a well-formed book
 module _ (l : List ℕ) (e : writable l ≡ true) where
@@ -80,20 +80,7 @@ module _ (b : Book) (well : WellFormed b) where
   unfolding showing
   shows o = rw (promise-verdict (encode b) (layout-promise b well), book-of b well)
 
--- ---- what a reply says of the call
-
--- xs written, or 18
-module _ (xs o : List ℕ) where
-  into-number : (into xs o .outcome .number ≡ 0) ⊎ (into xs o .outcome .number ≡ 18)
-  unfolding into
-  into-number = pick-cases (λ (r : Reply). (r .outcome .number ≡ 0) ⊎ (r .outcome .number ≡ 18)) (ltb (length o) (length xs)) (λ e. inr refl) (λ e. inl refl)
-
-  -- xs, where it is not
-  into-written : into xs o .outcome .number ≡ 0 → written (into xs o) ≡ xs
-  unfolding into
-  into-written =
-      pick-cases (λ (r : Reply). r .outcome .number ≡ 0 → written r ≡ xs) (ltb (length o) (length xs)) (λ e z. absurd (omega arith))
-      (λ e z. take-append-seam xs (drop (length xs) o))
+-- ---- 20
 
 -- a listing that is not refused by 20 can be written
 not-20 : (l o : List ℕ) → writing l o .outcome .number ≢ 20 → writable l ≡ true

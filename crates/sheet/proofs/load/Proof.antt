@@ -1,7 +1,8 @@
 -- `sheet::load` meets its contract: each way through its tests. Assumes nothing.
 use mathlib.Core.Path.{_∙_}
 use mathlib.Core.List.{[]}
-use Rattle.sheet.proofs.Openings.{checks-bad, checks-good, fields-few}
+use Rattle.book.proofs.Checks.{checks-bad}
+use Rattle.sheet.proofs.Openings.{checks-good, fields-few}
 use Rattle.sheet.proofs.LoadCases.{turned-fresh, loaded-book, loaded-19, loaded-14, loaded-done}
 use borrow.Author.Needs.{needs}
 use native.Mathlib.Omega.{arith}
