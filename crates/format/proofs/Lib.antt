@@ -26,5 +26,6 @@ pub mod ByteTests
 pub mod Parsing
 pub mod Rebuilding
 pub mod ListingWords
+pub mod Writable
 pub mod WriteAndShow
 pub mod E1Listing

@@ -1,56 +1,40 @@
 -- Request M-100: writing accepts exactly the listings of well-formed books, and showing undoes it. Assumes nothing.
 use mathlib.Core.Path.{_≡_, refl, sym, ap, subst, _∙_}
 use mathlib.Core.Logic.{_⊎_, inl, inr, _≢_, _↔_}
-use mathlib.Core.Bool.{Bool, true, false, _&&_}
+use mathlib.Core.Bool.{Bool, true, false}
 use mathlib.Core.List.{List}
 use Prim.Native.Nat.{ℕ}
 use native.Mathlib.Omega.{arith}
-use lib.Dec.{eqb}
-use lib.ListN.{length}
-use borrow.Author.Tests.{eqb-true, eq-eqb}
 use Rattle.format.specs.Basics.{pick}
 use Rattle.format.specs.Format.{Book, WellFormed, encode, bookOf}
-use Rattle.format.specs.Reading.{reading, Verdict, pass, fail, verdict, Accepted}
+use Rattle.format.specs.Reading.{Verdict, pass, fail, verdict}
 use Rattle.format.specs.Layout.{Bytes}
-use Rattle.format.proofs.Picks.{both-true, both-pass}
 use Rattle.format.proofs.Numbers.{fail-number}
 use Rattle.format.proofs.Accepted.{accepted-promise, promise-accepted, verdict-accepted}
 use Rattle.format.proofs.Verdict.{promise-verdict}
 use Rattle.format.proofs.Decode.{promise-layout}
 use Rattle.format.proofs.Encode.{even-book, book-of, layout-promise}
 use Rattle.format.proofs.Bytes.{encode-bytes}
-use Rattle.format.specs.Listing.{listingOf, bookIn, listingEnd}
-use Rattle.format.specs.Writing.{into, declined, written, showing, writing, writable, laidOut, allBytes}
+use Rattle.format.specs.Listing.{listingOf, bookIn}
+use Rattle.format.specs.Writing.{into, declined, written, showing, writing, writable, laidOut}
 use Rattle.format.specs.WriteAndShow.{HasListing, WriteAndShow}
 use Rattle.format.proofs.ListingWords.{listing-words}
 use Rattle.format.proofs.Parsing.{book-in, listing-ends}
 use Rattle.format.proofs.Rebuilding.{book-even, listing-again}
-use Rattle.format.proofs.ByteTests.{bytes-true, true-bytes}
+use Rattle.format.proofs.Writable.{writable-says, says-writable}
 use Rattle.format.proofs.Sizes.{book-few, listing-few}
 use Rattle.format.proofs.Replies.{into-number, into-written}
 
 -- a listing that can be written is that of a well-formed book
 module _ (l : List ℕ) (e : writable l ≡ true) where
-  -- the three tests
-  tests : (eqb (listingEnd l) (length l) ≡ true) × ((allBytes (laidOut l) ≡ true) × (eqb (reading (laidOut l) .number) 0 ≡ true))
-  unfolding writable
-  tests =
-      let a = both-true (eqb (listingEnd l) (length l)) (allBytes (laidOut l) && eqb (reading (laidOut l) .number) 0) e in
-      (a .0, both-true (allBytes (laidOut l)) (eqb (reading (laidOut l) .number) 0) (a .1))
-
-  whole : listingEnd l ≡ length l
-  whole = eqb-true (listingEnd l) (length l) (tests .0)
-
-  laid-accepted : Accepted (laidOut l)
-  laid-accepted = eqb-true (reading (laidOut l) .number) 0 (tests .1 .1)
-
   pub book-well : WellFormed (bookIn l)
   book-well =
-      subst WellFormed (even-book (bookIn l) (book-even l whole))
-      (promise-layout (laidOut l) (bytes-true (laidOut l) (tests .1 .0)) (accepted-promise (laidOut l) laid-accepted) .0)
+      let w = writable-says l e in
+      subst WellFormed (even-book (bookIn l) (book-even l (w .whole)))
+      (promise-layout (laidOut l) (w .bytes) (accepted-promise (laidOut l) (w .reads)) .0)
 
-  pub listed : listingOf (bookIn l) ≡ l
-  listed = listing-again l whole
+  listed : listingOf (bookIn l) ≡ l
+  listed = listing-again l (writable-says l e .whole)
 
   has-listing : HasListing l
   has-listing = record { book = bookIn l; well = book-well; numbers = sym listed }
@@ -60,17 +44,14 @@ module _ (b : Book) (well : WellFormed b) where
   laid : laidOut (listingOf b) ≡ encode b
   laid = ap encode (book-in b well)
 
-  pub writable-listing : writable (listingOf b) ≡ true
-  unfolding writable
+  writable-listing : writable (listingOf b) ≡ true
   writable-listing =
-      let bytes : allBytes (laidOut (listingOf b)) ≡ true = ap allBytes laid ∙ true-bytes (encode b) (encode-bytes b well) in
-      let number : reading (laidOut (listingOf b)) .number ≡ 0 =
-      ap (λ (s : List ℕ). reading s .number) laid ∙ promise-accepted (encode b) (layout-promise b well) in
-      let end = eq-eqb (listingEnd (listingOf b)) (length (listingOf b)) (listing-ends b well) in
-      both-pass (eqb (listingEnd (listingOf b)) (length (listingOf b)))
-      (allBytes (laidOut (listingOf b)) && eqb (reading (laidOut (listingOf b)) .number) 0) end
-      (both-pass (allBytes (laidOut (listingOf b))) (eqb (reading (laidOut (listingOf b)) .number) 0) bytes
-      (eq-eqb (reading (laidOut (listingOf b)) .number) 0 number))
+      says-writable (listingOf b)
+      (record {
+        whole = listing-ends b well;
+        bytes = rw laid (encode-bytes b well);
+        reads = rw laid (promise-accepted (encode b) (layout-promise b well));
+      })
 
   writes : (o : List ℕ) → writing (listingOf b) o ≡ into (encode b) o
   unfolding writing

@@ -1,0 +1,8 @@
+pub mod Scanning
+pub mod Showing
+pub mod ShowCases
+pub mod Copying
+pub mod Laying
+pub mod Testing
+pub mod Fitted
+pub mod WriteCases
