@@ -21,6 +21,7 @@ pub mod Sizes
 pub mod Witness
 pub mod Storing
 pub mod Replies
+pub mod Copying
 pub mod ByteTests
 pub mod Parsing
 pub mod Rebuilding
