@@ -1,6 +1,5 @@
 -- `listing::write` meets its contract: 20 by its tests or by the reader's, 18, and the bytes. Assumes nothing.
-use mathlib.Core.Path.{_≡_, refl, sym, ap, _∙_}
-use Prim.Native.Nat.{ℕ, _+_, _≤_, _<_}
+use mathlib.Core.Path.{sym, _∙_}
 use borrow.Author.Tests.{not-true, not-false}
 use Rattle.format.proofs.Verdict.{promise-verdict}
 use Rattle.book.proofs.Checks.{checks-bad, checks-viewed}
