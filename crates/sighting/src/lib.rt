@@ -7,12 +7,12 @@ ghost use mathlib.Core.Logic.{_↔_};
 ghost use mathlib.Core.List.{[]};
 ghost use Rattle.format.specs.Layout.{HasLayout};
 ghost use Rattle.format.specs.Reading.{reading};
+ghost use Rattle.format.specs.Writing.{into};
 ghost use Rattle.calls.specs.Calls.{freshSheet, cleared, entered, withdrawn, filtered, alternatives, loaded, stored};
 ghost use Rattle.calls.specs.Histories.{sheetAfter, callsIn};
-ghost use Rattle.report.specs.Report.{printing};
 ghost use Rattle.report.specs.Text.{reportText};
 ghost use Rattle.sheet.specs.Replayed.{Replayed};
-ghost use Rattle.sighting.specs.Exported.{Tells, Exports, Prints, resultTold};
+ghost use Rattle.sighting.specs.Exported.{Tells, Exports, Replies, resultTold};
 use book::Reading;
 use handed::hand;
 use handed::hand_list;
@@ -189,7 +189,7 @@ pub extern "C" fn sighting_report(
     out: &mut [u8],
     outcome: &mut [u64; 2],
 ) -> u64
-    ensures { λ r. ⌜ Prints r (now (outcome .exit)) (now (out .exit)) (printing (reportText (now (book .entry)) (now (form .entry))) (now (out .entry))) ⌝ }
+    ensures { λ r. ⌜ Replies r (now (outcome .exit)) (now (out .exit)) (into (reportText (now (book .entry)) (now (form .entry))) (now (out .entry))) ⌝ }
 {
     let printed = report::report(book, form, out);
     match printed {
