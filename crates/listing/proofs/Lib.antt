@@ -1,7 +1,6 @@
 pub mod Scanning
 pub mod Showing
 pub mod ShowCases
-pub mod Copying
 pub mod Laying
 pub mod Testing
 pub mod Fitted

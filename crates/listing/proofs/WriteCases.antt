@@ -13,6 +13,7 @@ use Rattle.format.specs.WriteAndShow.{HasListing}
 use Rattle.format.proofs.Trailer.{fail≢pass}
 use Rattle.format.proofs.Accepted.{accepted-verdict, verdict-accepted}
 use Rattle.format.proofs.Storing.{sets-front}
+use Rattle.format.proofs.Copying.{copied-whole}
 use Rattle.format.proofs.Replies.{into-short, into-whole}
 use Rattle.format.proofs.Writable.{writable-says, says-writable}
 use Rattle.format.proofs.WriteAndShow.{book-well, write-and-show}
@@ -39,10 +40,12 @@ module _ (l out : List ℕ) where
     pub wrote-short : (n : ℕ) → n ≡ length (laidOut l) → length out < n → declined out 18 0 ≡ writing l out
     wrote-short n en h = sym (writes ∙ into-short (laidOut l) out (rw en at h))
 
-    -- the bytes s
-    pub wrote-whole : (n : ℕ) → n ≡ length (laidOut l) → n ≤ length out → (s out′ : List ℕ) → s ≡ laidOut l → out′ ≡ s ++ drop (length s) out
+    -- the bytes s, copied
+    pub wrote-whole : (n : ℕ) → n ≡ length (laidOut l) → n ≤ length out → (s out′ : List ℕ) → s ≡ laidOut l → out′ ≡ take (length out) s ++ drop (length s) out
         → record { outcome = accepted (n ∷ []); buffer = out′ } ≡ writing l out
-    wrote-whole n en h s out′ es d = sym (writes ∙ into-whole (laidOut l) out (rw en at h) ∙ rw (d, es, en))
+    wrote-whole n en h s out′ es d =
+        let k : length (laidOut l) ≤ length out = rw en at h in
+        sym (writes ∙ into-whole (laidOut l) out k ∙ rw (d, es, copied-whole (laidOut l) out k, en))
 
 -- what can be written fits
 writable-fits : (l : List ℕ) → writable l ≡ true → Fitted l

@@ -1,9 +1,8 @@
 // The bytes of a listing's book, laid out.
 ghost use mathlib.Core.Path.{_≡_};
-ghost use mathlib.Core.List.{_++_};
 ghost use mathlib.Core.Bool.{true};
 ghost use Prim.Native.Nat.{_+_, _≤_, _<_};
-ghost use lib.ListN.{length, drop};
+ghost use lib.ListN.{length};
 ghost use lib.Seq.{sets};
 ghost use Rattle.format.specs.Format.{part, tableBytes, tablesBytes, trailer};
 ghost use Rattle.format.specs.Layout.{Bytes};
@@ -16,19 +15,6 @@ use super::tests::wide;
 const CLOSING_BYTE: u8 = 0xE5;
 
 const VERSION: u8 = 1;
-
-// Copies all bytes. What stands behind them in out stays.
-pub(crate) fn copy(from: &[u8], out: &mut [u8])
-    requires { ⌜ length (now from) ≤ length (now out) ⌝ }
-    ensures { λ _. ⌜ now (out .exit) ≡ now (from .entry) ++ drop (length (now (from .entry))) (now (out .entry)) ⌝ }
-{
-    let n = from.len();
-    let mut i = 0;
-    while i < n {
-        out[i] = from[i];
-        i += 1;
-    }
-}
 
 // Writes the n numbers from `from` on, each a byte, from `to` on.
 fn narrow(listing: &[u16], from: usize, n: usize, out: &mut [u8], to: usize)

@@ -74,6 +74,6 @@ pub fn write(listing: &[u16], out: &mut [u8]) -> Written
     if out.len() < n {
         return Written::TooShort;
     }
-    layout::copy(&scratch[..n], out);
+    book::copy(&scratch[..n], out);
     Written::Bytes(n)
 }

@@ -1,5 +1,6 @@
 -- `listing::write` meets its contract: 20 by its tests or by the reader's, 18, and the bytes. Assumes nothing.
-use mathlib.Core.Path.{sym, _∙_}
+use mathlib.Core.Path.{_≡_, refl, sym, ap, _∙_}
+use Prim.Native.Nat.{ℕ, _+_, _≤_, _<_}
 use borrow.Author.Tests.{not-true, not-false}
 use Rattle.format.proofs.Verdict.{promise-verdict}
 use Rattle.book.proofs.Checks.{checks-bad, checks-viewed}
@@ -53,7 +54,7 @@ slice-aggregate-copy : tie.Need-slice-aggregate-copy
 slice-aggregate-copy c = (laid-front (c .before .before .before .before .before .before .before .before .before .before .before .before .before .args .listing .now) _ _ _ (sym (c .before .before .before .before .before .before .before .before .before .before .fits2 .ensures) ∙ not-false _ (c .before .before .before .before .before .before .before .before .before .if1 .left)) (omega arith) (c .before .before .before .before .before .before .before .lay-out .ensures .0) (c .before .before .before .before .before .before .before .lay-out .ensures .1)) .count
 
 copy-requires : tie.Need-copy-requires
-copy-requires c κs = omega (arith, (laid-front (c .before .before .before .before .before .before .before .before .before .before .before .before .before .before .args .listing .now) _ _ _ (sym (c .before .before .before .before .before .before .before .before .before .before .before .fits2 .ensures) ∙ not-false _ (c .before .before .before .before .before .before .before .before .before .before .if1 .left)) (omega arith) (c .before .before .before .before .before .before .before .before .lay-out .ensures .0) (c .before .before .before .before .before .before .before .before .lay-out .ensures .1)) .count, c .before .before .if2 .left)
+copy-requires c κs = search needs
 
 same-length : tie.Need-same-length
 same-length c = search needs
