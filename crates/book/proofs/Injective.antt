@@ -20,30 +20,34 @@ kindOf n =
     (Length ∷ Length ∷ Closing ∷ Version ∷ FieldCount ∷ TableCount ∷ ListPlace ∷ CodeCount ∷ Short ∷ Arity ∷ FieldNumber ∷ Code ∷ RowCount ∷ LeftOver ∷ []) n
     Length
 
--- a kind's number is not 0, and tells the kind
-numbered : (k : Refusal) → (1 ≤ numberOf k) × (kindOf (numberOf k) ≡ k)
+-- a kind's number is from 1 to 13, and tells the kind
+numbered : (k : Refusal) → (1 ≤ numberOf k) × ((numberOf k ≤ 13) × (kindOf (numberOf k) ≡ k))
 unfolding kindOf
-numbered Length = (omega arith, refl)
-numbered Closing = (omega arith, refl)
-numbered Version = (omega arith, refl)
-numbered FieldCount = (omega arith, refl)
-numbered TableCount = (omega arith, refl)
-numbered ListPlace = (omega arith, refl)
-numbered CodeCount = (omega arith, refl)
-numbered Short = (omega arith, refl)
-numbered Arity = (omega arith, refl)
-numbered FieldNumber = (omega arith, refl)
-numbered Code = (omega arith, refl)
-numbered RowCount = (omega arith, refl)
-numbered LeftOver = (omega arith, refl)
+numbered Length = (omega arith, (omega arith, refl))
+numbered Closing = (omega arith, (omega arith, refl))
+numbered Version = (omega arith, (omega arith, refl))
+numbered FieldCount = (omega arith, (omega arith, refl))
+numbered TableCount = (omega arith, (omega arith, refl))
+numbered ListPlace = (omega arith, (omega arith, refl))
+numbered CodeCount = (omega arith, (omega arith, refl))
+numbered Short = (omega arith, (omega arith, refl))
+numbered Arity = (omega arith, (omega arith, refl))
+numbered FieldNumber = (omega arith, (omega arith, refl))
+numbered Code = (omega arith, (omega arith, refl))
+numbered RowCount = (omega arith, (omega arith, refl))
+numbered LeftOver = (omega arith, (omega arith, refl))
 
 -- an accepted answer's number is no refusal's
 pub number-some : (k : Refusal) → 1 ≤ numberOf k
 number-some k = numbered k .0
 
+-- nor that of another call's refusal
+pub number-few : (k : Refusal) → numberOf k ≤ 13
+number-few k = numbered k .1 .0
+
 -- two kinds have two numbers
 pub number-injective : (j k : Refusal) → numberOf j ≡ numberOf k → j ≡ k
-number-injective j k e = sym (numbered j .1) ∙ ap kindOf e ∙ numbered k .1
+number-injective j k e = sym (numbered j .1 .1) ∙ ap kindOf e ∙ numbered k .1 .1
 
 -- equal answers have equal parts
 numbers : {x y : Outcome} → x ≡ y → x .number ≡ y .number

@@ -5,3 +5,4 @@ pub mod Laying
 pub mod Testing
 pub mod Fitted
 pub mod WriteCases
+pub mod Injective
