@@ -15,6 +15,9 @@ mod tests;
 // The crates above copy bytes into memory lent with it.
 pub use copies::copy;
 
+// The last byte of every book.
+pub const CLOSING_BYTE: u8 = 0xE5;
+
 // Why bytes are no book. numberOf (specs) gives each kind document 01's number.
 pub enum Refusal {
     Length,

@@ -6,14 +6,13 @@ ghost use Rattle.format.specs.Format as format;
 ghost use Rattle.format.specs.Reading.{trailerVerdict, listTest, rowsStep, tableStep, tablesStep};
 ghost use Rattle.book.specs.Shown.{verdictOf, stepOf};
 ghost use Rattle.book.specs.Bounds.{BodyFits, HeadFits};
+use super::CLOSING_BYTE;
 use super::Refusal;
 use super::bytes::byte;
 use super::bytes::pair;
 use super::scans;
 
 const LENGTH_LIMIT: usize = 32768;
-
-const CLOSING_BYTE: u8 = 0xE5;
 
 const TABLE_LIMIT: usize = 64;
 

@@ -11,8 +11,7 @@ ghost use Rattle.format.specs.Writing.{laidOut, bookLimit};
 ghost use Rattle.listing.specs.Fits.{fits};
 ghost use Rattle.listing.specs.Bounds.{TableLays, TablesLay, TrailerLays};
 use super::tests::wide;
-
-const CLOSING_BYTE: u8 = 0xE5;
+use book::CLOSING_BYTE;
 
 const VERSION: u8 = 1;
 
