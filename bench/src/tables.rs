@@ -2,7 +2,7 @@
 
 use std::fmt::{Result, Write};
 
-use crate::measure::{Filtering, Pass, Reading};
+use crate::measure::{Filtering, Listing, Pass, Reading};
 
 fn ratio(value: Option<f64>) -> String {
     value.map_or("–".to_string(), |v| format!("{v:.2}"))
@@ -67,6 +67,24 @@ pub fn growth(out: &mut String, steps: &[(Pass, Reading)]) -> Result {
         let (each, plain) = (1_000.0 * p.library / r.rows as f64, p.library / p.plain);
         let reading = r.library / r.plain;
         writeln!(out, "| {} | {:.1} | {each:.1} | {plain:.2} | {:.1} | {reading:.2} |", r.rows, p.library, r.library)?;
+    }
+    Ok(())
+}
+
+/// Writing a listing, and showing the book written.
+pub fn listings(out: &mut String, listings: &[(&str, Listing)]) -> Result {
+    writeln!(
+        out,
+        "| listing | numbers | write, µs | ns a number | × plain Rust | bytes | show, µs | ns a number | × plain Rust |"
+    )?;
+    writeln!(out, "|---|---|---|---|---|---|---|---|---|")?;
+    for (what, l) in listings {
+        let each = |time: f64| 1_000.0 * time / l.numbers as f64;
+        let shown = l.shown.as_ref().map_or("– | – | – | –".to_string(), |s| {
+            format!("{} | {:.1} | {:.2} | {:.2}", s.bytes, s.library, each(s.library), s.library / s.plain)
+        });
+        let (time, ratio) = (l.library, l.library / l.plain);
+        writeln!(out, "| {what} | {} | {time:.1} | {:.2} | {ratio:.2} | {shown} |", l.numbers, each(time))?;
     }
     Ok(())
 }
