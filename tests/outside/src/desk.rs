@@ -1,5 +1,5 @@
-//! The desk, slowly and from documents 01 and 02 alone: what every call answers. It is put together from parts, so that a desk with a slip is
-//! the right one with another part.
+//! The desk, slowly and from documents 01 and 02 alone: what every call answers. It is put together from parts, so that a desk with a
+//! slip is the right one with another part.
 
 use crate::book::{refuse, Book, Refusal};
 use crate::calls::{Answer, Buffers, Call, Sheet, FRESH};

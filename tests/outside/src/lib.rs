@@ -1,5 +1,5 @@
-//! An independent slow implementation of the desk, written from documents 01 and 02 alone; seeded cases to compare libraries with it; and
-//! libraries that are wrong on purpose, to see that the cases tell them from it.
+//! An independent slow implementation of the desk, written from documents 01 and 02 alone; seeded cases to compare libraries with it;
+//! and libraries that are wrong on purpose, to see that the cases tell them from it.
 
 pub mod book;
 pub mod calls;

@@ -95,7 +95,7 @@ pub const SLIPS: &[Listed] = &[
 ];
 
 /// What the book shows, after this change.
-fn changed_whole(book: &Book, change: fn(&mut Listing)) -> Vec<u16> {
+fn changed_whole(book: &Book, change: impl Fn(&mut Listing)) -> Vec<u16> {
     let mut listing = Listing::of(book);
     change(&mut listing);
     listing.numbers()
@@ -103,13 +103,11 @@ fn changed_whole(book: &Book, change: fn(&mut Listing)) -> Vec<u16> {
 
 /// What the book shows, after this change in each table.
 fn changed(book: &Book, change: fn(&mut ListedTable)) -> Vec<u16> {
-    let mut listing = Listing::of(book);
-    listing.tables.iter_mut().for_each(change);
-    listing.numbers()
+    changed_whole(book, |listing| listing.tables.iter_mut().for_each(change))
 }
 
 /// The call with this change in its listing, where that has its parts.
-fn taken_whole(call: &Call, change: fn(&mut Listing)) -> Call {
+fn taken_whole(call: &Call, change: impl Fn(&mut Listing)) -> Call {
     let Ok(mut listing) = Listing::taken_apart(call.listing()) else {
         return call.clone();
     };
@@ -119,11 +117,7 @@ fn taken_whole(call: &Call, change: fn(&mut Listing)) -> Call {
 
 /// The call with this change in each table of its listing.
 fn taken(call: &Call, change: fn(&mut ListedTable)) -> Call {
-    let Ok(mut listing) = Listing::taken_apart(call.listing()) else {
-        return call.clone();
-    };
-    listing.tables.iter_mut().for_each(change);
-    Call::Write { listing: listing.numbers() }
+    taken_whole(call, |listing| listing.tables.iter_mut().for_each(change))
 }
 
 /// The rows of a table; none where it has no fields.
