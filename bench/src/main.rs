@@ -47,8 +47,7 @@ fn measured() -> Result<(String, String), std::fmt::Error> {
     let steps: Vec<_> = steps.iter().map(|f| (measure::alternatives(f, 16), measure::reading(&f.book))).collect();
     tables::growth(&mut out, &steps)?;
     writeln!(out, "\n### Writing a listing, and showing the book written\n")?;
-    let listed = listings::all().into_iter().chain([listings::refused()]);
-    let listings: Vec<_> = listed.map(|listed| (listed.what, measure::listing(&listed))).collect();
+    let listings = listings::all().map(|listed| (listed.what, measure::listing(&listed)));
     tables::listings(&mut out, &listings)?;
     writeln!(out, "\n### Stack, family B, n = 32\n")?;
     tables::stacks(&mut out, &measure::stacks(&books[1]))?;

@@ -161,7 +161,7 @@ pub fn stacks(family: &Family) -> Vec<(&'static str, usize)> {
     let (book, bytes) = (&family.book[..], family.sheet(32));
     let (mut pairs, mut numbers, mut text) = ([0; PAIRS_BYTES], [0; NUMBERS], [0; REPORT_BYTES]);
     let (mut shown, mut written) = ([0; LISTING_NUMBERS], [0; BOOK_BYTES]);
-    let ([longest, ..], refused) = (listings::all(), listings::refused());
+    let (longest, refused) = (listings::longest(), listings::refused());
     let list = [0, 0, 0].repeat(32);
     let sheet = Sheet::from(bytes);
     let mut entered = sheet;

@@ -71,20 +71,27 @@ pub fn growth(out: &mut String, steps: &[(Pass, Reading)]) -> Result {
     Ok(())
 }
 
+/// A time from nanoseconds on.
+fn microseconds(time: f64) -> String {
+    if time < 1.0 {
+        format!("{time:.3}")
+    } else {
+        format!("{time:.1}")
+    }
+}
+
 /// Writing a listing, and showing the book written.
 pub fn listings(out: &mut String, listings: &[(&str, Listing)]) -> Result {
     writeln!(
         out,
-        "| listing | numbers | write, µs | ns a number | × plain Rust | bytes | show, µs | ns a number | × plain Rust |"
+        "| listing | numbers | write, µs | × plain Rust | bytes | show, µs | × plain Rust |\n|---|---|---|---|---|---|---|"
     )?;
-    writeln!(out, "|---|---|---|---|---|---|---|---|---|")?;
     for (what, l) in listings {
-        let each = |time: f64| 1_000.0 * time / l.numbers as f64;
-        let shown = l.shown.as_ref().map_or("– | – | – | –".to_string(), |s| {
-            format!("{} | {:.1} | {:.2} | {:.2}", s.bytes, s.library, each(s.library), s.library / s.plain)
+        let (time, plain) = (microseconds(l.library), l.library / l.plain);
+        let shown = l.shown.as_ref().map_or("– | – | –".to_string(), |shown| {
+            format!("{} | {} | {:.2}", shown.bytes, microseconds(shown.library), shown.library / shown.plain)
         });
-        let (time, ratio) = (l.library, l.library / l.plain);
-        writeln!(out, "| {what} | {} | {time:.1} | {:.2} | {ratio:.2} | {shown} |", l.numbers, each(time))?;
+        writeln!(out, "| {what} | {} | {time} | {plain:.2} | {shown} |", l.numbers)?;
     }
     Ok(())
 }

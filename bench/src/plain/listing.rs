@@ -6,72 +6,82 @@ use super::Refused;
 /// The bytes of the longest book that is accepted.
 const LONGEST: usize = 16_870;
 
-/// Bytes as far as they are laid out.
-struct Layout {
-    bytes: [u8; LONGEST],
-    length: usize,
+fn all_bytes(numbers: &[u16]) -> bool {
+    numbers.iter().all(|&number| number < 256)
 }
 
-impl Layout {
-    /// None where the bytes have no room in any book.
-    fn put(&mut self, bytes: &[u8]) -> Option<()> {
-        self.bytes.get_mut(self.length..self.length + bytes.len())?.copy_from_slice(bytes);
-        self.length += bytes.len();
-        Some(())
+/// The place behind the table at `at`; none where a number of it is missing or too large.
+fn table_end(listing: &[u16], at: usize) -> Option<usize> {
+    let arity = *listing.get(at)? as usize;
+    let first = at + 2 + arity;
+    let rows = *listing.get(first - 1)? as usize;
+    let (head, codes) = (&listing[at..first - 1], listing.get(first..first + rows * arity)?);
+    (all_bytes(head) && all_bytes(codes)).then_some(first + codes.len())
+}
+
+/// Whether no number is missing, left over or too large, and the bytes are no more than a book's.
+fn fits(listing: &[u16]) -> Option<bool> {
+    let fields = *listing.first()? as usize;
+    let tables = *listing.get(1 + fields)? as usize;
+    // each table has one byte more than numbers, and the trailer four more than the numbers of fields and of tables
+    if listing.len() + tables + 4 > LONGEST || !all_bytes(&listing[..2 + fields]) {
+        return Some(false);
     }
-
-    /// One byte for each number; none where a number is too large for it.
-    fn put_numbers(&mut self, numbers: &[u16]) -> Option<()> {
-        let room = self.bytes.get_mut(self.length..self.length + numbers.len())?;
-        for (byte, &number) in room.iter_mut().zip(numbers) {
-            *byte = u8::try_from(number).ok()?;
-        }
-        self.length += numbers.len();
-        Some(())
-    }
-}
-
-/// The first numbers, which are taken away; none where there are fewer.
-fn take<'a>(numbers: &mut &'a [u16], how_many: usize) -> Option<&'a [u16]> {
-    let (taken, rest) = numbers.split_at_checked(how_many)?;
-    *numbers = rest;
-    Some(taken)
-}
-
-fn lay_out_table(layout: &mut Layout, numbers: &mut &[u16]) -> Option<()> {
-    let arity = take(numbers, 1)?;
-    layout.put_numbers(arity)?;
-    layout.put_numbers(take(numbers, arity[0] as usize)?)?;
-    let rows = take(numbers, 1)?[0];
-    layout.put(&rows.to_le_bytes())?;
-    layout.put_numbers(take(numbers, rows as usize * arity[0] as usize)?)
-}
-
-/// The bytes that the listing says, of a book of version 1.
-fn lay_out(layout: &mut Layout, mut numbers: &[u16]) -> Option<()> {
-    let fields = take(&mut numbers, 1)?[0];
-    let counts = take(&mut numbers, fields as usize)?;
-    let tables = take(&mut numbers, 1)?[0];
+    let mut at = 2 + fields;
     for _ in 0..tables {
-        lay_out_table(layout, &mut numbers)?;
+        at = table_end(listing, at)?;
     }
-    if !numbers.is_empty() {
-        return None;
+    Some(at == listing.len())
+}
+
+/// Lays out one byte for each number, and answers the place behind them.
+fn narrow(numbers: &[u16], out: &mut [u8], to: usize) -> usize {
+    for (byte, &number) in out[to..to + numbers.len()].iter_mut().zip(numbers) {
+        *byte = number as u8;
     }
-    let place = u16::try_from(layout.length).ok()?;
-    layout.put_numbers(counts)?;
-    layout.put(&place.to_le_bytes())?;
-    layout.put_numbers(&[fields, tables, 1, 0xE5])
+    to + numbers.len()
+}
+
+fn put<const N: usize>(bytes: [u8; N], out: &mut [u8], to: usize) -> usize {
+    out[to..to + N].copy_from_slice(&bytes);
+    to + N
+}
+
+/// Lays out the table at `at`, and answers the places behind it in the listing and in the bytes.
+fn lay_table(listing: &[u16], at: usize, out: &mut [u8], to: usize) -> (usize, usize) {
+    let arity = listing[at] as usize;
+    let first = at + 2 + arity;
+    let end = first + listing[first - 1] as usize * arity;
+    let to = narrow(&listing[at..first - 1], out, to);
+    let to = put(listing[first - 1].to_le_bytes(), out, to);
+    (end, narrow(&listing[first..end], out, to))
+}
+
+/// Lays out a listing that fits, as a book of version 1, and answers how many bytes it has.
+fn lay_out(listing: &[u16], out: &mut [u8]) -> usize {
+    let fields = listing[0] as usize;
+    let tables = listing[1 + fields];
+    let (mut at, mut to) = (2 + fields, 0);
+    for _ in 0..tables {
+        (at, to) = lay_table(listing, at, out, to);
+    }
+    let list = to as u16;
+    to = narrow(&listing[1..1 + fields], out, to);
+    to = put(list.to_le_bytes(), out, to);
+    put([fields as u8, tables as u8, 1, 0xE5], out, to)
 }
 
 /// How many bytes the book has that the listing says; they go to `out`.
 pub fn write(listing: &[u16], out: &mut [u8]) -> Result<u64, Refused> {
-    let mut layout = Layout { bytes: [0; LONGEST], length: 0 };
-    lay_out(&mut layout, listing).ok_or((20, 0))?;
-    let bytes = &layout.bytes[..layout.length];
+    if fits(listing) != Some(true) {
+        return Err((20, 0));
+    }
+    let mut scratch = [0; LONGEST];
+    let length = lay_out(listing, &mut scratch);
+    let bytes = &scratch[..length];
     check(bytes).map_err(|_| (20, 0))?;
-    out.get_mut(..bytes.len()).ok_or((18, 0))?.copy_from_slice(bytes);
-    Ok(bytes.len() as u64)
+    out.get_mut(..length).ok_or((18, 0))?.copy_from_slice(bytes);
+    Ok(length as u64)
 }
 
 /// Writes one number for each byte, and answers the place behind them.
