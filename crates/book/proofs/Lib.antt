@@ -3,3 +3,4 @@ pub mod Rows
 pub mod Answers
 pub mod Injective
 pub mod Walking
+pub mod Checks

@@ -7,9 +7,13 @@ ghost use Rattle.book.specs.Shown.{numberOf, shown, shownCheck};
 ghost use Rattle.book.specs.View.{viewOf};
 
 mod bytes;
+mod copies;
 mod different;
 mod scans;
 mod tests;
+
+// The crates above copy bytes into memory lent with it.
+pub use copies::copy;
 
 // Why bytes are no book. numberOf (specs) gives each kind document 01's number.
 pub enum Refusal {

@@ -1,27 +1,40 @@
 -- The buffers of specs/Buffers.antt suffice: by condition 1, a call refused by 18 has too little lent. Assumes nothing.
 use Prim.Native.Nat.{ℕ, _*_, _<_}
-use mathlib.Core.Path.{_≡_}
-use mathlib.Core.List.{List}
+use mathlib.Core.Path.{_≡_, refl, sym}
+use mathlib.Core.Bool.{true, true≢false}
+use mathlib.Core.List.{List, []}
 use native.Mathlib.Omega.{arith}
 use lib.ListN.{length}
 use Rattle.format.specs.Format.{Book, bookOf}
+use Rattle.format.specs.Reading.{Accepted}
+use Rattle.format.specs.Listing.{listingOf, bookIn}
+use Rattle.format.specs.Writing.{laidOut, writable}
 use Rattle.format.proofs.Numbers.{fail-number}
-use Rattle.format.proofs.Accepted.{verdict-accepted}
+use Rattle.format.proofs.Accepted.{verdict-accepted, accepted-promise}
+use Rattle.format.proofs.Decode.{promise-layout}
+use Rattle.format.proofs.WriteAndShow.{book-well, write-and-show}
 use Rattle.consistency.specs.Counts.{total}
 use Rattle.consistency.proofs.Limits.{total-few}
 use Rattle.calls.specs.Buffers.{Suffices}
-use Rattle.calls.specs.Conditions.{Request, to-filter, to-list, to-store, resultOf, Refusal, filter-14, filter-15, filter-17, filter-18, list-14, list-18, store-14, store-18, RefusedBy, the-book, the-call}
+use Rattle.calls.specs.Conditions.{Request, to-filter, to-list, to-store, to-show, to-write, resultOf, givenBook, Refusal, filter-14, filter-15, filter-17, filter-18, list-14, list-18, store-14, store-18, show-18, WriteRefusal, write-missing, write-left-over, write-too-large, write-unread, write-18, RefusedBy, the-book, the-call, the-listing}
 use Rattle.calls.proofs.Sheets.{Within, accepted-within}
 use Rattle.calls.proofs.Condition1.{condition1}
 
--- a call refused by 18 has a book within its limits, and is refused on a condition of its own
-refused-18 : (bytes s : List ℕ) (q : Request) → resultOf bytes s q .outcome .number ≡ 18
-    → Within (bookOf bytes) × Refusal (bookOf bytes) s q (resultOf bytes s q .outcome .number) (resultOf bytes s q .outcome .place)
-refused-18 bytes s q e = at (condition1 bytes s q (λ z. omega arith) .reason) e
+-- a call refused by 18 has an accepted book, and is refused on a condition of its own
+refused-18 : (bytes s : List ℕ) (q : Request) → givenBook q ≡ true → resultOf bytes s q .outcome .number ≡ 18
+    → Accepted bytes × Refusal (bookOf bytes) s q (resultOf bytes s q .outcome .number) (resultOf bytes s q .outcome .place)
+refused-18 bytes s q given e = at q given (condition1 bytes s q (λ z. omega arith) .reason) e
   where
-    at : {number place : ℕ} → RefusedBy bytes s q number place → number ≡ 18 → Within (bookOf bytes) × Refusal (bookOf bytes) s q number place
-    at {number} {place} (the-book e r) n = absurd (omega (arith, fail-number bytes number place e))
-    at (the-call e r) n = (accepted-within bytes (verdict-accepted bytes e), r)
+    at : (q : Request) → givenBook q ≡ true → {number place : ℕ} → RefusedBy bytes s q number place → number ≡ 18
+        → Accepted bytes × Refusal (bookOf bytes) s q number place
+    at q g {number} {place} (the-book h e r) n = absurd (omega (arith, fail-number bytes number place e))
+    at q g (the-call e r) n = (verdict-accepted bytes e, r)
+    at (to-write l o) g (the-listing r) n = absurd (true≢false (sym g))
+
+-- writing is refused on a condition of its own, whatever the bytes
+of-writing : {bytes s l o : List ℕ} {number place : ℕ} → RefusedBy bytes s (to-write l o) number place → WriteRefusal l o number place
+of-writing (the-book g e r) = absurd (true≢false (sym g))
+of-writing (the-listing r) = r
 
 -- ---- that condition
 
@@ -40,12 +53,34 @@ module _ {b : Book} {s o : List ℕ} where
   store-short (store-14 h) n = absurd (omega arith)
   store-short (store-18 w l) n = l
 
+  show-short : {number place : ℕ} → Refusal b s (to-show o) number place → length o < length (listingOf b)
+  show-short (show-18 l) = l
+
+write-short : {l o : List ℕ} {number place : ℕ} → WriteRefusal l o number place → number ≡ 18 → (writable l ≡ true) × (length o < length (laidOut l))
+write-short (write-missing h) n = absurd (omega arith)
+write-short (write-left-over h) n = absurd (omega arith)
+write-short (write-too-large e h) n = absurd (omega arith)
+write-short (write-unread e b h) n = absurd (omega arith)
+write-short (write-18 w l) n = (w, l)
+
 pub suffices : Suffices
 suffices =
     record {
       pairs = λ bytes s o l e.
-          let r = refused-18 bytes s (to-list o) e in
-          omega (arith, list-short (r .1) e, total-few (bookOf bytes) (r .0 .small) (r .0 .few) s);
-      numbers = λ bytes s f o l e. let r = refused-18 bytes s (to-filter f o) e in omega (arith, filter-short (r .1) e, r .0 .few);
-      form = λ bytes s o l e. let r = refused-18 bytes s (to-store o) e in omega (arith, store-short (r .1) e, r .0 .few);
+          let r = refused-18 bytes s (to-list o) refl e in
+          let w : Within (bookOf bytes) = accepted-within bytes (r .0) in
+          omega (arith, list-short (r .1) e, total-few (bookOf bytes) (w .small) (w .few) s);
+      numbers = λ bytes s f o l e.
+          let r = refused-18 bytes s (to-filter f o) refl e in
+          omega (arith, filter-short (r .1) e, accepted-within bytes (r .0) .few);
+      form = λ bytes s o l e.
+          let r = refused-18 bytes s (to-store o) refl e in
+          omega (arith, store-short (r .1) e, accepted-within bytes (r .0) .few);
+      listing = λ bytes o b l e.
+          let r = refused-18 bytes [] (to-show o) refl e in
+          let well = promise-layout bytes b (accepted-promise bytes (r .0)) .0 in
+          omega (arith, show-short (r .1), write-and-show .each (bookOf bytes) well .numbers-few);
+      book = λ l o h e.
+          let w = write-short (of-writing (condition1 [] [] (to-write l o) (λ z. omega arith) .reason)) e in
+          omega (arith, w .1, write-and-show .each (bookIn l) (book-well l (w .0)) .bytes-few);
     }

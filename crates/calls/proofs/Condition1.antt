@@ -1,9 +1,9 @@
 -- Condition 1: a refusal has its number and place on its condition only, its counts 0, and leaves the sheet and the lent buffer as they were.
 -- Assumes nothing.
-use mathlib.Core.Path.{_≡_, refl}
-use mathlib.Core.Logic.{_⊎_, inl, inr, _≢_}
+use mathlib.Core.Path.{_≡_, refl, sym, _∙_}
+use mathlib.Core.Logic.{_⊎_, inl, inr, ⊎-elim, _≢_}
 use mathlib.Core.List.{List, []}
-use mathlib.Core.Bool.{Bool, true, false}
+use mathlib.Core.Bool.{Bool, true, false, _&&_, true≢false}
 use Prim.Native.Nat.{ℕ, _*_, _≤_, _<_}
 use native.Mathlib.Omega.{arith}
 use lib.ListN.{length}
@@ -12,12 +12,15 @@ use borrow.Author.Tests.{ltb-true, ltb-false, eqb-true, eqb-false}
 use Rattle.format.specs.Basics.{pick}
 use Rattle.format.specs.Format.{Book, bookCounts, bookOf}
 use Rattle.format.specs.Reading.{Verdict, pass, fail, verdict, outcome, reading}
+use Rattle.format.specs.Listing.{listingOf, listingEnd}
+use Rattle.format.specs.Writing.{Reply, into, showingBy, showing, laidOut, allBytes, writable, writing}
 use Rattle.format.proofs.Scans.{bad-before, all-pass, bad-fails}
 use Rattle.format.proofs.Numbers.{book-refusal}
+use Rattle.format.proofs.ByteTests.{bytes-true, true-bytes}
 use Rattle.consistency.specs.Consistency.{places, codes, answer, relax}
 use Rattle.consistency.specs.Counts.{total}
-use Rattle.calls.specs.Calls.{Result, turned, done, placeOk, faultOf, onSheet, masksInto, sheetFrom, entered, withdrawn, filtered, alternatives, loaded, stored}
-use Rattle.calls.specs.Conditions.{Request, to-read, to-fresh, to-enter, to-withdraw, to-clear, to-filter, to-list, to-store, to-load, resultOf, sheetGiven, lentTo, countsOf, FirstFault, NoFault, Refusal, enter-14, enter-15, enter-16, withdraw-14, withdraw-15, withdraw-17, filter-14, filter-15, filter-17, filter-18, list-14, list-18, store-14, store-18, load-19, load-14, RefusedBy, the-book, the-call, IsRefusal, Condition1}
+use Rattle.calls.specs.Calls.{Result, turned, done, beside, placeOk, faultOf, onSheet, masksInto, sheetFrom, entered, withdrawn, filtered, alternatives, loaded, stored}
+use Rattle.calls.specs.Conditions.{Request, to-read, to-fresh, to-enter, to-withdraw, to-clear, to-filter, to-list, to-store, to-load, to-show, to-write, resultOf, givenBook, sheetGiven, lentTo, countsOf, FirstFault, NoFault, Refusal, enter-14, enter-15, enter-16, withdraw-14, withdraw-15, withdraw-17, filter-14, filter-15, filter-17, filter-18, list-14, list-18, store-14, store-18, load-19, load-14, show-18, WriteRefusal, write-missing, write-left-over, write-too-large, write-unread, write-18, RefusedBy, the-book, the-call, the-listing, IsRefusal, Condition1}
 use Rattle.calls.proofs.CallLaws.{pick-cases, fault-holds, book-holds, sheet-holds}
 
 -- the first place at which the test of 14 fails is the first field at fault
@@ -46,8 +49,8 @@ module _ {bytes s : List ℕ} {q : Request} where
   refused-by why n = record { reason = why; counts = refl; sheet = refl; buffer = refl }
 
   -- 1 to 13
-  by-book : (number place : ℕ) → verdict bytes ≡ fail number place → Settled bytes s q (refusal s q number place)
-  by-book number place e = refused-by (the-book e (book-refusal bytes e))
+  by-book : givenBook q ≡ true → (number place : ℕ) → verdict bytes ≡ fail number place → Settled bytes s q (refusal s q number place)
+  by-book g number place e = refused-by (the-book g e (book-refusal bytes e))
 
   -- the others
   by-call : {number place : ℕ} → verdict bytes ≡ pass → Refusal (bookOf bytes) s q number place → Settled bytes s q (refusal s q number place)
@@ -66,14 +69,14 @@ module _ {bytes s : List ℕ} {q : Request} where
   fail-settled e t why h = pick-cases (Settled bytes s q) t h (λ y. by-call e (why y))
 
   -- a call on a sheet: 1 to 14, then the rest
-  sheet-settled : (go : Book → Result)
+  sheet-settled : givenBook q ≡ true → (go : Book → Result)
       → ((p : ℕ) → FirstFault (bookOf bytes) (sheetGiven s q) p → Refusal (bookOf bytes) s q 14 p)
       → (verdict bytes ≡ pass → NoFault (bookOf bytes) (sheetGiven s q) → Settled bytes s q (go (bookOf bytes)))
       → Settled bytes s q (onSheet (countsOf q) bytes (sheetGiven s q) (lentTo q) go)
-  sheet-settled go at-fault h =
+  sheet-settled g go at-fault h =
       let b : Book = bookOf bytes in
       let t : List ℕ = sheetGiven s q in
-      sheet-holds (Settled bytes s q) (countsOf q) bytes t (lentTo q) go by-book
+      sheet-holds (Settled bytes s q) (countsOf q) bytes t (lentTo q) go (by-book g)
       (λ e l. by-call e (at-fault (faultOf b t) (first-fault b t l))) (λ e l. h e (fault-free b t l))
 
 -- what reading answers
@@ -83,7 +86,57 @@ read-settled bytes s = at (verdict bytes) refl
   where
     at : (v : Verdict) → verdict bytes ≡ v → Settled bytes s to-read (record { outcome = outcome v (bookCounts (bookOf bytes)); sheet = s; buffer = [] })
     at pass e = done-settled
-    at (fail number place) e = by-book number place e
+    at (fail number place) e = by-book refl number place e
+
+-- what a call with one count leaves behind, whether the memory lent suffices for xs or not
+into-settled : {bytes s : List ℕ} {q : Request} (xs o : List ℕ)
+    → (length o < length xs → Settled bytes s q (turned 1 s o 18 0)) → Settled bytes s q (beside s (into xs o))
+unfolding into
+into-settled {bytes} {s} {q} xs o h =
+    pick-cases (λ (r : Reply). Settled bytes s q (beside s r)) (ltb (length o) (length xs)) (λ t. h (ltb-true (length o) (length xs) t)) (λ t.
+    done-settled)
+
+-- what showing answers
+show-settled : (bytes s o : List ℕ) → Settled bytes s (to-show o) (resultOf bytes s (to-show o))
+unfolding showing
+show-settled bytes s o = at (verdict bytes) refl
+  where
+    at : (v : Verdict) → verdict bytes ≡ v → Settled bytes s (to-show o) (beside s (showingBy v (listingOf (bookOf bytes)) o))
+    at pass e = into-settled (listingOf (bookOf bytes)) o (λ l. by-call e (show-18 l))
+    at (fail number place) e = by-book refl number place e
+
+-- the first of two tests fails, or it passes and the second fails
+first-false : (t u : Bool) → t && u ≡ false → (t ≡ false) ⊎ ((t ≡ true) × (u ≡ false))
+first-false true u e = inr (refl, e)
+first-false false u e = inl refl
+
+-- numbers that differ
+apart : (m n : ℕ) → m ≢ n → (m < n) ⊎ (n < m)
+apart m n h = at (ltb m n) refl
+  where
+    at : (t : Bool) → ltb m n ≡ t → (m < n) ⊎ (n < m)
+    at true e = inl (ltb-true m n e)
+    at false e = inr (omega (arith, ltb-false m n e))
+
+-- 20: what of a listing that is not writable is at fault
+unwritable : (l o : List ℕ) → writable l ≡ false → WriteRefusal l o 20 0
+unfolding writable
+unwritable l o e =
+    let bytes : List ℕ = laidOut l in
+    ⊎-elim (λ t. ⊎-elim write-left-over write-missing (apart (listingEnd l) (length l) (eqb-false (listingEnd l) (length l) t))) (λ t.
+    let ends : listingEnd l ≡ length l = eqb-true (listingEnd l) (length l) (t .0) in
+    ⊎-elim (λ u. write-too-large ends (λ b. true≢false (sym (true-bytes bytes b) ∙ u)))
+    (λ u. write-unread ends (bytes-true bytes (u .0)) (eqb-false (reading bytes .number) 0 (u .1)))
+    (first-false (allBytes bytes) (eqb (reading bytes .number) 0) (t .1)))
+    (first-false (eqb (listingEnd l) (length l)) (allBytes bytes && eqb (reading bytes .number) 0) e)
+
+-- what writing answers
+write-settled : (bytes s l o : List ℕ) → Settled bytes s (to-write l o) (resultOf bytes s (to-write l o))
+unfolding writing
+write-settled bytes s l o =
+    pick-cases (λ (r : Reply). Settled bytes s (to-write l o) (beside s r)) (writable l)
+    (λ t. into-settled {q = to-write l o} (laidOut l) o (λ k. refused-by (the-listing (write-18 t k))))
+    (λ t. refused-by (the-listing (unwritable l o t)))
 
 pub condition1 : Condition1
 unfolding entered withdrawn filtered alternatives loaded stored
@@ -92,13 +145,13 @@ condition1 bytes s to-fresh = done-settled
 condition1 bytes s (to-enter f c) =
     let b : Book = bookOf bytes in
     let n : ℕ = length (b .counts) in
-    sheet-settled _ (λ p. enter-14) (λ e w.
+    sheet-settled refl _ (λ p. enter-14) (λ e w.
     fail-settled e (ltb f n) (λ t. enter-15 w (ltb-false f n t)) (λ t.
     fail-settled e (ltb c (codes b f)) (λ u. enter-16 w (ltb-true f n t) (ltb-false c (codes b f) u)) (λ u.
     done-settled)))
 condition1 bytes s (to-withdraw f) =
     let n : ℕ = length (bookOf bytes .counts) in
-    sheet-settled _ (λ p. withdraw-14) (λ e w.
+    sheet-settled refl _ (λ p. withdraw-14) (λ e w.
     fail-settled e (ltb f n) (λ t. withdraw-15 w (ltb-false f n t)) (λ t.
     pass-settled e (eqb (answer s f) 255) (λ u. withdraw-17 w (ltb-true f n t) (eqb-true (answer s f) 255 u)) (λ u.
     done-settled)))
@@ -109,7 +162,7 @@ condition1 bytes s (to-filter f o) =
     let masks-settled : verdict bytes ≡ pass → NoFault b s → (f ≡ 255) ⊎ ((f < n) × (answer s f ≢ 255)) → (a : List ℕ)
     → Settled bytes s (to-filter f o) (masksInto b s a o) =
     (λ e w g a. pass-settled e (ltb (length o) n) (λ t. filter-18 w g (ltb-true (length o) n t)) (λ t. done-settled)) in
-    sheet-settled _ (λ p. filter-14) (λ e w.
+    sheet-settled refl _ (λ p. filter-14) (λ e w.
     pick-cases (Settled bytes s (to-filter f o)) (eqb f 255) (λ t. masks-settled e w (inl (eqb-true f 255 t)) s) (λ t.
     let some : f ≢ 255 = eqb-false f 255 t in
     fail-settled e (ltb f n) (λ u. filter-15 w some (ltb-false f n u)) (λ u.
@@ -117,16 +170,18 @@ condition1 bytes s (to-filter f o) =
     masks-settled e w (inr (ltb-true f n u, eqb-false (answer s f) 255 v)) (relax s f)))))
 condition1 bytes s (to-list o) =
     let enough : ℕ = 2 * total (bookOf bytes) s in
-    sheet-settled _ (λ p. list-14) (λ e w.
+    sheet-settled refl _ (λ p. list-14) (λ e w.
     pass-settled e (ltb (length o) enough) (λ t. list-18 w (ltb-true (length o) enough t)) (λ t. done-settled))
 condition1 bytes s (to-store o) =
     let n : ℕ = length (bookOf bytes .counts) in
-    sheet-settled _ (λ p. store-14) (λ e w. pass-settled e (ltb (length o) n) (λ t. store-18 w (ltb-true (length o) n t)) (λ t. done-settled))
+    sheet-settled refl _ (λ p. store-14) (λ e w. pass-settled e (ltb (length o) n) (λ t. store-18 w (ltb-true (length o) n t)) (λ t. done-settled))
 condition1 bytes s (to-load form) =
     let S : Result → Type 0 = Settled bytes s (to-load form) in
     let b : Book = bookOf bytes in
     let n : ℕ = length (b .counts) in
-    book-holds S (refusal s (to-load form)) bytes _ by-book (λ e.
+    book-holds S (refusal s (to-load form)) bytes _ (by-book refl) (λ e.
     fail-settled e (eqb (length form) n) (λ t. load-19 (eqb-false (length form) n t)) (λ t.
     fault-holds S (refusal s (to-load form)) (faultOf b (sheetFrom form))
     (λ l. by-call e (load-14 (eqb-true (length form) n t) (first-fault b (sheetFrom form) l))) (λ l. done-settled)))
+condition1 bytes s (to-show o) = show-settled bytes s o
+condition1 bytes s (to-write l o) = write-settled bytes s l o

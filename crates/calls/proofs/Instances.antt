@@ -1,17 +1,20 @@
 -- Condition 3 at work: two different books, both accepted, that are alike; a list of calls with every refusal, with what listing answers behind
--- it, computed; and an enter of a code that does not stand. Assumes nothing.
+-- it, computed; and an enter of a code that does not stand. Condition 1 at work: each refusal of writing and showing. Assumes nothing.
 use Prim.Native.Nat.{ℕ}
 use mathlib.Core.Path.{_≡_, refl, sym, ap, _∙_, subst₂}
 use mathlib.Core.Logic.{_≢_}
 use mathlib.Core.Bool.{false}
-use mathlib.Core.List.{List, [], _∷_}
+use mathlib.Core.List.{List, [], _∷_, map}
 use native.Mathlib.Omega.{arith}
 use lib.ListN.{replicate}
 use Rattle.format.specs.Basics.{scan, firstBad}
-use Rattle.format.specs.Format.{Book, rowsAt, tableAt, tablesAt, bookOf}
+use Rattle.format.specs.Format.{Book, trailerBytes, encode, rowsAt, tableAt, tablesAt, bookOf}
 use Rattle.format.specs.Reading.{Outcome, trailerTest, listTest, rowsStep, tableStep, tablesStep, verdict, reading, Accepted}
+use Rattle.format.specs.Listing.{tableNumbers, listingOf, tablesIn, tablesEnd, bookIn}
+use Rattle.format.specs.Writing.{declined, into, showing, laidOut, writable, writing}
 use Rattle.format.specs.Examples.{e1, e1′}
 use Rattle.format.proofs.Witness.{e1-reading}
+use Rattle.format.proofs.ByteTests.{bytes-true}
 use Rattle.consistency.specs.Consistency.{fieldOf, nth}
 use Rattle.consistency.specs.Largest.{largest, largestDomains, rounds, start, remove, removeFrom, count, countOf, bookSupports, tableSupports, rowSupports}
 use Rattle.consistency.specs.Counts.{total, struck, lines, outside}
@@ -19,7 +22,7 @@ use Rattle.consistency.specs.Alike.{Alike}
 use Rattle.consistency.proofs.AlikeExample.{example, turned, example-alike}
 use Rattle.calls.specs.Calls.{freshSheet, done, sheetFrom, entered, withdrawn, alternatives}
 use Rattle.calls.specs.Histories.{Call, enter, withdraw, clear, results, sheetThrough, sheetAfter}
-use Rattle.calls.specs.Conditions.{SameResults, numbers}
+use Rattle.calls.specs.Conditions.{to-show, Refusal, show-18, WriteRefusal, write-missing, write-left-over, write-too-large, write-unread, write-18, SameResults, numbers}
 use Rattle.calls.proofs.Condition3.{condition3}
 
 -- ---- E1, and E1 with its tables the other way round and its repeated row once
@@ -87,3 +90,63 @@ not-standing = refl
 pub still-entered : entered e1 seen 1 0 ≡ done [] (sheetFrom (1 ∷ 0 ∷ 255 ∷ [])) []
 unfolding sheetThrough entered verdict trailerTest listTest tablesStep tableStep rowsStep firstBad scan bookOf tablesAt tableAt rowsAt
 still-entered = refl
+
+-- ---- Request M-100, each refusal of writing: one field and the numbers behind it
+
+-- its number of tables is missing
+abbrev missing : List ℕ
+missing = 1 ∷ 1 ∷ []
+
+-- a number is left over behind no tables
+abbrev leftOver : List ℕ
+leftOver = 1 ∷ 1 ∷ 0 ∷ 0 ∷ []
+
+-- 257 codes are too many for a byte
+abbrev tooLarge : List ℕ
+tooLarge = 1 ∷ 257 ∷ 0 ∷ []
+
+-- reading refuses a field without codes, by 7
+abbrev unread : List ℕ
+unread = 1 ∷ 0 ∷ 0 ∷ []
+
+-- a listing of a book of seven bytes
+abbrev seven : List ℕ
+seven = 1 ∷ 1 ∷ 0 ∷ []
+
+-- the four are refused by 20 on their conditions, whatever is lent; the last by 18 where six bytes are
+module _ (o : List ℕ) where
+  pub missing-20 : WriteRefusal missing o 20 0
+  unfolding tablesEnd
+  missing-20 = write-missing (omega arith)
+
+  pub left-over-20 : WriteRefusal leftOver o 20 0
+  unfolding tablesEnd
+  left-over-20 = write-left-over (omega arith)
+
+  pub too-large-20 : WriteRefusal tooLarge o 20 0
+  unfolding tablesEnd tablesIn bookIn encode trailerBytes
+  too-large-20 = write-too-large refl (λ b. omega (arith, b .0))
+
+  pub unread-20 : WriteRefusal unread o 20 0
+  unfolding tablesEnd tablesIn bookIn encode trailerBytes reading verdict trailerTest listTest firstBad scan
+  unread-20 = write-unread refl (bytes-true (laidOut unread) refl) (λ z. omega arith)
+
+pub seven-18 : WriteRefusal seven (replicate 6 9) 18 0
+unfolding tablesEnd tablesIn bookIn encode trailerBytes writable reading verdict trailerTest listTest tablesStep firstBad scan
+seven-18 = write-18 refl (omega arith)
+
+-- so the call refuses them, by computing, and changes no byte
+pub writings-refused : map (λ (l : List ℕ). writing l (replicate 6 9)) (missing ∷ leftOver ∷ tooLarge ∷ unread ∷ seven ∷ [])
+    ≡ map (λ (number : ℕ). declined (replicate 6 9) number 0) (20 ∷ 20 ∷ 20 ∷ 20 ∷ 18 ∷ [])
+unfolding into writing writable tablesEnd tablesIn bookIn encode trailerBytes reading verdict trailerTest listTest tablesStep firstBad scan
+writings-refused = refl
+
+-- ---- and showing's own: E1's listing has 29 numbers
+
+pub e1-show-18 : (s : List ℕ) → Refusal (bookOf e1) s (to-show (replicate 28 9)) 18 0
+unfolding bookOf tablesAt tableAt rowsAt listingOf tableNumbers
+e1-show-18 s = show-18 {o = replicate 28 9} (omega arith)
+
+pub e1-not-shown : showing e1 (replicate 28 9) ≡ declined (replicate 28 9) 18 0
+unfolding into showing verdict trailerTest listTest tablesStep tableStep rowsStep firstBad scan bookOf tablesAt tableAt rowsAt listingOf tableNumbers
+e1-not-shown = refl

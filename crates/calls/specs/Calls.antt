@@ -7,6 +7,7 @@ use lib.Dec.{ltb, eqb}
 use Rattle.format.specs.Basics.{pick, firstBad}
 use Rattle.format.specs.Format.{Book, bookOf}
 use Rattle.format.specs.Reading.{Outcome, refused, accepted, Verdict, pass, fail, verdict}
+use Rattle.format.specs.Writing.{Reply}
 use Rattle.consistency.specs.Consistency.{places, codes, answer, relax}
 use Rattle.consistency.specs.Counts.{total, struck, lines, lineBytes, masks}
 
@@ -26,6 +27,10 @@ turned k s o number place = record { outcome = refused k number place; sheet = s
 
 abbrev pub done : List ℕ → List ℕ → List ℕ → Result
 done counts s o = record { outcome = accepted counts; sheet = s; buffer = o }
+
+-- a call that is given no sheet leaves sheet s alone
+abbrev pub beside : List ℕ → Reply → Result
+beside s r = record { outcome = r .outcome; sheet = s; buffer = r .buffer }
 
 -- 14: a place holds 255 or a code of its field; "a later place" has no field, so no code
 abbrev pub placeOk : Book → List ℕ → ℕ → Bool

@@ -4,24 +4,27 @@ use Prim.Native.Nat.{ℕ, _+_, _*_, _^_, _≤_, _<_}
 use mathlib.Core.Path.{_≡_}
 use mathlib.Core.Logic.{_⊎_, _≢_, _↔_}
 use mathlib.Core.List.{List, [], _∷_, _++_}
-use mathlib.Core.Bool.{true, false, not}
+use mathlib.Core.Bool.{Bool, true, false, not}
 use lib.ListN.{length, getD, take, drop, replicate}
 use lib.Dec.{T, eqb}
 use Rattle.format.specs.Basics.{pick}
 use Rattle.format.specs.Format.{Book, bookOf}
 use Rattle.format.specs.Reading.{accepted, pass, fail, verdict, BookRefusal, reading, Accepted}
+use Rattle.format.specs.Layout.{Bytes}
+use Rattle.format.specs.Listing.{listingOf, listingEnd}
+use Rattle.format.specs.Writing.{showing, laidOut, writable, writing}
 use Rattle.consistency.specs.Counting.{sumOver, those}
 use Rattle.consistency.specs.Consistency.{places, Subdomain, codes, answer, relax, IsLargest}
 use Rattle.consistency.specs.Counts.{bit, codesIn, outside, answered, total, Line, lineBytes}
 use Rattle.consistency.specs.Order.{InOrder, In}
 use Rattle.consistency.specs.Alike.{Alike}
-use Rattle.calls.specs.Calls.{Result, freshSheet, done, placeOk, sheetFrom, entered, withdrawn, cleared, filtered, alternatives, loaded, stored}
+use Rattle.calls.specs.Calls.{Result, freshSheet, done, beside, placeOk, sheetFrom, entered, withdrawn, cleared, filtered, alternatives, loaded, stored}
 use Rattle.calls.specs.Histories.{Call, Answer, none, is, Answers, given, noAnswers, answersAfter, refusalsFrom, sheetOf, results, sheetAfter}
 
 -- ---- Condition 1: "The answer to any bytes, sheet and call is the one that document 01 defines" is the contracts of the calls;
 -- "or a refusal with its number and place, on its condition only, each lent buffer left as stated": over all calls at once
 
--- a call with its arguments, and the buffer lent where it takes one
+-- a call with its arguments, and the memory lent where it takes some
 pub data Request : Type 0 where
   to-read : Request
   to-fresh : Request
@@ -32,6 +35,8 @@ pub data Request : Type 0 where
   to-list : List ℕ → Request
   to-store : List ℕ → Request
   to-load : List ℕ → Request
+  to-show : List ℕ → Request
+  to-write : List ℕ → List ℕ → Request
 
 abbrev pub resultOf : List ℕ → List ℕ → Request → Result
 resultOf bytes s to-read = record { outcome = reading bytes; sheet = s; buffer = [] }
@@ -43,6 +48,22 @@ resultOf bytes s (to-filter f o) = filtered bytes s f o
 resultOf bytes s (to-list o) = alternatives bytes s o
 resultOf bytes s (to-store o) = stored bytes s o
 resultOf bytes s (to-load form) = loaded bytes form
+resultOf bytes s (to-show o) = beside s (showing bytes o)
+resultOf bytes s (to-write l o) = beside s (writing l o)
+
+-- the calls that are given a book's bytes
+abbrev pub givenBook : Request → Bool
+givenBook to-read = true
+givenBook to-fresh = false
+givenBook (to-enter f c) = true
+givenBook (to-withdraw f) = true
+givenBook to-clear = false
+givenBook (to-filter f o) = true
+givenBook (to-list o) = true
+givenBook (to-store o) = true
+givenBook (to-load form) = true
+givenBook (to-show o) = true
+givenBook (to-write l o) = false
 
 -- the sheet given; "It is given no sheet: a refused load hands back a fresh one"
 abbrev pub sheetGiven : List ℕ → Request → List ℕ
@@ -55,6 +76,8 @@ sheetGiven s (to-filter f o) = s
 sheetGiven s (to-list o) = s
 sheetGiven s (to-store o) = s
 sheetGiven s (to-load form) = freshSheet
+sheetGiven s (to-show o) = s
+sheetGiven s (to-write l o) = s
 
 abbrev pub lentTo : Request → List ℕ
 lentTo to-read = []
@@ -66,6 +89,8 @@ lentTo (to-filter f o) = o
 lentTo (to-list o) = o
 lentTo (to-store o) = o
 lentTo (to-load form) = []
+lentTo (to-show o) = o
+lentTo (to-write l o) = o
 
 -- how many things the call counts
 abbrev pub countsOf : Request → ℕ
@@ -78,6 +103,8 @@ countsOf (to-filter f o) = 0
 countsOf (to-list o) = 2
 countsOf (to-store o) = 0
 countsOf (to-load form) = 0
+countsOf (to-show o) = 1
+countsOf (to-write l o) = 1
 
 -- 14, "the first field at fault": place p fails the test of 14, and each place before it passes
 pub record FirstFault (b : Book) (s : List ℕ) (p : ℕ) : Type 0 where
@@ -115,12 +142,26 @@ pub data Refusal (b : Book) (s : List ℕ) : Request → ℕ → ℕ → Type 0 
   -- Loading: "19 if its length isn't the number of fields, 14"
   load-19 : {form : List ℕ} → length form ≢ length (b .counts) → Refusal b s (to-load form) 19 0
   load-14 : {p : ℕ} {form : List ℕ} → length form ≡ length (b .counts) → FirstFault b (sheetFrom form) p → Refusal b s (to-load form) 14 p
+  -- Request M-100: "Showing: 1 to 13, then 18, too few numbers lent"
+  show-18 : {o : List ℕ} → length o < length (listingOf b) → Refusal b s (to-show o) 18 0
+
+-- Request M-100, the refusals of writing listing l with bytes o lent: "20, place 0: a number missing, left over or too large for its bytes, or
+-- the bytes laid out would be refused by reading. Then 18, too few bytes lent"
+pub data WriteRefusal (l o : List ℕ) : ℕ → ℕ → Type 0 where
+  write-missing : length l < listingEnd l → WriteRefusal l o 20 0
+  write-left-over : listingEnd l < length l → WriteRefusal l o 20 0
+  write-too-large : listingEnd l ≡ length l → (Bytes (laidOut l) → ⊥) → WriteRefusal l o 20 0
+  write-unread : listingEnd l ≡ length l → Bytes (laidOut l) → reading (laidOut l) .number ≢ 0 → WriteRefusal l o 20 0
+  write-18 : writable l ≡ true → length o < length (laidOut l) → WriteRefusal l o 18 0
 
 -- "A refusal gives its number and a place (a byte of the book for 1 to 13, the first field at fault for 14, else 0)"
-pub data RefusedBy (bytes s : List ℕ) (q : Request) (number place : ℕ) : Type 0 where
+pub data RefusedBy (bytes s : List ℕ) : Request → ℕ → ℕ → Type 0 where
   -- 1 to 13: the reader's first
-  the-book : verdict bytes ≡ fail number place → BookRefusal (length bytes) number place → RefusedBy bytes s q number place
-  the-call : verdict bytes ≡ pass → Refusal (bookOf bytes) s q number place → RefusedBy bytes s q number place
+  the-book : {q : Request} {number place : ℕ} → givenBook q ≡ true → verdict bytes ≡ fail number place → BookRefusal (length bytes) number place
+      → RefusedBy bytes s q number place
+  the-call : {q : Request} {number place : ℕ} → verdict bytes ≡ pass → Refusal (bookOf bytes) s q number place → RefusedBy bytes s q number place
+  -- writing is given no book: whatever the bytes
+  the-listing : {l o : List ℕ} {number place : ℕ} → WriteRefusal l o number place → RefusedBy bytes s (to-write l o) number place
 
 -- r is a refusal of call q: number and place; "All counts in it are 0, each lent buffer keeps its bytes, and the sheet comes back as given"
 pub record IsRefusal (bytes s : List ℕ) (q : Request) (r : Result) : Type 0 where

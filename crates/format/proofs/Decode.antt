@@ -23,7 +23,7 @@ join f w r d p q t =
     ∙ t
 
 -- n rows, written, stand before what is behind them
-rows-then : (s : List ℕ) (a p n : ℕ) → flat (rowsAt s a p n) ++ drop (p + n * a) s ≡ drop p s
+pub rows-then : (s : List ℕ) (a p n : ℕ) → flat (rowsAt s a p n) ++ drop (p + n * a) s ≡ drop p s
 unfolding rowsAt
 rows-then s a p zero = rw (zero-mul, add-zero)
 rows-then s a p (suc n) =
@@ -77,7 +77,7 @@ module _ (s : List ℕ) (bytes : Bytes s) where
         rw e at (tables-then (tableCount s) 0 (omega arith))
 
     -- so the tables are as long as the trailer says
-    list-length : length (tablesBytes (bookOf s .tables)) ≡ listPlace s
+    pub list-length : length (tablesBytes (bookOf s .tables)) ≡ listPlace s
     list-length =
         let w = p .whole in
         omega (arith, simp (length-append, length-drop) at (ap length list-then))

@@ -24,3 +24,8 @@ all-or P (x ∷ xs) z d a (suc k) = all-or P xs z d (a .1) k
 pub all-append : {A : Type 0} (P : A → Type 0) (xs ys : List A) → All P xs → All P ys → All P (xs ++ ys)
 all-append P [] ys a b = b
 all-append P (x ∷ xs) ys a b = (a .0, all-append P xs ys (a .1) b)
+
+-- and the other way
+pub all-split : {A : Type 0} (P : A → Type 0) (xs ys : List A) → All P (xs ++ ys) → All P xs × All P ys
+all-split P [] ys a = (tt, a)
+all-split P (x ∷ xs) ys a = let r = all-split P xs ys (a .1) in ((a .0, r .0), r .1)

@@ -16,28 +16,41 @@ use Rattle.format.proofs.Views.{noTable, tables-count, table-view, coun
 use Rattle.format.proofs.Tables.{table-promise}
 
 -- a two-byte number, read
-word-read : (s : List ℕ) (p n : ℕ) (xs : List ℕ) → drop p s ≡ word n ++ xs → le16 s p ≡ n
+pub word-read : (s : List ℕ) (p n : ℕ) (xs : List ℕ) → drop p s ≡ word n ++ xs → le16 s p ≡ n
 word-read s p n xs e =
     let lo = byte-front s p _ _ e in
     let hi = byte-front s (p + 1) _ _ (drop-behind s p (n % 256 ∷ []) (n / 256 ∷ xs) e) in
     omega arith
 
+-- each row has as many codes as the table has fields
+abbrev pub Even : Table → Type 0
+Even t = All (λ r. length r ≡ length (t .fields)) (t .rows)
+
+-- so it is in tables of the layout
+rows-even : (counts fs : List ℕ) (rows : List (List ℕ)) → All (RowOk counts fs) rows → All (λ r. length r ≡ length fs) rows
+rows-even counts fs [] o = tt
+rows-even counts fs (r ∷ rs) o = (row-length counts fs r (o .0), rows-even counts fs rs (o .1))
+
+pub tables-even : (counts : List ℕ) (ts : List Table) → All (TableOk counts) ts → All Even ts
+tables-even counts [] o = tt
+tables-even counts (t ∷ ts) o = (rows-even counts (t .fields) (t .rows) (o .0 .codes), tables-even counts ts (o .1))
+
 -- rows of as many codes as the table has fields, read
-rows-read : (s counts fs post : List ℕ) (rows : List (List ℕ)) (p : ℕ) → All (RowOk counts fs) rows
+pub rows-read : (s fs post : List ℕ) (rows : List (List ℕ)) (p : ℕ) → All (λ r. length r ≡ length fs) rows
     → drop p s ≡ flat rows ++ post → (rowsAt s (length fs) p (length rows) ≡ rows) × (drop (p + length rows * length fs) s ≡ post)
 unfolding rowsAt
-rows-read s counts fs post [] p o e = (refl, rw (zero-mul, add-zero) e)
-rows-read s counts fs post (r ∷ rs) p o e =
-    let l = row-length counts fs r (o .0) in
+rows-read s fs post [] p o e = (refl, rw (zero-mul, add-zero) e)
+rows-read s fs post (r ∷ rs) p o e =
+    let l = o .0 in
     let d : drop p s ≡ r ++ (flat rs ++ post) = e ∙ append-assoc r (flat rs) post in
     let q : drop (p + length fs) s ≡ flat rs ++ post = rw l at (drop-behind s p r (flat rs ++ post) d) in
     let f : part s p (length fs) ≡ r = rw l at (part-front s p r (flat rs ++ post) d) in
-    let i = rows-read s counts fs post rs (p + length fs) (o .1) q in
+    let i = rows-read s fs post rs (p + length fs) (o .1) q in
     let m : p + suc (length rs) * length fs ≡ p + length fs + length rs * length fs = omega (arith, suc-mul (length rs) (length fs)) in
     (rw (f, i .0), rw m (i .1))
 
 -- a table that stands at p, read: its bytes in turn, its two numbers, and the table whole
-module _ (s counts post : List ℕ) (t : Table) (p : ℕ) (ok : TableOk counts t) (here : drop p s ≡ tableBytes t ++ post) where
+module _ (s post : List ℕ) (t : Table) (p : ℕ) (even : Even t) (here : drop p s ≡ tableBytes t ++ post) where
   after-first : drop p s ≡ length (t .fields) ∷ (t .fields ++ (word (length (t .rows)) ++ (flat (t .rows) ++ post)))
   unfolding tableBytes
   after-first = here ∙ simp append-assoc
@@ -62,18 +75,18 @@ module _ (s counts post : List ℕ) (t : Table) (p : ℕ) (ok : TableOk counts t
   table-read : (tableAt s p ≡ t) × (drop (tableEnd s p) s ≡ post)
   unfolding tableAt
   table-read =
-      let r = rows-read s counts (t .fields) post (t .rows) (p + 3 + length (t .fields)) (ok .codes) rows-here in
+      let r = rows-read s (t .fields) post (t .rows) (p + 3 + length (t .fields)) even rows-here in
       let f = part-front s (p + 1) (t .fields) _ fields-here in
       rw (rows-of-read, arity-read) (rw (f, r .0) refl, r .1)
 
 -- the tables that stand at table k's place, read
-tables-read : (s counts post : List ℕ) (ts : List Table) (k : ℕ) → All (TableOk counts) ts → drop (place s k) s ≡ tablesBytes ts ++ post
+tables-read : (s post : List ℕ) (ts : List Table) (k : ℕ) → All Even ts → drop (place s k) s ≡ tablesBytes ts ++ post
     → (tablesAt s (place s k) (length ts) ≡ ts) × (drop (place s (k + length ts)) s ≡ post)
 unfolding tablesAt place
-tables-read s counts post [] k o e = (refl, rw add-zero e)
-tables-read s counts post (t ∷ ts) k o e =
-    let r = table-read s counts (tablesBytes ts ++ post) t (place s k) (o .0) (e ∙ append-assoc (tableBytes t) (tablesBytes ts) post) in
-    let i = tables-read s counts post ts (suc k) (o .1) (r .1) in
+tables-read s post [] k o e = (refl, rw add-zero e)
+tables-read s post (t ∷ ts) k o e =
+    let r = table-read s (tablesBytes ts ++ post) t (place s k) (o .0) (e ∙ append-assoc (tableBytes t) (tablesBytes ts) post) in
+    let i = tables-read s post ts (suc k) (o .1) (r .1) in
     let m : k + suc (length ts) ≡ suc k + length ts = omega arith in
     (rw (r .0, i .0), rw m (i .1))
 
@@ -151,12 +164,12 @@ module _ (b : Book) where
   unfolding trailerBytes
   closing-read = trailer-byte (length (encode b) - 1) 5 (omega (arith, encode-length))
 
-  module _ (well : WellFormed b) where
+  module _ (even : All Even (b .tables)) where
     -- the tables, read
     all-read : (tablesAt (encode b) 0 (length (b .tables)) ≡ b .tables)
         × (drop (place (encode b) (0 + length (b .tables))) (encode b) ≡ b .counts ++ trailerBytes b)
     unfolding place encode
-    all-read = tables-read (encode b) (b .counts) (b .counts ++ trailerBytes b) (b .tables) 0 (well .each) refl
+    all-read = tables-read (encode b) (b .counts ++ trailerBytes b) (b .tables) 0 even refl
 
     -- the tables end where the field list begins
     last-read : place (encode b) (length (b .tables)) ≡ length (tablesBytes (b .tables))
@@ -166,13 +179,18 @@ module _ (b : Book) where
         let m = simp (length-drop, length-append) at (ap length list-here) in
         omega (arith, encode-length)
 
+    -- the bytes hold the book, also one that is not well formed
+    pub even-book : bookOf (encode b) ≡ b
+    unfolding bookOf
+    even-book = rw (version-read, list-read, fields-read, count-read, all-read .0, part-front (encode b) (length (tablesBytes (b .tables))) (b .counts) (trailerBytes b) list-here)
+
+  module _ (well : WellFormed b) where
     -- the bytes hold the book
     pub book-of : bookOf (encode b) ≡ b
-    unfolding bookOf
-    book-of = rw (version-read, list-read, fields-read, count-read, all-read .0, part-front (encode b) (length (tablesBytes (b .tables))) (b .counts) (trailerBytes b) list-here)
+    book-of = even-book (tables-even (b .counts) (b .tables) (well .each))
 
     -- the bytes meet the promise
     pub layout-promise : Promise (encode b)
     layout-promise =
         promise-from (encode b) (well .short) closing-read (omega (arith, list-read, fields-read, encode-length))
-        (rw (count-read, list-read) last-read) (rw book-of well)
+        (rw (count-read, list-read) (last-read (tables-even (b .counts) (b .tables) (well .each)))) (rw book-of well)

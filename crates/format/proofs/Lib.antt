@@ -19,3 +19,13 @@ pub mod Bytes
 pub mod Accepts
 pub mod Sizes
 pub mod Witness
+pub mod Storing
+pub mod Replies
+pub mod Copying
+pub mod ByteTests
+pub mod Parsing
+pub mod Rebuilding
+pub mod ListingWords
+pub mod Writable
+pub mod WriteAndShow
+pub mod E1Listing

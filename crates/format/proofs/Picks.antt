@@ -32,6 +32,18 @@ pub both-true : (s t : Bool) → s && t ≡ true → (s ≡ true) × (t ≡ true
 both-true true t e = (refl, e)
 both-true false t e = let z : _≡_ {A = ℕ} 0 1 = cc in absurd (omega arith)
 
+-- and the other way
+pub both-pass : (s t : Bool) → s ≡ true → t ≡ true → s && t ≡ true
+both-pass true t e f = f
+both-pass false t e f = e
+
+-- two tests are one where each passes with the other
+pub same-test : (s t : Bool) → (s ≡ true → t ≡ true) → (t ≡ true → s ≡ true) → s ≡ t
+same-test true true f g = refl
+same-test true false f g = let z = f refl in cc
+same-test false true f g = g refl
+same-test false false f g = refl
+
 -- a number between two is at least the one and at most the other
 pub between-true : (lo hi x : ℕ) → between lo hi x ≡ true → (lo ≤ x) × (x ≤ hi)
 between-true lo hi x e =

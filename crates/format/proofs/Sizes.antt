@@ -1,33 +1,62 @@
--- How long an accepted book is: from 7 bytes to what its limits allow. Assumes nothing.
-use mathlib.Core.Path.{_≡_}
-use mathlib.Core.List.{List}
-use Prim.Native.Nat.{ℕ, zero, suc, _+_, _*_, _≤_, _<_}
-use native.Mathlib.Nat.{add-zero, zero-add, mul-le-mul-left}
+-- How long a well-formed book is, and its listing: what their limits allow. Assumes nothing.
+use mathlib.Core.Path.{_≡_, refl}
+use mathlib.Core.List.{List, [], _∷_, _++_}
+use Prim.Native.Nat.{ℕ, _+_, _*_, _≤_}
+use native.Mathlib.Nat.{mul-le-mul-left}
 use native.Mathlib.Omega.{arith}
-use lib.ListN.{length}
-use Rattle.format.specs.Format.{fieldLimit, arityLimit, tableLimit, rowLimit, rowTotal, tableCount, versionOf, arityAt, rowsOf, tablesAt, bookOf}
-use Rattle.format.specs.Promise.{place, Promise}
-use Rattle.format.proofs.Views.{table-rows}
+use lib.Dec.{eqb}
+use lib.ListN.{length, length-append}
+use Rattle.format.specs.Basics.{All}
+use Rattle.format.specs.Format.{Table, Book, TableOk, WellFormed, fieldLimit, arityLimit, tableLimit, rowLimit, rowTotal, word, flat, tableBytes, tablesBytes, encode}
+use Rattle.format.specs.Listing.{tableNumbers, tablesNumbers, listingOf}
+use Rattle.format.specs.Writing.{bookLimit, listingLimit}
+use Rattle.format.proofs.Picks.{pick-holds}
+use Rattle.format.proofs.Encode.{tables-even, encode-length}
+use Rattle.format.proofs.Parsing.{flat-length, listing-length}
 
--- a table has at most seven bytes beside its rows, and a row at most four
-places-near : (s : List ℕ) (n k : ℕ) → ((i : ℕ) → i < k + n → arityAt s (place s i) ≤ arityLimit)
-    → place s (k + n) ≤ place s k + n * 7 + arityLimit * rowTotal (tablesAt s (place s k) n)
-unfolding place tablesAt
-places-near s zero k few = rw (add-zero k) (omega arith)
-places-near s (suc n) k few =
-    let e : k + suc n ≡ suc k + n = omega arith in
-    let r = places-near s n (suc k) (λ i h. few i (omega arith)) in
-    let a : arityAt s (place s k) ≤ 4 = few k (omega arith) in
-    let m : rowsOf s (place s k) * arityAt s (place s k) ≤ rowsOf s (place s k) * 4 = mul-le-mul-left (rowsOf s (place s k)) a in
-    rw e (omega (arith, table-rows s (place s k)))
+-- a table has one number less than bytes
+pub table-longer : (t : Table) → length (tableBytes t) ≡ length (tableNumbers t) + 1
+unfolding tableBytes tableNumbers
+table-longer t =
+    omega (arith, length-append (t .fields) (word (length (t .rows)) ++ flat (t .rows)), length-append (t .fields) (length (t .rows) ∷ flat (t .rows)))
 
--- a field, and the trailer's six bytes; tables, rows and fields within their limits
-pub book-length : (s : List ℕ) → Promise s
-    → (7 ≤ length s) × (length s ≤ tableLimit * 7 + arityLimit * rowLimit + fieldLimit (versionOf s) + 6)
-unfolding bookOf place
-book-length s p =
-    let w = p .whole in
-    let n : place s (0 + tableCount s) ≤ 0 + tableCount s * 7 + arityLimit * rowTotal (bookOf s .tables) =
-    places-near s (tableCount s) 0 (λ i h. p .tables i (omega arith) .few) in
-    let l = rw (zero-add (tableCount s)) at n in
-    (omega (arith, p .some), omega (arith, p .few, p .tables-few, p .rows-few, p .last))
+pub tables-longer : (ts : List Table) → length (tablesBytes ts) ≡ length (tablesNumbers ts) + length ts
+tables-longer [] = refl
+tables-longer (t ∷ ts) =
+    omega (arith, length-append (tableBytes t) (tablesBytes ts), length-append (tableNumbers t) (tablesNumbers ts), table-longer t, tables-longer ts)
+
+-- at most four fields, so two numbers and at most four beside its rows, and at most four a row
+table-near : (counts : List ℕ) (t : Table) → TableOk counts t → length (tableNumbers t) ≤ 2 + arityLimit + arityLimit * length (t .rows)
+unfolding tableNumbers
+table-near counts t ok =
+    let f = flat-length (length (t .fields)) (t .rows) (tables-even counts (t ∷ []) (ok, tt) .0) in
+    let m : length (t .rows) * length (t .fields) ≤ length (t .rows) * 4 = mul-le-mul-left (length (t .rows)) (ok .few) in
+    omega (arith, ok .few, length-append (t .fields) (length (t .rows) ∷ flat (t .rows)))
+
+tables-near : (counts : List ℕ) (ts : List Table) → All (TableOk counts) ts
+    → length (tablesNumbers ts) ≤ length ts * (2 + arityLimit) + arityLimit * rowTotal ts
+tables-near counts [] o = omega arith
+tables-near counts (t ∷ ts) o =
+    omega (arith, length-append (tableNumbers t) (tablesNumbers ts), table-near counts t (o .0), tables-near counts ts (o .1))
+
+-- no version has more fields
+limit-most : (v : ℕ) → fieldLimit v ≤ fieldLimit 1
+limit-most v = pick-holds (λ n. n ≤ fieldLimit 1) (eqb v 1) (omega arith) (omega arith)
+
+module _ (b : Book) (well : WellFormed b) where
+  -- a field, and the trailer's six bytes; tables, rows and fields within their limits
+  pub book-length : (7 ≤ length (encode b))
+      × (length (encode b) ≤ tableLimit * (3 + arityLimit) + arityLimit * rowLimit + fieldLimit (b .version) + 6)
+  book-length =
+      let n = tables-near (b .counts) (b .tables) (well .each) in
+      let l = encode-length b in
+      let t = tables-longer (b .tables) in
+      (omega (arith, well .some), omega (arith, well .few, well .tables-few, well .rows-few))
+
+  pub book-few : length (encode b) ≤ bookLimit
+  book-few = omega (arith, book-length .1, limit-most (b .version))
+
+  pub listing-few : length (listingOf b) ≤ listingLimit
+  listing-few =
+      let n = tables-near (b .counts) (b .tables) (well .each) in
+      omega (arith, listing-length b, well .few, well .tables-few, well .rows-few, limit-most (b .version))

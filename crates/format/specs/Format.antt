@@ -68,9 +68,11 @@ tablesBytes [] = []
 tablesBytes (t ∷ ts) = tableBytes t ++ tablesBytes ts
 
 -- "a six-byte trailer that points back": place of the field list, number of fields, number of tables, version, closing byte
+abbrev pub trailer : ℕ → ℕ → ℕ → ℕ → List ℕ
+trailer place fields tables version = word place ++ (fields ∷ tables ∷ version ∷ closingByte ∷ [])
+
 unfoldable pub trailerBytes : Book → List ℕ
-trailerBytes b =
-    word (length (tablesBytes (b .tables))) ++ (length (b .counts) ∷ length (b .tables) ∷ b .version ∷ closingByte ∷ [])
+trailerBytes b = trailer (length (tablesBytes (b .tables))) (length (b .counts)) (length (b .tables)) (b .version)
 
 -- "Behind the last table stands the field list, one byte a field"; "The book ends in a six-byte trailer"
 unfoldable pub encode : Book → List ℕ

@@ -3,4 +3,7 @@ pub mod Format
 pub mod Reading
 pub mod Promise
 pub mod Layout
+pub mod Listing
+pub mod Writing
+pub mod WriteAndShow
 pub mod Examples

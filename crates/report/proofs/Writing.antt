@@ -7,7 +7,7 @@ use native.Mathlib.Omega.{arith}
 use native.Mathlib.Numerals.{add-one}
 use lib.ListN.{length, getD, take, set, length-append}
 use lib.Seq.{sets, length-sets, take-suc, take-all}
-use Rattle.sheet.proofs.Upward.{sets-append}
+use Rattle.format.proofs.Storing.{sets-append}
 use Rattle.report.specs.Writes.{Room, Puts}
 
 module _ {o : List ℕ} {at : ℕ} {t o′ : List ℕ} {r : ℕ} (p : Puts o at t o′ r) where

@@ -4,12 +4,12 @@ use Prim.Native.Nat.{ℕ, _≤_, _<_}
 use mathlib.Core.Path.{_≡_}
 use mathlib.Core.Logic.{_↔_}
 use mathlib.Core.Bool.{not}
-use mathlib.Core.List.{List, [], _∷_, _++_}
-use lib.ListN.{length, drop}
-use lib.Dec.{T, ltb}
-use Rattle.format.specs.Basics.{pick}
+use mathlib.Core.List.{List, [], _∷_}
+use lib.ListN.{length}
+use lib.Dec.{T}
 use Rattle.format.specs.Format.{Book}
-use Rattle.format.specs.Reading.{Outcome, refused, accepted}
+use Rattle.format.specs.Reading.{accepted}
+use Rattle.format.specs.Writing.{Reply, declined, into}
 use Rattle.consistency.specs.Consistency.{Subdomain, IsLargest}
 use Rattle.consistency.specs.Counts.{answered, Line, lines, total}
 use Rattle.consistency.specs.Order.{In, InOrder}
@@ -39,23 +39,11 @@ textLimit = 11305
 abbrev pub TextFits : Type 0
 TextFits = (bytes form : List ℕ) → length (reportText bytes form) ≤ textLimit
 
--- what report leaves: its answer, and the buffer's contents
-pub record Printing : Type 0 where
-  pub outcome : Outcome
-  pub buffer : List ℕ
-
--- a text that fits stands before what o keeps, and its length is counted; 18, too few bytes lent, leaves o as it was
-unfoldable pub printing : List ℕ → List ℕ → Printing
-printing text o =
-    pick (ltb (length o) (length text))
-    (record { outcome = refused 1 18 0; buffer = o })
-    (record { outcome = accepted (length text ∷ []); buffer = text ++ drop (length text) o })
-
 -- the answer of report, with the buffer's contents
-abbrev pub shown : Printed → List ℕ → Printing
+abbrev pub shown : Printed → List ℕ → Reply
 shown (Written n) o = record { outcome = accepted (n ∷ []); buffer = o }
-shown TooShort o = record { outcome = refused 1 18 0; buffer = o }
+shown TooShort o = declined o 18 0
 
 -- where textLimit bytes are lent, 18 does not happen
 abbrev pub ReportSuffices : Type 0
-ReportSuffices = (bytes form o : List ℕ) → textLimit ≤ length o → printing (reportText bytes form) o .outcome .number ≡ 0
+ReportSuffices = (bytes form o : List ℕ) → textLimit ≤ length o → into (reportText bytes form) o .outcome .number ≡ 0

@@ -3,8 +3,9 @@ ghost use mathlib.Core.Path.{_≡_};
 ghost use Prim.Native.Nat.{_≤_};
 ghost use lib.ListN.{length};
 ghost use Rattle.format.specs.Format.{bookOf};
+ghost use Rattle.format.specs.Writing.{into};
 ghost use Rattle.report.specs.Text.{sheetText, reportText};
-ghost use Rattle.report.specs.Report.{textLimit, printing, shown};
+ghost use Rattle.report.specs.Report.{textLimit, shown};
 ghost use Rattle.report.specs.Writes.{Room, Puts};
 ghost use Rattle.report.specs.Held.{Stands};
 use book::Reading;
@@ -95,7 +96,7 @@ fn put_text(out: &mut [u8], book: &[u8], form: &[u8]) -> usize
 
 // Prints what the desk says of a book and of a stored sheet. A text that does not fit is not written.
 pub fn report(book: &[u8], form: &[u8], out: &mut [u8]) -> Printed
-    ensures { λ r. ⌜ shown r (now (out .exit)) ≡ printing (reportText (now (book .entry)) (now (form .entry))) (now (out .entry)) ⌝ }
+    ensures { λ r. ⌜ shown r (now (out .exit)) ≡ into (reportText (now (book .entry)) (now (form .entry))) (now (out .entry)) ⌝ }
 {
     let mut text = [0; TEXT_LIMIT];
     let length = put_text(&mut text, book, form);

@@ -1,12 +1,14 @@
 -- Each way through the calls on a sheet: the tests passed so far and the one that fails give the refusal, all passed give the result. A law's name has the refusal's number. Assumes nothing.
-use mathlib.Core.Path.{_≡_, sym, _∙_}
+use mathlib.Core.Path.{_≡_, sym, ap, _∙_}
 use mathlib.Core.List.{List, [], _++_}
 use Prim.Native.Nat.{ℕ, _+_, _≤_, _<_}
 use native.Mathlib.Omega.{arith}
 use lib.ListN.{length, getD, set, take, drop}
+use lib.Seq.{length-take-le}
 use borrow.Author.Tests.{lt-ltb, le-ltb, eq-eqb, ne-eqb}
 use Rattle.format.specs.Format.{byte}
 use Rattle.format.specs.Reading.{fail}
+use Rattle.format.proofs.Copying.{copied-whole}
 use Rattle.consistency.specs.Consistency.{places, answer}
 use Rattle.calls.specs.Calls.{turned, done, entered, withdrawn, stored}
 use Rattle.sheet.specs.Opened.{opening}
@@ -94,6 +96,15 @@ module _ (bytes s o : List ℕ) where
     stored-18 h = on-ready 0 bytes s o _ (p .passes) _ (simp (fields-count bytes list fields (p .at), lt-ltb))
 
     -- the bytes of the fields are written, and the others stay
-    pub stored-done : fields ≤ length o → done [] s (take fields s ++ drop fields o) ≡ stored bytes s o
+    bytes-done : fields ≤ length o → done [] s (take fields s ++ drop fields o) ≡ stored bytes s o
     unfolding stored
-    stored-done h = on-ready 0 bytes s o _ (p .passes) _ (simp (fields-count bytes list fields (p .at), le-ltb))
+    bytes-done h = on-ready 0 bytes s o _ (p .passes) _ (simp (fields-count bytes list fields (p .at), le-ltb))
+
+    -- so they are where o′ is o with them copied
+    pub stored-done : fields ≤ length s → fields ≤ length o → (o′ : List ℕ)
+        → o′ ≡ take (length o) (take fields s) ++ drop (length (take fields s)) o → done [] s o′ ≡ stored bytes s o
+    stored-done k h o′ e =
+        let n : length (take fields s) ≡ fields = length-take-le fields s k in
+        let c : o′ ≡ take fields s ++ drop fields o =
+        e ∙ copied-whole (take fields s) o (omega arith) ∙ ap (λ (i : ℕ). take fields s ++ drop i o) n in
+        ap (done [] s) c ∙ bytes-done h

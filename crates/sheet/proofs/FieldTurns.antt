@@ -10,6 +10,7 @@ use lib.ListN.{length, getD, drop}
 use lib.Seq.{sets, sets-eq, length-sets}
 use borrow.Author.Tests.{eq-eqb, ne-eqb}
 use Rattle.format.specs.Format.{codeLimit, byte, bookOf}
+use Rattle.format.proofs.Storing.{sets-append}
 use Rattle.format.proofs.Verdict.{verdict-promise}
 use Rattle.consistency.specs.Counting.{howMany}
 use Rattle.consistency.specs.Consistency.{places, codes, answer}
@@ -20,7 +21,7 @@ use Rattle.filter.proofs.Limits.{codes-few}
 use Rattle.sheet.specs.Lists.{stands, linesBelow, ownCase, InMarks, Room, Passed}
 use Rattle.sheet.proofs.Openings.{fields-end, fields-few, fields-count, codes-at}
 use Rattle.sheet.proofs.Places.{answer-at}
-use Rattle.sheet.proofs.Upward.{many-more, many-same, sets-append}
+use Rattle.sheet.proofs.Upward.{many-more, many-same}
 use Rattle.sheet.proofs.Fields.{alternativesOf, fieldLines, totalBelow, bytesBelow, total-is, lines-are-below, length-bytes, total-more, bytes-more, total-same, bytes-same, total-rises}
 
 module _ {s a M : List ℕ} {list fields : ℕ} (x : Passed s a M list fields) where

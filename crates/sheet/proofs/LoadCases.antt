@@ -1,18 +1,18 @@
 -- Each way through load, and the sheet that it makes of a stored form. A law's name has the refusal's number. Assumes nothing.
-use mathlib.Core.Path.{_≡_, sym, ap, _∙_}
+use mathlib.Core.Path.{_≡_, ap, _∙_}
 use mathlib.Core.List.{List, [], _++_}
 use Prim.Native.Nat.{ℕ, zero, suc, _-_, _≤_, _<_}
 use native.Mathlib.Nat.{sub-zero, zero-sub}
 use native.Mathlib.Omega.{arith}
 use lib.ListN.{length, take, drop, replicate}
-use lib.Seq.{take-length}
 use borrow.Author.Tests.{lt-ltb, le-ltb, eq-eqb, ne-eqb}
 use Rattle.format.specs.Format.{bookOf}
 use Rattle.format.specs.Reading.{fail, verdict}
+use Rattle.format.proofs.Copying.{copied-whole}
 use Rattle.consistency.specs.Consistency.{places}
 use Rattle.calls.specs.Calls.{freshSheet, turned, done, faultOf, sheetFrom, loaded}
 use Rattle.sheet.specs.Opened.{FieldsAt}
-use Rattle.sheet.proofs.Openings.{fields-count}
+use Rattle.sheet.proofs.Openings.{fields-few, fields-count}
 
 -- the last of m equal elements
 drop-replicate : (n m x : ℕ) → drop n (replicate m x) ≡ replicate (m - n) x
@@ -20,9 +20,9 @@ drop-replicate zero m x = rw sub-zero
 drop-replicate (suc n) zero x = rw zero-sub
 drop-replicate (suc n) (suc m) x = let d : suc m - suc n ≡ m - n = omega arith in rw d (drop-replicate n m x)
 
--- a stored form over the first places of a fresh sheet
-form-over : (form : List ℕ) → take (length form) form ++ drop (length form) freshSheet ≡ sheetFrom form
-form-over form = rw (take-length form, drop-replicate (length form) places 255)
+-- a stored form, copied over the first places of a fresh sheet
+form-over : (form : List ℕ) → length form ≤ places → take places form ++ drop (length form) freshSheet ≡ sheetFrom form
+form-over form h = copied-whole form freshSheet h ∙ ap (λ (l : List ℕ). form ++ l) (drop-replicate (length form) places 255)
 
 -- a refusal that hands back a fresh sheet
 pub turned-fresh : (s : List ℕ) (number place : ℕ) → s ≡ freshSheet → turned 0 s [] number place ≡ turned 0 freshSheet [] number place
@@ -41,11 +41,11 @@ module _ (bytes form : List ℕ) where
     loaded-19 h = simp (at .passes, fields-count bytes list fields at, ne-eqb)
 
     -- s is the sheet made of it, and fault the first place at fault, or the number of places
-    module _ (h : length form ≡ fields) (s : List ℕ) (is : s ≡ take fields form ++ drop fields freshSheet)
+    module _ (h : length form ≡ fields) (s : List ℕ) (is : s ≡ take places form ++ drop (length form) freshSheet)
         (fault : ℕ) (e : fault ≡ faultOf (bookOf bytes) s) where
       -- it is the sheet of the definition
       made : s ≡ sheetFrom form
-      made = is ∙ ap (λ (n : ℕ). take n form ++ drop n freshSheet) (sym h) ∙ form-over form
+      made = is ∙ form-over form (omega (arith, fields-few bytes list fields at))
 
       -- a place is at fault
       pub loaded-14 : fault < places → turned 0 freshSheet [] 14 fault ≡ loaded bytes form

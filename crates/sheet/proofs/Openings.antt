@@ -1,5 +1,5 @@
 -- What is known where book and sheet pass 1 to 14, and what every call on a sheet answers by them. Assumes nothing.
-use mathlib.Core.Path.{_≡_, sym, ap, ap₂, subst, _∙_}
+use mathlib.Core.Path.{_≡_, sym, ap, subst, _∙_}
 use mathlib.Core.List.{List}
 use Prim.Native.Nat.{ℕ, _+_, _≤_, _<_}
 use native.Mathlib.Omega.{arith}
@@ -7,19 +7,16 @@ use lib.Dec.{ltb, eqb}
 use lib.ListN.{length, List·getD-eq-default}
 use borrow.Author.Tests.{lt-ltb, le-ltb}
 use Rattle.format.specs.Format.{Book, codeLimit, byte, versionOf, bookOf}
-use Rattle.format.specs.Reading.{Outcome, refused, Verdict, pass, fail, andThen, verdict, outcome, checking}
+use Rattle.format.specs.Reading.{refused, Verdict, pass, fail, andThen, verdict, checking}
 use Rattle.format.proofs.Picks.{pick-holds, pick-first, pick-second}
 use Rattle.format.proofs.Trailer.{fail≢pass}
 use Rattle.format.proofs.Verdict.{verdict-promise, promise-verdict}
 use Rattle.format.proofs.Views.{counts-count, counts-view}
-use Rattle.book.specs.Shown as book
 use Rattle.book.specs.Shown.{shownCheck}
 use Rattle.book.specs.View.{Viewed}
-use Rattle.book.specs.declared.Refusal.{Refusal}
 use Rattle.book.specs.declared.Checked.{Checked}
-use Rattle.book.specs.declared.Checked.the-variants.{Good, Refused}
-use Rattle.book.proofs.Answers.{check-viewed}
-use Rattle.book.proofs.Injective.{number-some}
+use Rattle.book.specs.declared.Checked.the-variants.{Good}
+use Rattle.book.proofs.Checks.{checks-viewed}
 use Rattle.consistency.specs.Consistency.{places, codes}
 use Rattle.calls.specs.Calls.{Result, turned, faultOf, withBook, faultThen, onSheet}
 use Rattle.sheet.specs.Shown.{numberOf}
@@ -30,31 +27,15 @@ use Rattle.sheet.specs.declared.opened.Opened.the-variants.{Ready, Turne
 
 -- ---- what the reader's check answers
 
--- a refusal's outcome is told by its number and place
-outcome-fail : (v : Verdict) (counts : List ℕ) (k number place : ℕ) → 1 ≤ number
-    → refused k number place ≡ outcome v counts → fail number place ≡ v
-outcome-fail pass counts k number place h e = absurd (omega (arith, ap (λ (o : Outcome). o .number) e))
-outcome-fail (fail number′ place′) counts k number place h e =
-    ap₂ fail (ap (λ (o : Outcome). o .number) e) (ap (λ (o : Outcome). o .place) e)
-
 -- a view of a book finds its fields
 pub fields-at : {bytes : List ℕ} {list fields tables rows : ℕ} → Viewed bytes list fields tables rows → FieldsAt bytes list fields
 fields-at {bytes} v =
     record { passes = promise-verdict bytes (v .numbers .promise); list-is = v .numbers .list-is; fields-is = v .numbers .fields-is }
 
 module _ (bytes : List ℕ) (r : Checked) (is : shownCheck r ≡ checking bytes) where
-  -- it refuses the book
-  pub checks-bad : (kind : Refusal) (place : ℕ) → r ≡ Refused kind place → fail (book.numberOf kind) place ≡ verdict bytes
-  unfolding checking
-  checks-bad kind place e = outcome-fail (verdict bytes) _ 4 _ place (number-some kind) (sym (ap shownCheck e) ∙ is)
-
-  module _ (list fields tables rows : ℕ) (e : r ≡ Good list fields tables rows) where
-    -- it accepts the book: its numbers are those of a view
-    pub checks-viewed : Viewed bytes list fields tables rows
-    checks-viewed = check-viewed bytes list fields tables rows (sym (ap shownCheck e) ∙ is)
-
-    pub checks-good : FieldsAt bytes list fields
-    checks-good = fields-at checks-viewed
+  -- where it accepts the book, its numbers find the fields
+  pub checks-good : (list fields tables rows : ℕ) → r ≡ Good list fields tables rows → FieldsAt bytes list fields
+  checks-good list fields tables rows e = fields-at (checks-viewed bytes r is list fields tables rows e)
 
 -- ---- the fields of a book that passes, by places in its bytes
 

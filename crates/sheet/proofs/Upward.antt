@@ -1,5 +1,4 @@
--- Counts, sums, lists and lines over the numbers of which a test holds, one number more at a time; bytes stored one after another.
--- Assumes nothing.
+-- Counts, sums, lists and lines over the numbers of which a test holds, one number more at a time. Assumes nothing.
 use mathlib.Core.Path.{_≡_, refl, sym, ap, _∙_}
 use mathlib.Core.Bool.{Bool, true, false}
 use mathlib.Core.List.{List, [], _∷_, _++_, map, map-append, append-nil, append-assoc}
@@ -11,6 +10,7 @@ use native.Mathlib.Omega.{arith}
 use lib.ListN.{length, set, length-map}
 use lib.Seq.{sets, length-sets}
 use Rattle.format.specs.Basics.{pick}
+use Rattle.format.proofs.Storing.{sets-append}
 use Rattle.consistency.specs.Counting.{howMany, those, sumOver, joinOver}
 use Rattle.consistency.specs.Counts.{Line, lineBytes}
 use Rattle.consistency.proofs.Sums.{length-those}
@@ -51,15 +51,6 @@ join-append (x ∷ xs) ys g = ap (λ l. g x ++ l) (join-append xs ys g) ∙ sym 
 pub line-bytes-append : (ls ms : List Line) → lineBytes (ls ++ ms) ≡ lineBytes ls ++ lineBytes ms
 line-bytes-append [] ms = refl
 line-bytes-append (l ∷ ls) ms = ap (λ x. l .field ∷ l .code ∷ x) (line-bytes-append ls ms)
-
--- ---- bytes stored one after another
-
--- what is stored behind xs is stored as their continuation
-pub sets-append : (o : List ℕ) (at : ℕ) (xs ys : List ℕ) → sets (sets o at xs) (at + length xs) ys ≡ sets o at (xs ++ ys)
-sets-append o at [] ys = ap (λ i. sets o i ys) (add-zero at)
-sets-append o at (x ∷ xs) ys =
-    let e : at + suc (length xs) ≡ suc at + length xs = omega arith in
-    ap (λ i. sets (sets (set o at x) (suc at) xs) i ys) e ∙ sets-append (set o at x) (suc at) xs ys
 
 -- ---- the lines of one field
 

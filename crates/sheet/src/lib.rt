@@ -10,7 +10,6 @@ use book::Checked;
 use book::Refusal;
 use opened::Opened;
 
-mod copies;
 mod history;
 mod lists;
 mod masks;
@@ -257,7 +256,7 @@ impl Sheet {
                 if out.len() < fields {
                     return refuse(self, Reason::Room, 0);
                 }
-                copies::copy(&places, fields, out);
+                book::copy(&places[..fields], out);
                 Handed {
                     answer: Answer::Done,
                     sheet: self,
@@ -284,7 +283,7 @@ pub fn load(book: &[u8], form: &[u8]) -> Handed
                 return refuse(Sheet::fresh(), Reason::Length, 0);
             }
             let mut places = [255; 32];
-            copies::copy(form, fields, &mut places);
+            book::copy(form, &mut places);
             let fault = opened::first_fault(book, list, fields, places);
             if fault < opened::PLACES {
                 return refuse(Sheet::fresh(), Reason::Fault, fault);

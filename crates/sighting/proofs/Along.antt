@@ -1,15 +1,15 @@
--- What is told of one outcome, result or report is told of an equal one. Assumes nothing.
+-- What is told of one outcome, result or reply is told of an equal one. Assumes nothing.
 use Prim.Native.Nat.{ℕ}
 use mathlib.Core.Path.{_≡_, sym, ap, ap₂, _∙_, subst}
-use mathlib.Core.Logic.{_↔_}
+use mathlib.Core.Logic.{_≢_, _↔_}
 use mathlib.Core.List.{List}
 use Rattle.format.specs.Reading.{Outcome}
+use Rattle.format.specs.Writing.{Reply}
 use Rattle.calls.specs.Calls.{Result, alternatives}
 use Rattle.calls.specs.Histories.{Call, sheetAfter}
-use Rattle.report.specs.Report.{Printing}
 use Rattle.sheet.specs.Replayed.{Replayed}
 use Rattle.sheet.proofs.Replayed.{replayed}
-use Rattle.sighting.specs.Exported.{cellsOf, Tells, Exports, Prints, resultTold}
+use Rattle.sighting.specs.Exported.{cellsOf, Tells, Exports, Replies, resultTold}
 
 -- what tells an outcome tells an equal one
 pub tells-along : {number : ℕ} {cells : List ℕ} {o o′ : Outcome} → Tells number cells o → o ≡ o′ → Tells number cells o′
@@ -20,14 +20,19 @@ pub exports-along : {number : ℕ} {cells sheet buffer : List ℕ} {r r′ : Res
     → Exports number cells sheet buffer r → r ≡ r′ → Exports number cells sheet buffer r′
 exports-along {number} {cells} {sheet} {buffer} h e = subst (Exports number cells sheet buffer) e h
 
--- what a report leaves, an equal one leaves
-pub prints-along : {number : ℕ} {cells buffer : List ℕ} {p p′ : Printing} → Prints number cells buffer p → p ≡ p′ → Prints number cells buffer p′
-prints-along {number} {cells} {buffer} h e = subst (Prints number cells buffer) e h
+-- so with a reply
+pub replies-along : {number : ℕ} {cells buffer : List ℕ} {r r′ : Reply} → Replies number cells buffer r → r ≡ r′ → Replies number cells buffer r′
+replies-along {number} {cells} {buffer} h e = subst (Replies number cells buffer) e h
 
 -- what holds exactly where an outcome accepts holds exactly where the number that tells it is 0
 pub reads-told : {number : ℕ} {cells : List ℕ} {o o′ : Outcome} {L : Type 0}
     → Tells number cells o → o ≡ o′ → (o .number ≡ 0 ↔ L) → Tells number cells o′ × (number ≡ 0 ↔ L)
 reads-told {L = L} h e i = (tells-along h e, subst (λ (n : ℕ). n ≡ 0 ↔ L) (sym (h .number-is)) i)
+
+-- so with what holds exactly where it is not refused by 20
+pub writes-told : {number : ℕ} {cells buffer : List ℕ} {r r′ : Reply} {L : Type 0}
+    → Replies number cells buffer r → r ≡ r′ → (r .outcome .number ≢ 20 ↔ L) → Replies number cells buffer r′ × (number ≢ 20 ↔ L)
+writes-told {L = L} h e i = (replies-along h e, subst (λ (n : ℕ). n ≢ 20 ↔ L) (sym (h .tells .number-is)) i)
 
 -- a call whose outcome is told, and which hands the sheet back as given, leaves that sheet and its own buffer
 pub exports-kept : {number : ℕ} {cells sheet : List ℕ} {r r′ : Result}

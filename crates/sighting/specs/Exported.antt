@@ -5,8 +5,8 @@ use mathlib.Core.Path.{_≡_}
 use mathlib.Core.List.{List, _∷_}
 use lib.ListN.{getD, drop}
 use Rattle.format.specs.Reading.{Outcome}
+use Rattle.format.specs.Writing.{Reply}
 use Rattle.calls.specs.Calls.{Result}
-use Rattle.report.specs.Report.{Printing}
 
 -- the cells that are lent for an outcome
 abbrev pub cellsOf : Outcome → List ℕ
@@ -28,7 +28,7 @@ abbrev pub resultTold : ℕ → List ℕ → List ℕ → List ℕ → Result
 resultTold number cells sheet buffer =
     record { outcome = record { number = number; place = getD cells 0 0; counts = drop 1 cells }; sheet = sheet; buffer = buffer }
 
--- the report: its outcome told, and what the buffer holds
-pub record Prints (number : ℕ) (cells buffer : List ℕ) (p : Printing) : Type 0 where
-  pub tells : Tells number cells (p .outcome)
-  pub buffer-is : buffer ≡ p .buffer
+-- a call that is given no sheet: its outcome told, and what the memory lent holds
+pub record Replies (number : ℕ) (cells buffer : List ℕ) (r : Reply) : Type 0 where
+  pub tells : Tells number cells (r .outcome)
+  pub buffer-is : buffer ≡ r .buffer

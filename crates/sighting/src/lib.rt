@@ -3,21 +3,24 @@
 // given only reads it, so that it may be shared. A call returns its outcome's number, 0 where it is accepted, and writes the place and the
 // counts into the cells lent for them. A field or a code is any number: one that the book lacks has its refusal.
 ghost use mathlib.Core.Path.{_≡_};
-ghost use mathlib.Core.Logic.{_↔_};
+ghost use mathlib.Core.Logic.{_≢_, _↔_};
 ghost use mathlib.Core.List.{[]};
 ghost use Rattle.format.specs.Layout.{HasLayout};
 ghost use Rattle.format.specs.Reading.{reading};
+ghost use Rattle.format.specs.Writing.{into, showing, writing};
+ghost use Rattle.format.specs.WriteAndShow.{HasListing};
 ghost use Rattle.calls.specs.Calls.{freshSheet, cleared, entered, withdrawn, filtered, alternatives, loaded, stored};
 ghost use Rattle.calls.specs.Histories.{sheetAfter, callsIn};
-ghost use Rattle.report.specs.Report.{printing};
 ghost use Rattle.report.specs.Text.{reportText};
 ghost use Rattle.sheet.specs.Replayed.{Replayed};
-ghost use Rattle.sighting.specs.Exported.{Tells, Exports, Prints, resultTold};
+ghost use Rattle.sighting.specs.Exported.{Tells, Exports, Replies, resultTold};
 use book::Reading;
 use handed::hand;
 use handed::hand_list;
 use handed::tell;
 use handed::tell_list;
+use listing::Shown;
+use listing::Written;
 use report::Printed;
 use sheet::Sheet;
 
@@ -49,6 +52,51 @@ pub extern "C" fn sighting_read(book: &[u8], outcome: &mut [u64; 5]) -> u64
         Reading::Refused(kind, place) => {
             *outcome = [place as u64, 0, 0, 0, 0];
             book::number(kind)
+        }
+    }
+}
+
+// Shows a book's listing. Cells: place, numbers written.
+#[no_mangle]
+pub extern "C" fn sighting_show(book: &[u8], out: &mut [u16], outcome: &mut [u64; 2]) -> u64
+    ensures { λ r. ⌜ Replies r (now (outcome .exit)) (now (out .exit)) (showing (now (book .entry)) (now (out .entry))) ⌝ }
+{
+    let shown = listing::show(book, out);
+    match shown {
+        Shown::Numbers(count) => {
+            *outcome = [0, count as u64];
+            0
+        }
+        Shown::Refused(kind, place) => {
+            *outcome = [place as u64, 0];
+            book::number(kind)
+        }
+        Shown::TooShort => {
+            *outcome = [0, 0];
+            18
+        }
+    }
+}
+
+// Writes the bytes of the book that a listing says. Cells: place, bytes written.
+#[no_mangle]
+pub extern "C" fn sighting_write(listing: &[u16], out: &mut [u8], outcome: &mut [u64; 2]) -> u64
+    ensures answer { λ r. ⌜ Replies r (now (outcome .exit)) (now (out .exit)) (writing (now (listing .entry)) (now (out .entry))) ⌝ }
+    ensures listing { λ r. ⌜ r ≢ 20 ↔ HasListing (now (listing .entry)) ⌝ }
+{
+    let written = listing::write(listing, out);
+    match written {
+        Written::Bytes(count) => {
+            *outcome = [0, count as u64];
+            0
+        }
+        Written::Unwritable => {
+            *outcome = [0, 0];
+            20
+        }
+        Written::TooShort => {
+            *outcome = [0, 0];
+            18
         }
     }
 }
@@ -189,7 +237,7 @@ pub extern "C" fn sighting_report(
     out: &mut [u8],
     outcome: &mut [u64; 2],
 ) -> u64
-    ensures { λ r. ⌜ Prints r (now (outcome .exit)) (now (out .exit)) (printing (reportText (now (book .entry)) (now (form .entry))) (now (out .entry))) ⌝ }
+    ensures { λ r. ⌜ Replies r (now (outcome .exit)) (now (out .exit)) (into (reportText (now (book .entry)) (now (form .entry))) (now (out .entry))) ⌝ }
 {
     let printed = report::report(book, form, out);
     match printed {

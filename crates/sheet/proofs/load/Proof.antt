@@ -1,10 +1,10 @@
 -- `sheet::load` meets its contract: each way through its tests. Assumes nothing.
 use mathlib.Core.Path.{_∙_}
 use mathlib.Core.List.{[]}
-use Rattle.sheet.proofs.Openings.{checks-bad, checks-good, fields-few}
+use Rattle.book.proofs.Checks.{checks-bad}
+use Rattle.sheet.proofs.Openings.{checks-good}
 use Rattle.sheet.proofs.LoadCases.{turned-fresh, loaded-book, loaded-19, loaded-14, loaded-done}
 use borrow.Author.Needs.{needs}
-use native.Mathlib.Omega.{arith}
 use Rattle.sheet.proofs.load.Statement.{statement}
 use Rattle.sheet.proofs.load.Tie as tie
 
@@ -38,9 +38,7 @@ slice-aggregate-copy : tie.Need-slice-aggregate-copy
 slice-aggregate-copy c = search needs
 
 copy-requires : tie.Need-copy-requires
-copy-requires c κs =
-    let at = checks-good _ _ (c .before .before .before .before .before .check .ensures) _ _ _ _ (c .before .before .before .checked2 .given .1) in
-    (omega (arith, c .before .if1 .left), fields-few _ _ _ at)
+copy-requires c κs = search needs
 
 first-fault-requires : tie.Need-first-fault-requires
 first-fault-requires c κs = checks-good _ _ (c .before .before .before .before .before .before .before .check .ensures) _ _ _ _ (c .before .before .before .before .before .checked2 .given .1)

@@ -1,7 +1,7 @@
 -- `sighting_report` meets its contract: a text that is written, and one that does not fit. Assumes nothing.
 use mathlib.Core.Path.{refl, sym, ap₂, _∙_}
 use Rattle.report.specs.Report.{shown}
-use Rattle.sighting.proofs.Along.{prints-along}
+use Rattle.sighting.proofs.Along.{replies-along}
 use borrow.Author.Needs.{needs}
 use Rattle.sighting.proofs.sighting_report.Statement.{statement}
 use Rattle.sighting.proofs.sighting_report.Tie as tie
@@ -19,13 +19,13 @@ same-length : tie.Need-same-length
 same-length c = search needs
 
 returns : tie.Need-returns
-returns c = prints-along (record { tells = record { number-is = refl; cells-are = refl }; buffer-is = refl }) (sym (ap₂ shown (c .before .before .printed .given .1) refl) ∙ c .before .before .before .before .before .before .report .ensures)
+returns c = replies-along (record { tells = record { number-is = refl; cells-are = refl }; buffer-is = refl }) (sym (ap₂ shown (c .before .before .printed .given .1) refl) ∙ c .before .before .before .before .before .before .report .ensures)
 
 same-length-2 : tie.Need-same-length-2
 same-length-2 c = search needs
 
 returns-2 : tie.Need-returns-2
-returns-2 c = prints-along (record { tells = record { number-is = refl; cells-are = refl }; buffer-is = refl }) (sym (ap₂ shown (c .before .enum-told .given .1) refl) ∙ c .before .before .before .before .before .report .ensures)
+returns-2 c = replies-along (record { tells = record { number-is = refl; cells-are = refl }; buffer-is = refl }) (sym (ap₂ shown (c .before .enum-told .given .1) refl) ∙ c .before .before .before .before .before .report .ensures)
 
 pub sighting-report-spec : {M : Type 1} → statement M
 sighting-report-spec =

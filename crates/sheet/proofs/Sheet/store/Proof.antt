@@ -1,9 +1,7 @@
 -- `sheet::Sheet::store` meets its contract: each way through its tests. Assumes nothing.
-use mathlib.Core.Path.{_≡_, ap, _∙_}
-use mathlib.Core.List.{List, []}
-use Prim.Native.Nat.{ℕ}
+use mathlib.Core.Path.{_≡_, sym, _∙_}
 use lib.ListN.{length}
-use Rattle.calls.specs.Calls.{done}
+use lib.Seq.{length-take-le}
 use Rattle.sheet.proofs.Openings.{fields-few, opens-ready, opens-turned}
 use Rattle.sheet.proofs.CallCases.{stored-turned, stored-18, stored-done}
 use borrow.Author.Needs.{needs}
@@ -31,15 +29,22 @@ returns c =
     let o = opens-ready _ _ _ (c .before .before .before .before .before .«open» .ensures) _ _ _ _ (c .before .before .before .opened2 .given .1) in
     c .refuse2 .ensures _ ∙ stored-18 _ _ _ _ _ o (c .before .if1 .taken)
 
+array-share-prefix-places : tie.Need-array-share-prefix-places
+array-share-prefix-places c =
+    let o = opens-ready _ _ _ (c .before .before .before .before .«open» .ensures) _ _ _ _ (c .before .before .opened2 .given .1) in
+    let few = fields-few _ _ _ (o .at) in
+    let long : length (c .before .before .before .before .before .before .before .before .args .self .places) ≡ 32 = search needs in
+    omega arith
+
 slice-aggregate-copy : tie.Need-slice-aggregate-copy
-slice-aggregate-copy c = search needs
+slice-aggregate-copy c =
+    let o = opens-ready _ _ _ (c .before .before .before .before .before .«open» .ensures) _ _ _ _ (c .before .before .before .opened2 .given .1) in
+    let few = fields-few _ _ _ (o .at) in
+    let long : length (c .before .before .before .before .before .before .before .before .before .args .self .places) ≡ 32 = search needs in
+    sym (length-take-le _ (c .before .before .before .before .before .before .before .before .before .args .self .places) (omega arith))
 
 copy-requires : tie.Need-copy-requires
-copy-requires c κs =
-    let o = opens-ready _ _ _ (c .before .before .before .before .before .before .«open» .ensures) _ _ _ _ (c .before .before .before .before .opened2 .given .1) in
-    let few = fields-few _ _ _ (o .at) in
-    let long : length (c .before .before .before .before .before .before .before .before .before .before .args .self .places) ≡ 32 = search needs in
-    (omega arith, omega arith)
+copy-requires c κs = search needs
 
 returns-2 : tie.Need-returns-2
 returns-2 c = c .refuse .ensures _ ∙ stored-turned _ _ _ _ _ (opens-turned _ _ _ (c .before .before .before .before .«open» .ensures) _ _ (c .before .before .opened .given .1))
@@ -50,7 +55,9 @@ same-length c = search needs
 returns-3 : tie.Need-returns-3
 returns-3 c =
     let o = opens-ready _ _ _ (c .before .before .before .before .before .before .before .before .before .«open» .ensures) _ _ _ _ (c .before .before .before .before .before .before .before .opened2 .given .1) in
-    ap (λ (l : List ℕ). done [] (c .before .before .before .before .before .before .before .before .before .before .before .before .before .args .self .places) l) (c .before .before .copy .ensures) ∙ stored-done _ _ _ _ _ o (c .before .before .before .before .before .if1 .left)
+    let few = fields-few _ _ _ (o .at) in
+    let long : length (c .before .before .before .before .before .before .before .before .before .before .before .before .before .args .self .places) ≡ 32 = search needs in
+    stored-done _ _ _ _ _ o (omega arith) (c .before .before .before .before .before .if1 .left) _ (c .before .before .copy .ensures)
 
 pub store-spec : {M : Type 1} → statement M
 store-spec =
@@ -62,6 +69,7 @@ store-spec =
     enum-known-opened-2
     refuse-requires-2
     returns
+    array-share-prefix-places
     slice-aggregate-copy
     copy-requires
     returns-2

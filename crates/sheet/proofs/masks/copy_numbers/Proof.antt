@@ -3,7 +3,7 @@ use mathlib.Core.Path.{_≡_, refl, ap, _∙_}
 use mathlib.Core.List.{List, _++_}
 use Prim.Native.Nat.{ℕ, _≤_, _-_}
 use lib.ListN.{length, getD, take, drop, set}
-use Rattle.sheet.proofs.Copying.{copied-on, copied-length}
+use Rattle.format.proofs.Copying.{copied-on, copied-length}
 use borrow.Author.Needs.{needs}
 use native.Mathlib.Omega.{arith}
 use Rattle.sheet.proofs.masks.copy_numbers.Statement.{statement}

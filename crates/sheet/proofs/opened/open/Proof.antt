@@ -1,5 +1,6 @@
 -- `sheet::opened::open` meets its contract: both answers of the reader's check, and both of the test for 14. Assumes nothing.
-use Rattle.sheet.proofs.Openings.{fields-at, checks-bad, checks-viewed, checks-good, opening-book, opening-fault, opening-pass}
+use Rattle.book.proofs.Checks.{checks-bad, checks-viewed}
+use Rattle.sheet.proofs.Openings.{fields-at, checks-good, opening-book, opening-fault, opening-pass}
 use borrow.Author.Needs.{needs}
 use Rattle.sheet.proofs.opened.open.Statement.{statement}
 use Rattle.sheet.proofs.opened.open.Tie as tie

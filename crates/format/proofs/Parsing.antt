@@ -1,0 +1,123 @@
+-- A book's listing says that book, and ends where it ends. Assumes nothing.
+use mathlib.Core.Path.{_≡_, refl, sym, _∙_}
+use mathlib.Core.Bool.{Bool, true, false}
+use mathlib.Core.List.{List, [], _∷_, _++_, append-assoc}
+use Prim.Native.Nat.{ℕ, _+_, _*_, _≤_}
+use native.Mathlib.Nat.{add-zero, zero-mul, suc-mul}
+use native.Mathlib.Omega.{arith}
+use lib.Dec.{eqb}
+use lib.ListN.{length, drop, length-append}
+use borrow.Author.Tests.{eqb-true}
+use Rattle.format.specs.Basics.{pick, All}
+use Rattle.format.specs.Format.{Table, Book, WellFormed, fieldLimit, flat}
+use Rattle.format.proofs.Drops.{byte-front, part-front, drop-behind}
+use Rattle.format.proofs.Encode.{Even, tables-even, rows-read}
+use Rattle.format.specs.Listing.{tableNumbers, tablesNumbers, lastNumbers, listingOf, fieldsIn, tableCountIn, arityIn, rowCountIn, tableEndIn, tableIn, tablesIn, tablesEnd, versionIn, bookIn, listingEnd}
+
+-- the codes of rows that have k codes each
+pub flat-length : (k : ℕ) (rows : List (List ℕ)) → All (λ r. length r ≡ k) rows → length (flat rows) ≡ length rows * k
+flat-length k [] o = sym (zero-mul k)
+flat-length k (r ∷ rs) o = omega (arith, length-append r (flat rs), o .0, flat-length k rs (o .1), suc-mul (length rs) k)
+
+-- a table that stands at p, read: its numbers in turn, the table whole, and where it ends
+module _ (l post : List ℕ) (t : Table) (p : ℕ) (even : Even t) (here : drop p l ≡ tableNumbers t ++ post) where
+  after-first : drop p l ≡ length (t .fields) ∷ (t .fields ++ (length (t .rows) ∷ (flat (t .rows) ++ post)))
+  unfolding tableNumbers
+  after-first = here ∙ simp append-assoc
+
+  arity-read : arityIn l p ≡ length (t .fields)
+  arity-read = byte-front l p _ _ after-first
+
+  fields-here : drop (p + 1) l ≡ t .fields ++ (length (t .rows) ∷ (flat (t .rows) ++ post))
+  fields-here = drop-behind l p (length (t .fields) ∷ []) _ after-first
+
+  count-here : drop (p + 1 + length (t .fields)) l ≡ length (t .rows) ∷ (flat (t .rows) ++ post)
+  count-here = drop-behind l (p + 1) (t .fields) _ fields-here
+
+  count-read : rowCountIn l p ≡ length (t .rows)
+  count-read = rw arity-read (byte-front l (p + 1 + length (t .fields)) _ _ count-here)
+
+  rows-here : drop (p + 2 + length (t .fields)) l ≡ flat (t .rows) ++ post
+  rows-here =
+      let e : p + 2 + length (t .fields) ≡ p + 1 + length (t .fields) + 1 = omega arith in
+      rw e (drop-behind l (p + 1 + length (t .fields)) (length (t .rows) ∷ []) (flat (t .rows) ++ post) count-here)
+
+  table-read : (tableIn l p ≡ t) × (drop (tableEndIn l p) l ≡ post)
+  unfolding tableIn
+  table-read =
+      let r = rows-read l (t .fields) post (t .rows) (p + 2 + length (t .fields)) even rows-here in
+      let f = part-front l (p + 1) (t .fields) _ fields-here in
+      rw (count-read, arity-read) (rw (f, r .0) refl, r .1)
+
+  end-read : tableEndIn l p ≡ p + length (tableNumbers t)
+  unfolding tableNumbers
+  end-read =
+      rw (count-read, arity-read)
+      (omega (arith, length-append (t .fields) (length (t .rows) ∷ flat (t .rows)), flat-length (length (t .fields)) (t .rows) even))
+
+-- the tables that stand at p, read
+tables-read : (l post : List ℕ) (ts : List Table) (p : ℕ) → All Even ts → drop p l ≡ tablesNumbers ts ++ post
+    → (tablesIn l p (length ts) ≡ ts) × ((tablesEnd l p (length ts) ≡ p + length (tablesNumbers ts)) × (drop (tablesEnd l p (length ts)) l ≡ post))
+unfolding tablesIn tablesEnd
+tables-read l post [] p o e = (refl, (sym (add-zero p), e))
+tables-read l post (t ∷ ts) p o e =
+    let d : drop p l ≡ tableNumbers t ++ (tablesNumbers ts ++ post) = e ∙ append-assoc (tableNumbers t) (tablesNumbers ts) post in
+    let r = table-read l (tablesNumbers ts ++ post) t p (o .0) d in
+    let end = end-read l (tablesNumbers ts ++ post) t p (o .0) d in
+    let i = tables-read l post ts (tableEndIn l p) (o .1) (r .1) in
+    (rw (r .0, i .0), (omega (arith, i .1 .0, end, length-append (tableNumbers t) (tablesNumbers ts)), i .1 .1))
+
+-- a well-formed book is of version 1
+pub version-one : (v : ℕ) → 1 ≤ fieldLimit v → v ≡ 1
+version-one v h = go (eqb v 1) refl
+  where
+    go : (t : Bool) → eqb v 1 ≡ t → v ≡ 1
+    go true e = eqb-true v 1 e
+    go false e = let k : 1 ≤ pick {A = ℕ} false 32 0 = rw e at h in absurd (omega arith)
+
+module _ (b : Book) where
+  -- the parts of its listing, in their places
+  counts-here : drop 1 (listingOf b) ≡ b .counts ++ (length (b .tables) ∷ (tablesNumbers (b .tables) ++ lastNumbers (b .version)))
+  unfolding listingOf
+  counts-here = refl
+
+  tables-count-here : drop (1 + length (b .counts)) (listingOf b) ≡ length (b .tables) ∷ (tablesNumbers (b .tables) ++ lastNumbers (b .version))
+  tables-count-here = drop-behind (listingOf b) 1 (b .counts) _ counts-here
+
+  tables-here : drop (2 + length (b .counts)) (listingOf b) ≡ tablesNumbers (b .tables) ++ lastNumbers (b .version)
+  tables-here =
+      let e : 2 + length (b .counts) ≡ 1 + length (b .counts) + 1 = omega arith in
+      rw e (drop-behind (listingOf b) (1 + length (b .counts)) (length (b .tables) ∷ []) _ tables-count-here)
+
+  fields-count-read : fieldsIn (listingOf b) ≡ length (b .counts)
+  unfolding listingOf
+  fields-count-read = refl
+
+  tables-count-read : tableCountIn (listingOf b) ≡ length (b .tables)
+  tables-count-read = rw fields-count-read (byte-front (listingOf b) (1 + length (b .counts)) _ _ tables-count-here)
+
+  -- its length
+  pub listing-length : length (listingOf b) ≡ 2 + length (b .counts) + length (tablesNumbers (b .tables)) + length (lastNumbers (b .version))
+  unfolding listingOf
+  listing-length = simp length-append (omega arith)
+
+  module _ (well : WellFormed b) where
+    all-read : (tablesIn (listingOf b) (2 + length (b .counts)) (length (b .tables)) ≡ b .tables)
+        × ((tablesEnd (listingOf b) (2 + length (b .counts)) (length (b .tables)) ≡ 2 + length (b .counts) + length (tablesNumbers (b .tables)))
+        × (drop (tablesEnd (listingOf b) (2 + length (b .counts)) (length (b .tables))) (listingOf b) ≡ lastNumbers (b .version)))
+    all-read = tables-read (listingOf b) (lastNumbers (b .version)) (b .tables) (2 + length (b .counts)) (tables-even (b .counts) (b .tables) (well .each)) tables-here
+
+    -- the book's version, which a listing does not name
+    version-read : versionIn (listingOf b) (tablesEnd (listingOf b) (2 + length (b .counts)) (length (b .tables))) ≡ b .version
+    version-read = sym (version-one (b .version) (omega (arith, well .some, well .few)))
+
+    -- the listing says the book
+    pub book-in : bookIn (listingOf b) ≡ b
+    unfolding bookIn
+    book-in =
+        let c = part-front (listingOf b) 1 (b .counts) _ counts-here in
+        rw (tables-count-read, fields-count-read, all-read .0, c, version-read)
+
+    -- and ends where its numbers end
+    pub listing-ends : listingEnd (listingOf b) ≡ length (listingOf b)
+    listing-ends = rw (tables-count-read, fields-count-read) (omega (arith, all-read .1 .0, listing-length))
