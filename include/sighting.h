@@ -1,10 +1,11 @@
 /*
  * The sighting desk as a library: libsighting.a, made by `rt staticlib sighting`.
  *
- * A book is lent as its bytes, a sheet is an array of SIGHTING_SHEET_BYTES bytes that the caller keeps. Every function is total: for
- * any bytes of a book, any bytes of a sheet and any numbers it ends with one of the numbers below. It takes no memory from the heap
- * and keeps nothing between calls. Several threads may call at once: what is lent `const`, a sheet too, is only read and may be shared
- * by several readers; what a call may write is for that call alone while it runs.
+ * A book is lent as its bytes, a sheet is an array of SIGHTING_SHEET_BYTES bytes that the caller keeps, and a listing is an array of
+ * 16-bit numbers, of any length. Every function is total: for any bytes of a book, any bytes of a sheet and any numbers it ends with
+ * one of the numbers below. It takes no memory from the heap and keeps nothing between calls. Several threads may call at once: what is
+ * lent `const`, a sheet too, is only read and may be shared by several readers; what a call may write is for that call alone while it
+ * runs.
  *
  * What the caller owes, as for any C function: each pointer, also one whose length is 0, is not null, is aligned for its type, and
  * points to as many elements as the length beside it says (sheets: SIGHTING_SHEET_BYTES; outcomes: the number that stands in the
@@ -43,8 +44,11 @@
  *       17  the field has no answer                                              0
  *       18  too few elements lent                                                0
  *       19  a stored sheet's length is not the number of fields                  0
+ *       20  no book has this listing                                             0
  *
  * 14 looks for a field that holds neither 255 nor one of its codes, and for a place behind the book's fields that does not hold 255.
+ * 20 looks for a number that is missing, left over, or too large for its bytes (two for a number of rows and for the place of the field
+ * list, one for any other), and for a book that reading would refuse.
  * The first refusal in the order that a function's comment gives is the one returned.
  */
 #ifndef SIGHTING_H
@@ -60,12 +64,14 @@
 #define SIGHTING_NO_ANSWER 255
 
 /*
- * How many elements of `out` suffice for every book and sheet: a call that is lent as many never returns 18. Each is proved.
+ * How many elements of `out` suffice for every book, sheet and listing: a call that is lent as many never returns 18. Each is proved.
  */
-#define SIGHTING_PAIRS_BYTES 2048   /* sighting_alternatives, sighting_replay */
-#define SIGHTING_NUMBERS 32         /* sighting_filtered */
-#define SIGHTING_STORED_BYTES 32    /* sighting_store */
-#define SIGHTING_REPORT_BYTES 11305 /* sighting_report */
+#define SIGHTING_PAIRS_BYTES 2048      /* sighting_alternatives, sighting_replay */
+#define SIGHTING_NUMBERS 32            /* sighting_filtered */
+#define SIGHTING_STORED_BYTES 32       /* sighting_store */
+#define SIGHTING_REPORT_BYTES 11305    /* sighting_report */
+#define SIGHTING_LISTING_NUMBERS 16802 /* sighting_show */
+#define SIGHTING_BOOK_BYTES 16870      /* sighting_write */
 
 /* The three kinds of call in a list for sighting_replay. */
 #define SIGHTING_CALL_ENTER 0
@@ -159,6 +165,22 @@ uint64_t sighting_replay(uint8_t *sheet, const uint8_t *book, size_t book_len, c
  */
 uint64_t sighting_report(const uint8_t *book, size_t book_len, const uint8_t *form, size_t form_len, uint8_t *out, size_t out_len,
                          uint64_t *outcome);
+
+/*
+ * Shows a book's listing: the number of fields and each field's number of codes; the number of tables; for each table its number of
+ * fields, the fields, its number of rows, and the rows' codes. Tables and rows stand in the book's order, repeated rows too.
+ *   outcome[2]  place, how many numbers were written
+ * Refusals: 1 to 13, 18 where out_len is below the length of the listing.
+ */
+uint64_t sighting_show(const uint8_t *book, size_t book_len, uint16_t *out, size_t out_len, uint64_t *outcome);
+
+/*
+ * Writes the bytes of the book that a listing says, in the listing's order and with its repeated rows; the version is 1. It is the way
+ * back from sighting_show: writing what a book shows gives the book's bytes, and the bytes written show the listing.
+ *   outcome[2]  place, how many bytes were written
+ * Refusals: 20, 18 where out_len is below the length of the book.
+ */
+uint64_t sighting_write(const uint16_t *listing, size_t listing_len, uint8_t *out, size_t out_len, uint64_t *outcome);
 
 #ifdef __cplusplus
 }

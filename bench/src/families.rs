@@ -22,10 +22,10 @@ impl Family {
 }
 
 /// SplitMix64.
-struct Random(u64);
+pub struct Random(pub u64);
 
 impl Random {
-    fn below(&mut self, n: usize) -> usize {
+    pub fn below(&mut self, n: usize) -> usize {
         self.0 = self.0.wrapping_add(0x9E37_79B9_7F4A_7C15);
         let mut z = self.0;
         z = (z ^ (z >> 30)).wrapping_mul(0xBF58_476D_1CE4_E5B9);
@@ -47,7 +47,7 @@ impl Random {
     }
 
     /// That many different fields, rising.
-    fn fields(&mut self, of: usize, arity: usize) -> Vec<u8> {
+    pub fn fields(&mut self, of: usize, arity: usize) -> Vec<u8> {
         let mut fields: Vec<u8> = self.shuffled(of)[..arity].iter().map(|&f| f as u8).collect();
         fields.sort();
         fields

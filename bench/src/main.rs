@@ -5,6 +5,7 @@
 
 mod families;
 mod gecode;
+mod listings;
 mod measure;
 mod plain;
 mod plot;
@@ -45,6 +46,9 @@ fn measured() -> Result<(String, String), std::fmt::Error> {
     let steps = [256, 512, 1_024, 2_048, 4_096].map(families::largest);
     let steps: Vec<_> = steps.iter().map(|f| (measure::alternatives(f, 16), measure::reading(&f.book))).collect();
     tables::growth(&mut out, &steps)?;
+    writeln!(out, "\n### Writing a listing, and showing the book written\n")?;
+    let listings = listings::all().map(|listed| (listed.what, measure::listing(&listed)));
+    tables::listings(&mut out, &listings)?;
     writeln!(out, "\n### Stack, family B, n = 32\n")?;
     tables::stacks(&mut out, &measure::stacks(&books[1]))?;
     Ok((out, plot::svg(&passes)?))

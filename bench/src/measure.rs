@@ -1,10 +1,11 @@
 //! What is measured: the library's calls, beside plain Rust and Gecode on the same books.
 
-use sighting::{Sheet, NUMBERS, PAIRS_BYTES, REPORT_BYTES};
+use sighting::{Sheet, BOOK_BYTES, LISTING_NUMBERS, NUMBERS, PAIRS_BYTES, REPORT_BYTES};
 
 use crate::families::Family;
 use crate::gecode::Root;
-use crate::plain::{engine, reader};
+use crate::listings::{self, Listed};
+use crate::plain::{engine, listing, reader};
 use crate::stack;
 use crate::timing::{medians, Contender};
 
@@ -110,10 +111,57 @@ pub fn filtering(family: &Family, n: usize) -> Filtering {
     Filtering { library: times[0], plain: times[1] }
 }
 
-/// The stack bytes of each call on this book.
+/// The medians of writing a listing, and of showing the book that is written, by the library and by plain Rust.
+pub struct Listing {
+    pub numbers: usize,
+    pub library: f64,
+    pub plain: f64,
+    pub shown: Option<Showing>,
+}
+
+pub struct Showing {
+    pub bytes: usize,
+    pub library: f64,
+    pub plain: f64,
+}
+
+fn writing(listing: &[u16]) -> (f64, f64) {
+    let (mut ours, mut theirs) = ([0; BOOK_BYTES], [0; BOOK_BYTES]);
+    let written = sighting::write(listing, &mut ours).map_err(|r| (r.number, r.place));
+    assert_eq!(listing::write(listing, &mut theirs), written);
+    assert_eq!(ours, theirs);
+    let times = medians(&mut [
+        Box::new(|| sighting::write(listing, &mut ours).map_or(0, |bytes| bytes)),
+        Box::new(|| listing::write(listing, &mut theirs).map_or(0, |bytes| bytes)),
+    ]);
+    (times[0], times[1])
+}
+
+fn showing(book: &[u8], listing: &[u16]) -> Showing {
+    let (mut ours, mut theirs) = ([0; LISTING_NUMBERS], [0; LISTING_NUMBERS]);
+    assert_eq!(sighting::show(book, &mut ours), Ok(listing.len() as u64));
+    assert_eq!(listing::show(book, &mut theirs), Ok(listing.len() as u64));
+    assert_eq!((&ours[..listing.len()], ours), (listing, theirs));
+    let times = medians(&mut [
+        Box::new(|| sighting::show(book, &mut ours).map_or(0, |numbers| numbers)),
+        Box::new(|| listing::show(book, &mut theirs).map_or(0, |numbers| numbers)),
+    ]);
+    Showing { bytes: book.len(), library: times[0], plain: times[1] }
+}
+
+pub fn listing(listed: &Listed) -> Listing {
+    let mut book = [0; BOOK_BYTES];
+    let (library, plain) = writing(&listed.listing);
+    let shown = sighting::write(&listed.listing, &mut book).ok().map(|bytes| showing(&book[..bytes as usize], &listed.listing));
+    Listing { numbers: listed.listing.len(), library, plain, shown }
+}
+
+/// The stack bytes of each call on this book, and of writing the longest listing and one that is refused.
 pub fn stacks(family: &Family) -> Vec<(&'static str, usize)> {
     let (book, bytes) = (&family.book[..], family.sheet(32));
     let (mut pairs, mut numbers, mut text) = ([0; PAIRS_BYTES], [0; NUMBERS], [0; REPORT_BYTES]);
+    let (mut shown, mut written) = ([0; LISTING_NUMBERS], [0; BOOK_BYTES]);
+    let (longest, refused) = (listings::longest(), listings::refused());
     let list = [0, 0, 0].repeat(32);
     let sheet = Sheet::from(bytes);
     let mut entered = sheet;
@@ -124,5 +172,8 @@ pub fn stacks(family: &Family) -> Vec<(&'static str, usize)> {
         ("alternatives", stack::bytes(&mut || assert!(sheet.alternatives(book, &mut pairs).is_ok()))),
         ("replay", stack::bytes(&mut || assert!(Sheet::replay(book, &list, &mut pairs).1.is_ok()))),
         ("report", stack::bytes(&mut || assert!(sighting::report(book, &bytes, &mut text).is_ok()))),
+        ("show", stack::bytes(&mut || assert!(sighting::show(book, &mut shown).is_ok()))),
+        ("write", stack::bytes(&mut || assert!(sighting::write(&longest.listing, &mut written).is_ok()))),
+        ("write, refused", stack::bytes(&mut || assert!(sighting::write(&refused.listing, &mut written).is_err()))),
     ]
 }

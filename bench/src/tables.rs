@@ -2,7 +2,7 @@
 
 use std::fmt::{Result, Write};
 
-use crate::measure::{Filtering, Pass, Reading};
+use crate::measure::{Filtering, Listing, Pass, Reading};
 
 fn ratio(value: Option<f64>) -> String {
     value.map_or("–".to_string(), |v| format!("{v:.2}"))
@@ -67,6 +67,31 @@ pub fn growth(out: &mut String, steps: &[(Pass, Reading)]) -> Result {
         let (each, plain) = (1_000.0 * p.library / r.rows as f64, p.library / p.plain);
         let reading = r.library / r.plain;
         writeln!(out, "| {} | {:.1} | {each:.1} | {plain:.2} | {:.1} | {reading:.2} |", r.rows, p.library, r.library)?;
+    }
+    Ok(())
+}
+
+/// A time from nanoseconds on.
+fn microseconds(time: f64) -> String {
+    if time < 1.0 {
+        format!("{time:.3}")
+    } else {
+        format!("{time:.1}")
+    }
+}
+
+/// Writing a listing, and showing the book written.
+pub fn listings(out: &mut String, listings: &[(&str, Listing)]) -> Result {
+    writeln!(
+        out,
+        "| listing | numbers | write, µs | × plain Rust | bytes | show, µs | × plain Rust |\n|---|---|---|---|---|---|---|"
+    )?;
+    for (what, l) in listings {
+        let (time, plain) = (microseconds(l.library), l.library / l.plain);
+        let shown = l.shown.as_ref().map_or("– | – | –".to_string(), |shown| {
+            format!("{} | {} | {:.2}", shown.bytes, microseconds(shown.library), shown.library / shown.plain)
+        });
+        writeln!(out, "| {what} | {} | {time} | {plain:.2} | {shown} |", l.numbers)?;
     }
     Ok(())
 }

@@ -1,6 +1,6 @@
 /*
- * What only a C caller can do to the library: pass numbers that no byte holds, and lend a sheet that lies in read-only memory.
- * Prints each difference and returns their number.
+ * What only a C caller can do to the library: pass numbers that no byte holds, lend a sheet that lies in read-only memory, and take the
+ * header's word for the lengths that suffice. Prints each difference and returns their number.
  */
 #include <sighting.h>
 #include <stdio.h>
@@ -60,9 +60,79 @@ static void report_outcome(void) {
     expect("length in the refusal", 0, outcome[1]);
 }
 
+/* The longest listing: 32 fields of 32 codes; 64 tables of 64 rows on four fields, each code as large as it may be. */
+static size_t longest(uint16_t *listing) {
+    size_t n = 0;
+    for (int i = 0; i < 33; i++) listing[n++] = 32;
+    listing[n++] = 64;
+    for (int table = 0; table < 64; table++) {
+        listing[n++] = 4;
+        for (int field = 0; field < 4; field++) listing[n++] = (uint16_t)(28 + field);
+        listing[n++] = 64;
+        for (int code = 0; code < 256; code++) listing[n++] = 31;
+    }
+    return n;
+}
+
+/* The header's lengths suffice for the longest listing and its book, and one element less is refused by 18. */
+static void longest_listing(void) {
+    static uint16_t listing[SIGHTING_LISTING_NUMBERS], shown[SIGHTING_LISTING_NUMBERS];
+    static uint8_t written[SIGHTING_BOOK_BYTES];
+    uint64_t outcome[2] = {7, 7};
+    expect("numbers of the longest listing", SIGHTING_LISTING_NUMBERS, longest(listing));
+    expect("write one byte short", 18, sighting_write(listing, SIGHTING_LISTING_NUMBERS, written, SIGHTING_BOOK_BYTES - 1, outcome));
+    expect("bytes told by 18", 0, outcome[1]);
+    expect("the byte lent first", 0, written[0]);
+    expect("write", 0, sighting_write(listing, SIGHTING_LISTING_NUMBERS, written, SIGHTING_BOOK_BYTES, outcome));
+    expect("place of the written book", 0, outcome[0]);
+    expect("bytes of the longest book", SIGHTING_BOOK_BYTES, outcome[1]);
+    expect("show one number short", 18, sighting_show(written, SIGHTING_BOOK_BYTES, shown, SIGHTING_LISTING_NUMBERS - 1, outcome));
+    expect("numbers told by 18", 0, outcome[1]);
+    expect("the number lent first", 0, shown[0]);
+    expect("show", 0, sighting_show(written, SIGHTING_BOOK_BYTES, shown, SIGHTING_LISTING_NUMBERS, outcome));
+    expect("place of the shown listing", 0, outcome[0]);
+    expect("numbers shown", SIGHTING_LISTING_NUMBERS, outcome[1]);
+    expect("the listing that was written", 0, (uint64_t)(memcmp(listing, shown, sizeof shown) != 0));
+}
+
+/* A listing of no numbers, also beside a buffer of no bytes; one that lies in read-only memory; one number too many. */
+static void short_listings(void) {
+    static const uint16_t least[] = {1, 32, 0, 0};
+    static const uint8_t least_book[] = {32, 0, 0, 1, 0, 1, 0xE5};
+    uint8_t written[8] = {9, 9, 9, 9, 9, 9, 9, 9};
+    uint64_t outcome[2] = {7, 7};
+    expect("write no numbers", 20, sighting_write(least, 0, written, sizeof written, outcome));
+    expect("place of 20", 0, outcome[0]);
+    expect("bytes told by 20", 0, outcome[1]);
+    expect("write no numbers to no bytes", 20, sighting_write(least, 0, written, 0, outcome));
+    expect("write one number too many", 20, sighting_write(least, 4, written, sizeof written, outcome));
+    expect("write one number too few", 20, sighting_write(least, 2, written, sizeof written, outcome));
+    expect("the byte lent first stays", 9, written[0]);
+    expect("write the least book to no bytes", 18, sighting_write(least, 3, written, 0, outcome));
+    expect("write the least book", 0, sighting_write(least, 3, written, sizeof written, outcome));
+    expect("bytes of the least book", sizeof least_book, outcome[1]);
+    expect("the least book", 0, (uint64_t)(memcmp(written, least_book, sizeof least_book) != 0));
+    expect("the byte behind it", 9, written[7]);
+}
+
+/* A refused book has its place, and shows no numbers. */
+static void refused_show(void) {
+    uint16_t shown[1] = {9};
+    uint64_t outcome[2] = {7, 7};
+    expect("show without the closing byte", 2, sighting_show(book, sizeof book - 1, shown, 0, outcome));
+    expect("place of 2", 33, outcome[0]);
+    expect("numbers told by 2", 0, outcome[1]);
+    expect("show no bytes", 1, sighting_show(book, 0, shown, 1, outcome));
+    expect("place of 1", 0, outcome[0]);
+    expect("the number lent stays", 9, shown[0]);
+}
+
 int main(void) {
     wide_numbers();
     read_only_sheet();
     report_outcome();
+    longest_listing();
+    short_listings();
+    refused_show();
     return differences;
 }

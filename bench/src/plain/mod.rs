@@ -1,6 +1,7 @@
-//! The desk's reader and engine once more as plain Rust: the same form, the same checks, no heap, and nothing proved.
+//! The desk's reader, engine and listings once more as plain Rust: the same form, the same checks, no heap, and nothing proved.
 
 pub mod engine;
+pub mod listing;
 pub mod reader;
 
 /// A refusal: number and place.

@@ -1,8 +1,9 @@
 //! The sighting desk: a safe wrapper over its proved static library.
 //!
 //! A book is a slice of bytes, checked in every call; a [`Sheet`] holds the answers. Nothing is taken from the heap: results go to
-//! buffers that the caller lends; [`PAIRS_BYTES`], [`NUMBERS`], [`STORED_BYTES`] and [`REPORT_BYTES`] suffice for every book and sheet.
-//! A refused call changes neither the sheet nor a buffer. Any number may be passed as a field or a code: one that is none is refused.
+//! buffers that the caller lends; [`PAIRS_BYTES`], [`NUMBERS`], [`STORED_BYTES`], [`REPORT_BYTES`], [`LISTING_NUMBERS`] and
+//! [`BOOK_BYTES`] suffice for every book, sheet and listing. A refused call changes neither the sheet nor a buffer. Any number may be
+//! passed as a field or a code: one that is none is refused.
 //!
 //! The book below has three fields, of 2, 3 and 3 codes, and two tables. With field 0 answered by 0 and field 1 by 1, code 1 of
 //! field 2 stands, and each answer has an alternative beside itself.
@@ -35,6 +36,32 @@
 //! # Ok(())
 //! # }
 //! ```
+//!
+//! A compiler makes such a book from a listing, and sees a book's listing again:
+//!
+//! ```
+//! use sighting::{show, write};
+//!
+//! # fn main() -> Result<(), sighting::Refusal> {
+//! let listing = [
+//!     3, 2, 3, 3, // three fields, and the codes of each
+//!     2, // tables
+//!     2, 0, 2, 4, 0, 0, 0, 1, 1, 2, 0, 1, // two fields, 0 and 2; 4 rows
+//!     2, 1, 2, 4, 0, 0, 1, 1, 1, 2, 2, 2, // two fields, 1 and 2; 4 rows
+//! ];
+//! let mut book = [0; sighting::BOOK_BYTES];
+//! let bytes = write(&listing, &mut book)? as usize;
+//! assert_eq!(bytes, 35);
+//!
+//! let mut shown = [0; sighting::LISTING_NUMBERS];
+//! let numbers = show(&book[..bytes], &mut shown)? as usize;
+//! assert_eq!(shown[..numbers], listing);
+//!
+//! let no_book = write(&listing[1..], &mut book).unwrap_err();
+//! assert_eq!(no_book.to_string(), "refused 20 at 0: no book has this listing");
+//! # Ok(())
+//! # }
+//! ```
 
 pub mod ffi;
 mod refusal;
@@ -58,6 +85,12 @@ pub const STORED_BYTES: usize = 32;
 
 /// So many bytes suffice for [`report`].
 pub const REPORT_BYTES: usize = 11305;
+
+/// So many numbers suffice for [`show`].
+pub const LISTING_NUMBERS: usize = 16802;
+
+/// So many bytes suffice for [`write`].
+pub const BOOK_BYTES: usize = 16870;
 
 /// What a book has. A row that is repeated in its table counts once among the different rows.
 #[derive(Clone, Copy, Debug, PartialEq, Eq)]
@@ -128,6 +161,26 @@ pub fn report(book: &[u8], form: &[u8], out: &mut [u8]) -> Result<u64, Refusal> 
     };
     let [place, length] = cells;
     answer(number, place, length)
+}
+
+/// Shows a book's listing, and answers how many numbers it has: the number of fields and each field's number of codes; the number of
+/// tables; for each table its number of fields, the fields, its number of rows, and the rows' codes. Refusals: 1 to 13, 18.
+pub fn show(book: &[u8], out: &mut [u16]) -> Result<u64, Refusal> {
+    let mut cells = [0; 2];
+    // SAFETY: each pointer has its slice's length beside it; two cells are lent.
+    let number = unsafe { ffi::sighting_show(book.as_ptr(), book.len(), out.as_mut_ptr(), out.len(), cells.as_mut_ptr()) };
+    let [place, written] = cells;
+    answer(number, place, written)
+}
+
+/// Writes the bytes of the book that a listing says, and answers how many they are. It is the way back from [`show`]: writing what a
+/// book shows gives the book's bytes, and the bytes written show the listing. Refusals: 20, 18.
+pub fn write(listing: &[u16], out: &mut [u8]) -> Result<u64, Refusal> {
+    let mut cells = [0; 2];
+    // SAFETY: each pointer has its slice's length beside it; two cells are lent.
+    let number = unsafe { ffi::sighting_write(listing.as_ptr(), listing.len(), out.as_mut_ptr(), out.len(), cells.as_mut_ptr()) };
+    let [place, written] = cells;
+    answer(number, place, written)
 }
 
 /// The number that goes over as the field to relax. The library takes 255 for none, and no book has a field 255: a caller's own 255

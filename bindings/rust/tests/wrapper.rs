@@ -1,14 +1,19 @@
 //! What the wrapper adds to the library: its types, and what it does with numbers and buffers.
 
-use sighting::{read, report, Alternatives, Call, Refusal, Sheet, NO_ANSWER, NUMBERS, PAIRS_BYTES, REPORT_BYTES, STORED_BYTES};
+use sighting::{read, report, show, write, Alternatives, Call, Refusal, Sheet};
+use sighting::{BOOK_BYTES, LISTING_NUMBERS, NO_ANSWER, NUMBERS, PAIRS_BYTES, REPORT_BYTES, STORED_BYTES};
 
 /// Example E1: three fields of 2, 3 and 3 codes, and two tables.
 const BOOK: [u8; 35] =
     [2, 0, 2, 4, 0, 0, 0, 0, 1, 1, 2, 0, 1, 2, 1, 2, 4, 0, 0, 0, 1, 1, 1, 2, 2, 2, 2, 3, 3, 0x1A, 0, 3, 2, 1, 0xE5];
 
+/// E1's listing.
+const LISTING: [u16; 29] = [3, 2, 3, 3, 2, 2, 0, 2, 4, 0, 0, 0, 1, 1, 2, 0, 1, 2, 1, 2, 4, 0, 0, 1, 1, 1, 2, 2, 2];
+
 const NO_FIELD: Refusal = Refusal { number: 15, place: 0 };
 const NO_CODE: Refusal = Refusal { number: 16, place: 0 };
 const TOO_FEW: Refusal = Refusal { number: 18, place: 0 };
+const NO_BOOK: Refusal = Refusal { number: 20, place: 0 };
 
 /// E1's sheet: field 0 answered by 0 and field 1 by 1.
 fn answered() -> Sheet {
@@ -88,6 +93,77 @@ fn a_refused_replay_hands_back_the_sheet_that_its_list_reached() {
     assert_eq!(Sheet::replay(&BOOK[..34], &list, &mut pairs), (Sheet::fresh(), refused));
 }
 
+/// The bytes that the wrapper writes for a listing.
+fn written(listing: &[u16]) -> Result<Vec<u8>, Refusal> {
+    let mut out = vec![0; BOOK_BYTES];
+    let bytes = write(listing, &mut out)?;
+    out.truncate(bytes as usize);
+    Ok(out)
+}
+
+/// The listing that the wrapper shows for a book.
+fn shown(book: &[u8]) -> Result<Vec<u16>, Refusal> {
+    let mut out = vec![0; LISTING_NUMBERS];
+    let numbers = show(book, &mut out)?;
+    out.truncate(numbers as usize);
+    Ok(out)
+}
+
+#[test]
+fn every_example_is_shown_and_written() {
+    let e4_table = |f, g| [2, f, g, 2, 0, 1, 1, 0];
+    let e4 = [&[3, 2, 2, 2, 3][..], &e4_table(0, 1), &e4_table(0, 2), &e4_table(1, 2)].concat();
+    let e4_bytes = |f, g| [2, f, g, 2, 0, 0, 1, 1, 0];
+    let e4_book = [&e4_bytes(0, 1)[..], &e4_bytes(0, 2), &e4_bytes(1, 2), &[2, 2, 2, 27, 0, 3, 3, 1, 0xE5]].concat();
+    let e6_book = vec![1, 1, 0, 0, 2, 2, 4, 0, 2, 1, 1, 0xE5];
+    let e7_book = vec![1, 0, 0, 1, 0, 1, 0xE5];
+    for (listing, book) in
+        [(LISTING.to_vec(), BOOK.to_vec()), (e4, e4_book), (vec![2, 2, 2, 1, 1, 1, 0], e6_book), (vec![1, 1, 0], e7_book.clone())]
+    {
+        assert_eq!(shown(&book), Ok(listing.clone()));
+        assert_eq!(written(&listing), Ok(book));
+    }
+    assert_eq!(shown(&e7_book[..6]), Err(Refusal { number: 2, place: 5 }));
+}
+
+#[test]
+fn listings_of_no_book_are_refused() {
+    let mut out = [7; BOOK_BYTES];
+    let changed = |place: usize, number: u16| {
+        let mut listing = LISTING;
+        listing[place] = number;
+        listing.to_vec()
+    };
+    for listing in [
+        Vec::new(),
+        LISTING[..28].to_vec(),
+        [&LISTING[..], &[0]].concat(),
+        changed(1, 33),
+        changed(1, 258),
+        changed(7, 0),
+        changed(8, 5),
+        changed(9, 2),
+        vec![0; 200_000],
+        vec![65_535; 200_000],
+    ] {
+        assert_eq!(write(&listing, &mut out), Err(NO_BOOK), "{} numbers", listing.len());
+        assert_eq!(write(&listing, &mut []), Err(NO_BOOK), "{} numbers", listing.len());
+    }
+    assert_eq!(out, [7; BOOK_BYTES]);
+}
+
+#[test]
+fn a_listing_or_a_book_that_does_not_fit_is_an_ordinary_refusal() {
+    let (mut numbers, mut bytes) = ([7; 30], [7; 36]);
+    assert_eq!(show(&BOOK, &mut numbers[..28]), Err(TOO_FEW));
+    assert_eq!(write(&LISTING, &mut bytes[..34]), Err(TOO_FEW));
+    assert_eq!((numbers, bytes), ([7; 30], [7; 36]));
+    assert_eq!(show(&BOOK, &mut numbers), Ok(29));
+    assert_eq!(write(&LISTING, &mut bytes), Ok(35));
+    assert_eq!((&numbers[..29], numbers[29]), (&LISTING[..], 7));
+    assert_eq!((&bytes[..35], bytes[35]), (&BOOK[..], 7));
+}
+
 /// The most alternatives: 32 fields of 32 codes, no table, all fields answered.
 #[test]
 fn the_lengths_named_suffice() {
@@ -101,6 +177,19 @@ fn the_lengths_named_suffice() {
     assert_eq!(sheet.store(&book, &mut [0; STORED_BYTES - 1]), Err(TOO_FEW));
     assert!(report(&book, &[NO_ANSWER; 32], &mut [0; REPORT_BYTES]).is_ok());
     assert_eq!(read(&book).map(|counts| counts.fields), Ok(32));
+}
+
+/// The longest book and listing: 32 fields, and 64 tables of 64 rows on four fields.
+#[test]
+fn the_longest_listing_suffices() {
+    let table = [&[4, 0, 1, 2, 3, 64][..], &[31; 4 * 64]].concat();
+    let listing = [&[32; 33][..], &[64], &table.repeat(64)].concat();
+    assert_eq!(listing.len(), LISTING_NUMBERS);
+    let book = written(&listing).expect("it fits");
+    assert_eq!(book.len(), BOOK_BYTES);
+    assert_eq!(write(&listing, &mut [0; BOOK_BYTES - 1]), Err(TOO_FEW));
+    assert_eq!(shown(&book), Ok(listing));
+    assert_eq!(show(&book, &mut [0; LISTING_NUMBERS - 1]), Err(TOO_FEW));
 }
 
 /// Every constant of the header stands in the wrapper with the same value.
@@ -118,6 +207,8 @@ fn constants_are_those_of_the_header() {
     assert_eq!(value("SIGHTING_NUMBERS"), Some(NUMBERS));
     assert_eq!(value("SIGHTING_STORED_BYTES"), Some(STORED_BYTES));
     assert_eq!(value("SIGHTING_REPORT_BYTES"), Some(REPORT_BYTES));
+    assert_eq!(value("SIGHTING_LISTING_NUMBERS"), Some(LISTING_NUMBERS));
+    assert_eq!(value("SIGHTING_BOOK_BYTES"), Some(BOOK_BYTES));
     for (name, call) in [
         ("SIGHTING_CALL_ENTER", Call::Enter { field: 0, code: 0 }),
         ("SIGHTING_CALL_WITHDRAW", Call::Withdraw { field: 0 }),

@@ -21,6 +21,8 @@ pub enum Call {
     Store,
     Replay { calls: Vec<u8> },
     Report { form: Vec<u8> },
+    Show,
+    Write { listing: Vec<u16> },
 }
 
 impl Call {
@@ -37,6 +39,8 @@ impl Call {
             Call::Store => "store",
             Call::Replay { .. } => "replay",
             Call::Report { .. } => "report",
+            Call::Show => "show",
+            Call::Write { .. } => "write",
         }
     }
 
@@ -46,7 +50,7 @@ impl Call {
             Call::Fresh | Call::Clear => 0,
             Call::Read => 5,
             Call::Alternatives | Call::Replay { .. } => 3,
-            Call::Report { .. } => 2,
+            Call::Report { .. } | Call::Show | Call::Write { .. } => 2,
             _ => 1,
         }
     }
@@ -56,6 +60,14 @@ impl Call {
         match self {
             Call::Load { form } | Call::Report { form } => form,
             Call::Replay { calls } => calls,
+            _ => &[],
+        }
+    }
+
+    /// The numbers lent to the call to read.
+    pub fn listing(&self) -> &[u16] {
+        match self {
+            Call::Write { listing } => listing,
             _ => &[],
         }
     }
@@ -72,8 +84,51 @@ impl Call {
             Call::Alternatives | Call::Replay { .. } => Some(sighting::PAIRS_BYTES),
             Call::Store => Some(sighting::STORED_BYTES),
             Call::Report { .. } => Some(sighting::REPORT_BYTES),
+            Call::Show => Some(sighting::LISTING_NUMBERS),
+            Call::Write { .. } => Some(sighting::BOOK_BYTES),
             _ => None,
         }
+    }
+}
+
+/// What a call writes, or what is lent to it for that: bytes, the numbers of a listing, or the numbers of a filtering. A call writes one
+/// of them at most, and the others are empty.
+#[derive(Clone, Debug, Default, PartialEq)]
+pub struct Buffers {
+    pub bytes: Vec<u8>,
+    pub listing: Vec<u16>,
+    pub numbers: Vec<u32>,
+}
+
+impl From<Vec<u8>> for Buffers {
+    fn from(bytes: Vec<u8>) -> Buffers {
+        Buffers { bytes, ..Buffers::default() }
+    }
+}
+
+impl From<Vec<u16>> for Buffers {
+    fn from(listing: Vec<u16>) -> Buffers {
+        Buffers { listing, ..Buffers::default() }
+    }
+}
+
+impl From<Vec<u32>> for Buffers {
+    fn from(numbers: Vec<u32>) -> Buffers {
+        Buffers { numbers, ..Buffers::default() }
+    }
+}
+
+impl Buffers {
+    /// The elements of the one that is not empty.
+    pub fn elements(&self) -> usize {
+        self.bytes.len().max(self.listing.len()).max(self.numbers.len())
+    }
+
+    /// Writes from the front, as far as it fits.
+    pub fn write(&mut self, written: &Buffers) {
+        self.bytes.iter_mut().zip(&written.bytes).for_each(|(element, &new)| *element = new);
+        self.listing.iter_mut().zip(&written.listing).for_each(|(element, &new)| *element = new);
+        self.numbers.iter_mut().zip(&written.numbers).for_each(|(element, &new)| *element = new);
     }
 }
 
@@ -82,8 +137,7 @@ impl Call {
 pub struct Answer {
     pub result: Result<Vec<u64>, Refusal>,
     pub sheet: Sheet,
-    pub bytes: Vec<u8>,
-    pub numbers: Vec<u32>,
+    pub written: Buffers,
 }
 
 /// What a call leaves in all memory lent, with the number returned.
@@ -92,28 +146,21 @@ pub struct Left {
     pub number: u64,
     pub cells: Vec<u64>,
     pub sheet: Sheet,
-    pub bytes: Vec<u8>,
-    pub numbers: Vec<u32>,
+    pub out: Buffers,
 }
 
 impl Answer {
-    /// Too few bytes or numbers are lent for what the call writes.
-    fn too_long(&self, bytes: &[u8], numbers: &[u32]) -> bool {
-        bytes.len() < self.bytes.len() || numbers.len() < self.numbers.len()
-    }
-
     /// What the call leaves of these buffers: a refusal writes nothing, and what lies behind the written part stays.
-    pub fn left(&self, call: &Call, bytes: &[u8], numbers: &[u32]) -> Left {
-        let mut left = Left { number: 0, cells: Vec::new(), sheet: self.sheet, bytes: bytes.to_vec(), numbers: numbers.to_vec() };
+    pub fn left(&self, call: &Call, lent: &Buffers) -> Left {
+        let mut left = Left { number: 0, cells: Vec::new(), sheet: self.sheet, out: lent.clone() };
         let result = match &self.result {
-            Ok(_) if self.too_long(bytes, numbers) => refuse(18, 0),
+            Ok(_) if lent.elements() < self.written.elements() => refuse(18, 0),
             other => other.clone(),
         };
         match result {
             Ok(counts) => {
                 left.cells = [vec![0], counts].concat();
-                left.bytes[..self.bytes.len()].copy_from_slice(&self.bytes);
-                left.numbers[..self.numbers.len()].copy_from_slice(&self.numbers);
+                left.out.write(&self.written);
             }
             Err(r) => {
                 left.number = r.number;

@@ -5,6 +5,8 @@ use crate::calls::{Call, Sheet, FRESH};
 use crate::draft::Draft;
 use crate::faults::{changed, faulty, some_faults};
 use crate::filter::NO_ANSWER;
+use crate::listing::Listing;
+use crate::listings;
 use crate::random::{self, Random};
 
 pub struct Case {
@@ -15,6 +17,8 @@ pub struct Case {
     pub boundary: Option<&'static str>,
     /// The faults made in the book, by their places in the order.
     pub faults: Vec<usize>,
+    /// How the listing to write was made.
+    pub listing: &'static str,
 }
 
 /// The random numbers of one case of a run.
@@ -26,8 +30,10 @@ pub fn case(seed: u64, index: u64) -> Case {
     let mut r = random(seed, index);
     let BookCase { model, bytes, boundary, faults } = book(&mut r);
     let sheet = sheet(&mut r, &model);
-    let calls = calls(&mut r, &model, &sheet);
-    Case { book: bytes, sheet, calls, boundary, faults }
+    let mut calls = calls(&mut r, &model, &sheet);
+    let (listing, numbers) = listings::some_listing(&mut r, Listing::of(&model));
+    calls.extend([Call::Show, Call::Write { listing: numbers }]);
+    Case { book: bytes, sheet, calls, boundary, faults, listing }
 }
 
 /// A book's bytes, with the book that they were made from.

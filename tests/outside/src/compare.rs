@@ -1,6 +1,6 @@
 //! Comparing a library with the slow desk: the calls of a case, each with several lengths lent, and what each has to leave.
 
-use crate::calls::{Call, Left};
+use crate::calls::{Buffers, Call, Left};
 use crate::cases::{random, Case};
 use crate::desk::{Desk, Reading};
 use crate::library::{Lent, Library};
@@ -13,8 +13,7 @@ pub const UNWRITTEN: u64 = 0xDEAD_BEEF_DEAD_BEEF;
 /// A call with the contents of the buffers lent to it, and what it has to leave.
 pub struct Trial<'a> {
     pub call: &'a Call,
-    pub bytes: Vec<u8>,
-    pub numbers: Vec<u32>,
+    pub lent: Buffers,
     pub left: Left,
 }
 
@@ -35,19 +34,25 @@ fn lengths(r: &mut Random, call: &Call, written: usize) -> Vec<usize> {
     lengths
 }
 
+/// So many elements of what the call writes, with random contents.
+fn lent(r: &mut Random, call: &Call, length: usize) -> Buffers {
+    match call {
+        Call::Filtered { .. } => (0..length).map(|_| r.word() as u32).collect::<Vec<_>>().into(),
+        Call::Show => (0..length).map(|_| r.word() as u16).collect::<Vec<_>>().into(),
+        _ => (0..length).map(|_| r.word() as u8).collect::<Vec<_>>().into(),
+    }
+}
+
 /// The trials of a case of a seed, on its book as the right desk reads it.
 pub fn trials<'a>(case: &'a Case, reading: &Reading, seed: u64, index: u64) -> Vec<Trial<'a>> {
     let (desk, mut r) = (Desk::default(), random(seed ^ 0x5EED, index));
     let mut trials = Vec::new();
     for call in &case.calls {
         let answer = desk.answer(call, reading, &case.sheet);
-        for length in lengths(&mut r, call, answer.bytes.len().max(answer.numbers.len())) {
-            let is_numbers = matches!(call, Call::Filtered { .. });
-            let (bytes, numbers) = if is_numbers { (0, length) } else { (length, 0) };
-            let bytes: Vec<u8> = (0..bytes).map(|_| r.word() as u8).collect();
-            let numbers: Vec<u32> = (0..numbers).map(|_| r.word() as u32).collect();
-            let left = answer.left(call, &bytes, &numbers);
-            trials.push(Trial { call, bytes, numbers, left });
+        for length in lengths(&mut r, call, answer.written.elements()) {
+            let lent = lent(&mut r, call, length);
+            let left = answer.left(call, &lent);
+            trials.push(Trial { call, lent, left });
         }
     }
     trials
@@ -62,9 +67,11 @@ fn hex(bytes: &[u8]) -> String {
 pub struct Rooms {
     book: Room,
     list: Room,
+    listing: Room,
     sheet: Room,
     cells: Room,
     bytes: Room,
+    shown: Room,
     numbers: Room,
 }
 
@@ -72,22 +79,26 @@ impl Rooms {
     /// What the library leaves in memory that lies at this end of its rooms; none where it wrote beside it.
     fn left(&self, library: &dyn Library, case: &Case, trial: &Trial, end: End) -> Option<Left> {
         let call = trial.call;
-        let (book, list, sheet) =
-            (self.book.put(end, &case.book), self.list.put(end, call.list()), self.sheet.put(end, &case.sheet));
+        let (book, sheet) = (self.book.put(end, &case.book), self.sheet.put(end, &case.sheet));
+        let (list, listing) = (self.list.put(end, call.list()), self.listing.put(end, call.listing()));
         let cells = self.cells.put(end, &vec![UNWRITTEN; call.cells()]);
-        let (bytes, numbers) = (self.bytes.put(end, &trial.bytes), self.numbers.put(end, &trial.numbers));
+        let (bytes, shown) = (self.bytes.put(end, &trial.lent.bytes), self.shown.put(end, &trial.lent.listing));
+        let numbers = self.numbers.put(end, &trial.lent.numbers);
         let lent = Lent {
             book: book.readable(),
             list: list.readable(),
+            listing: listing.readable(),
             sheet: if call.only_reads_sheet() { sheet.readable() } else { sheet.writable() },
             cells: cells.writable(),
             bytes: bytes.writable(),
+            shown: shown.writable(),
             numbers: numbers.writable(),
         };
         // SAFETY: each part has the elements that the header asks for, and they lie apart from each other.
         let number = unsafe { library.call(call, &lent) };
         let sheet = sheet.left()?.try_into().expect("a sheet has 32 bytes");
-        Some(Left { number, cells: cells.left()?, sheet, bytes: bytes.left()?, numbers: numbers.left()? })
+        let out = Buffers { bytes: bytes.left()?, listing: shown.left()?, numbers: numbers.left()? };
+        Some(Left { number, cells: cells.left()?, sheet, out })
     }
 
     /// What the library leaves where it should not, at either end of the rooms.

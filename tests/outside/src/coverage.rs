@@ -7,6 +7,9 @@ use crate::cases::{Case, BOUNDARIES};
 use crate::compare::Trial;
 use crate::desk::{Desk, Reading};
 use crate::faults::FAULTS;
+use crate::listing::book_bytes;
+use crate::listings::{reason, ways, REASONS};
+use crate::reader::Reader;
 
 /// A refusal as counted: its number, and for 14 whether the place lies behind the book's fields.
 type Kind = (u64, bool);
@@ -20,7 +23,7 @@ pub struct Coverage {
 }
 
 /// The refusals that each call has beside 1 to 13; `true` for a place behind the book's fields.
-const BESIDE: [(&str, &[Kind]); 9] = [
+const BESIDE: [(&str, &[Kind]); 10] = [
     ("read", &[]),
     ("enter", &[(14, false), (14, true), (15, false), (16, false)]),
     ("withdraw", &[(14, false), (14, true), (15, false), (17, false)]),
@@ -30,9 +33,13 @@ const BESIDE: [(&str, &[Kind]); 9] = [
     ("store", &[(14, false), (14, true), (18, false)]),
     ("replay", &[(18, false)]),
     ("report", &[(14, false), (18, false), (19, false)]),
+    ("show", &[(18, false)]),
 ];
 
-/// At how many different places a refusal has to be reached: 1 and 15 to 19 have place 0 alone.
+/// The call that reads no book, and its refusals.
+const WITHOUT_BOOK: (&str, &[Kind]) = ("write", &[(20, false), (18, false)]);
+
+/// At how many different places a refusal has to be reached: 1 and 15 to 20 have place 0 alone.
 fn places_asked(number: u64) -> usize {
     match number {
         2..=11 | 13 | 14 => 3,
@@ -45,12 +52,13 @@ fn places_asked(number: u64) -> usize {
 type Arguments = (&'static str, fn(&Call) -> bool);
 
 /// What the arguments of a call have to be in some case.
-const ARGUMENTS: [Arguments; 5] = [
+const ARGUMENTS: [Arguments; 6] = [
     ("a field above a byte", |call| matches!(call, Call::Enter { field: 256.., .. })),
     ("a code above a byte", |call| matches!(call, Call::Enter { code: 256.., .. })),
     ("a field to withdraw above a byte", |call| matches!(call, Call::Withdraw { field: 256.. })),
     ("a field to relax above a byte", |call| matches!(call, Call::Filtered { relaxed: 256.. })),
     ("a list of more than ten calls", |call| matches!(call, Call::Replay { calls } if calls.len() > 30)),
+    ("a listing of more than 65,535 numbers", |call| call.listing().len() > 65_535),
 ];
 
 /// The name of a pair of faults, by their places in the order.
@@ -58,12 +66,20 @@ fn pair(first: usize, second: usize) -> String {
     format!("{} with {}", FAULTS[first].0, FAULTS[second].0)
 }
 
+/// What a case has, by its name.
+fn names(case: &Case) -> Vec<String> {
+    let arguments = ARGUMENTS.iter().filter(|(_, is)| case.calls.iter().any(is)).map(|(name, _)| name.to_string());
+    let faults = case.faults.windows(2).map(|faults| pair(faults[0], faults[1]));
+    let listings = case.calls.iter().filter(|call| call.name() == WITHOUT_BOOK.0).map(Call::listing);
+    let reasons = listings.filter_map(|listing| book_bytes(&Reader::default(), listing).err()).map(reason);
+    let names = case.boundary.into_iter().chain([case.listing]).map(str::to_string);
+    names.chain(arguments).chain(faults).chain(reasons).collect()
+}
+
 impl Coverage {
     /// Notes a case and its book as it was read.
     pub fn note(&mut self, case: &Case, reading: &Reading, trials: &[Trial]) {
-        let arguments = ARGUMENTS.iter().filter(|(_, is)| case.calls.iter().any(is)).map(|(name, _)| name.to_string());
-        let faults = case.faults.windows(2).map(|faults| pair(faults[0], faults[1]));
-        for name in case.boundary.map(str::to_string).into_iter().chain(arguments).chain(faults) {
+        for name in names(case) {
             *self.had.entry(name).or_default() += 1;
         }
         trials.iter().for_each(|trial| self.note_trial(reading, trial));
@@ -103,26 +119,33 @@ impl Coverage {
 
     /// Prints what was reached, and answers whether all that had to be was.
     pub fn print(&self) -> bool {
-        let mut complete = true;
         println!("refusals of each call as number:times/places; 14b is a 14 behind the book's fields");
-        for (call, beside) in BESIDE {
-            let kinds = (1..=13).map(|number| (number, false)).chain(beside.iter().copied());
-            let mut line = format!("{call}: accepted {}", self.accepted.get(call).unwrap_or(&0));
-            for (number, behind) in kinds {
-                let (times, places) = self.times(call, (number, behind));
-                let missed = places < places_asked(number);
-                line += &format!(
-                    " {number}{}:{times}/{places}{}",
-                    if behind { "b" } else { "" },
-                    if missed { " MISSED" } else { "" }
-                );
-                complete &= !missed;
-            }
-            println!("{line}");
+        let of_a_book = |beside: &[Kind]| (1..=13).map(|number| (number, false)).chain(beside.iter().copied()).collect();
+        let mut kinds: Vec<(&str, Vec<Kind>)> = BESIDE.map(|(call, beside)| (call, of_a_book(beside))).to_vec();
+        kinds.push((WITHOUT_BOOK.0, WITHOUT_BOOK.1.to_vec()));
+        let mut complete = true;
+        for (call, kinds) in &kinds {
+            complete &= self.print_call(call, kinds);
         }
         complete &= self.print_had("boundaries", BOUNDARIES.iter().map(|(name, _)| name.to_string()));
         complete &= self.print_had("arguments", ARGUMENTS.iter().map(|(name, _)| name.to_string()));
         complete &= self.print_had("two faults at once", (1..FAULTS.len()).map(|place| pair(place - 1, place)));
+        complete &= self.print_had("listings", ways().map(|way| way.name.to_string()));
+        complete & self.print_had("reasons for 20", REASONS.iter().map(|name| name.to_string()))
+    }
+
+    /// Prints how often and at how many places the call was refused in each way, and answers whether all were reached.
+    fn print_call(&self, call: &str, kinds: &[Kind]) -> bool {
+        let mut complete = true;
+        let mut line = format!("{call}: accepted {}", self.accepted.get(call).unwrap_or(&0));
+        for &(number, behind) in kinds {
+            let (times, places) = self.times(call, (number, behind));
+            let missed = places < places_asked(number);
+            let (behind, missing) = (if behind { "b" } else { "" }, if missed { " MISSED" } else { "" });
+            line += &format!(" {number}{behind}:{times}/{places}{missing}");
+            complete &= !missed;
+        }
+        println!("{line}");
         complete
     }
 

@@ -1,9 +1,10 @@
-//! The desk, slowly and from document 01 alone: what every call answers. It is put together from parts, so that a desk with a slip is
-//! the right one with another part.
+//! The desk, slowly and from documents 01 and 02 alone: what every call answers. It is put together from parts, so that a desk with a
+//! slip is the right one with another part.
 
 use crate::book::{refuse, Book, Refusal};
-use crate::calls::{Answer, Call, Sheet, FRESH};
+use crate::calls::{Answer, Buffers, Call, Sheet, FRESH};
 use crate::filter::{alternatives, largest, relaxed, Alternatives, Filter, Subdomain, NO_ANSWER};
+use crate::listing::{self, Listing};
 use crate::reader::Reader;
 use crate::text::report;
 
@@ -16,13 +17,23 @@ pub struct Desk {
     pub largest: Filter,
     pub alternatives: fn(&Book, &[u8], Filter) -> Alternatives,
     pub load: fn(&Book, &[u8]) -> Result<Vec<u8>, Refusal>,
+    /// The numbers of a book's listing.
+    pub listing: fn(&Book) -> Vec<u16>,
     /// The call with its arguments as the desk takes them.
     pub taken: fn(&Call) -> Call,
 }
 
 impl Default for Desk {
     fn default() -> Desk {
-        Desk { reader: Reader::default(), different_rows: Book::different_rows, largest, alternatives, load, taken: Call::clone }
+        Desk {
+            reader: Reader::default(),
+            different_rows: Book::different_rows,
+            largest,
+            alternatives,
+            load,
+            listing: |book| Listing::of(book).numbers(),
+            taken: Call::clone,
+        }
     }
 }
 
@@ -123,16 +134,21 @@ pub fn after(reading: &Reading, calls: &[u8]) -> (Vec<u64>, Sheet) {
 /// An answer that writes nothing, from the sheet that it hands back.
 fn handing_back(result: Result<Sheet, Refusal>, otherwise: &Sheet) -> Answer {
     let sheet = *result.as_ref().unwrap_or(otherwise);
-    Answer { result: result.map(|_| Vec::new()), sheet, bytes: Vec::new(), numbers: Vec::new() }
+    Answer { result: result.map(|_| Vec::new()), sheet, written: Buffers::default() }
 }
 
-/// An answer that leaves the sheet and writes bytes.
-fn writing(result: Result<(Vec<u64>, Vec<u8>), Refusal>, sheet: Sheet) -> Answer {
-    let (result, bytes) = match result {
-        Ok((counts, bytes)) => (Ok(counts), bytes),
-        Err(r) => (Err(r), Vec::new()),
+/// An answer that leaves the sheet and writes what comes with its counts.
+fn writing<T: Into<Buffers>>(result: Result<(Vec<u64>, T), Refusal>, sheet: Sheet) -> Answer {
+    let (result, written) = match result {
+        Ok((counts, elements)) => (Ok(counts), elements.into()),
+        Err(r) => (Err(r), Buffers::default()),
     };
-    Answer { result, sheet, bytes, numbers: Vec::new() }
+    Answer { result, sheet, written }
+}
+
+/// The elements with their number before them.
+fn counted<T>(elements: Vec<T>) -> (Vec<u64>, Vec<T>) {
+    (vec![elements.len() as u64], elements)
 }
 
 impl Desk {
@@ -167,15 +183,24 @@ impl Desk {
         Ok(sheet)
     }
 
+    /// The bytes of the book that a listing says: 20.
+    fn written(&self, numbers: &[u16]) -> Result<(Vec<u64>, Vec<u8>), Refusal> {
+        let bytes = listing::book_bytes(&self.reader, numbers).or_else(|_| refuse(20, 0))?;
+        Ok(counted(bytes))
+    }
+
     /// What the call answers, on a book so read and on this sheet, where enough is lent.
     pub fn answer(&self, call: &Call, reading: &Reading, sheet: &Sheet) -> Answer {
         match (self.taken)(call) {
-            Call::Read => writing(self.read(reading).map(|counts| (counts, Vec::new())), *sheet),
+            Call::Read => writing(self.read(reading).map(|counts| (counts, Buffers::default())), *sheet),
             Call::Fresh | Call::Clear => handing_back(Ok(FRESH), sheet),
             Call::Enter { field, code } => handing_back(enter(reading, sheet, field, code), sheet),
             Call::Withdraw { field } => handing_back(withdraw(reading, sheet, field), sheet),
             Call::Load { form } => handing_back(self.loaded(reading, &form), &FRESH),
             Call::Alternatives => writing(self.listed(reading, sheet), *sheet),
+            Call::Filtered { relaxed } => {
+                writing(self.filtered(reading, sheet, relaxed).map(|numbers| (Vec::new(), numbers)), *sheet)
+            }
             Call::Store => {
                 let stored = opened(reading, sheet).map(|book| sheet[..book.counts.len()].to_vec());
                 writing(stored.map(|form| (Vec::new(), form)), *sheet)
@@ -184,15 +209,9 @@ impl Desk {
                 let (_, reached) = after(reading, &calls);
                 writing(self.listed(reading, &reached), reached)
             }
-            Call::Report { form } => {
-                let text = report(self, reading, &form).into_bytes();
-                writing(Ok((vec![text.len() as u64], text)), *sheet)
-            }
-            Call::Filtered { relaxed } => {
-                let found = self.filtered(reading, sheet, relaxed);
-                let numbers = found.as_ref().map_or(Vec::new(), |numbers| numbers.clone());
-                Answer { result: found.map(|_| Vec::new()), sheet: *sheet, bytes: Vec::new(), numbers }
-            }
+            Call::Report { form } => writing(Ok(counted(report(self, reading, &form).into_bytes())), *sheet),
+            Call::Show => writing(accepted(reading).map(|book| counted((self.listing)(book))), *sheet),
+            Call::Write { listing } => writing(self.written(&listing), *sheet),
         }
     }
 }
@@ -200,8 +219,8 @@ impl Desk {
 #[cfg(test)]
 mod tests {
     use super::{after, Desk, Reading};
-    use crate::book::Book;
-    use crate::calls::{Call, FRESH};
+    use crate::book::{refuse, Book};
+    use crate::calls::{Buffers, Call, FRESH};
 
     /// One field of two codes, and no table.
     fn book() -> Reading {
@@ -222,14 +241,32 @@ mod tests {
         let (desk, mut sheet) = (Desk::default(), FRESH);
         sheet[0] = 1;
         let found = desk.answer(&Call::Alternatives, &book(), &sheet);
-        assert_eq!(found.bytes, [0, 0, 0, 1]);
-        let short = found.left(&Call::Alternatives, &[7; 3], &[]);
-        assert_eq!((short.number, short.cells, short.bytes), (18, vec![0; 3], vec![7; 3]));
-        let long = found.left(&Call::Alternatives, &[7; 5], &[]);
-        assert_eq!((long.number, long.cells, long.bytes), (0, vec![0, 2, 1], vec![0, 0, 0, 1, 7]));
+        assert_eq!(found.written.bytes, [0, 0, 0, 1]);
+        let short = found.left(&Call::Alternatives, &vec![7u8; 3].into());
+        assert_eq!((short.number, short.cells, short.out.bytes), (18, vec![0; 3], vec![7; 3]));
+        let long = found.left(&Call::Alternatives, &vec![7u8; 5].into());
+        assert_eq!((long.number, long.cells, long.out.bytes), (0, vec![0, 2, 1], vec![0, 0, 0, 1, 7]));
         sheet[31] = 0;
-        let behind = desk.answer(&Call::Store, &book(), &sheet).left(&Call::Store, &[7], &[]);
+        let behind = desk.answer(&Call::Store, &book(), &sheet).left(&Call::Store, &vec![7u8].into());
         assert_eq!((behind.number, behind.cells, behind.sheet), (14, vec![31], sheet));
+    }
+
+    #[test]
+    fn a_listing_and_its_book() {
+        let (desk, write) = (Desk::default(), Call::Write { listing: vec![1, 2, 0] });
+        let shown = desk.answer(&Call::Show, &book(), &FRESH);
+        let short = shown.left(&Call::Show, &vec![7u16; 2].into());
+        assert_eq!((short.number, short.cells, short.out.listing), (18, vec![0; 2], vec![7; 2]));
+        let long = shown.left(&Call::Show, &vec![7u16; 4].into());
+        assert_eq!((long.number, long.cells, long.out.listing), (0, vec![0, 3], vec![1, 2, 0, 7]));
+        let refused = desk.answer(&Call::Show, &refuse(9, 4), &FRESH).left(&Call::Show, &vec![7u16].into());
+        assert_eq!((refused.number, refused.cells, refused.out.listing), (9, vec![4, 0], vec![7]));
+        let written = desk.answer(&write, &book(), &FRESH).left(&write, &vec![7u8; 8].into());
+        assert_eq!((written.number, written.cells), (0, vec![0, 7]));
+        assert_eq!(written.out.bytes, [2, 0, 0, 1, 0, 1, 0xE5, 7]);
+        let no_book = Call::Write { listing: vec![1, 2] };
+        let refused = desk.answer(&no_book, &book(), &FRESH).left(&no_book, &Buffers::default());
+        assert_eq!((refused.number, refused.cells), (20, vec![0; 2]));
     }
 
     #[test]

@@ -1,5 +1,5 @@
-//! An independent slow implementation of the desk, written from document 01 alone; seeded cases to compare libraries with it; and
-//! libraries that are wrong on purpose, to see that the cases tell them from it.
+//! An independent slow implementation of the desk, written from documents 01 and 02 alone; seeded cases to compare libraries with it;
+//! and libraries that are wrong on purpose, to see that the cases tell them from it.
 
 pub mod book;
 pub mod calls;
@@ -11,6 +11,8 @@ pub mod draft;
 pub mod faults;
 pub mod filter;
 pub mod library;
+pub mod listing;
+pub mod listings;
 pub mod memory;
 pub mod random;
 pub mod reader;

@@ -11,10 +11,13 @@ pub struct Lent {
     pub book: Part<u8>,
     /// A stored sheet or a list of calls, to be read only.
     pub list: Part<u8>,
+    /// To be read only.
+    pub listing: Part<u16>,
     /// To be read only by the calls that leave the sheet alone.
     pub sheet: Part<u8>,
     pub cells: Part<u64>,
     pub bytes: Part<u8>,
+    pub shown: Part<u16>,
     pub numbers: Part<u32>,
 }
 
@@ -61,6 +64,8 @@ impl Library for Exported {
             Call::Store => ffi::sighting_store(s, b, n, out, lent_len, o),
             Call::Replay { .. } => ffi::sighting_replay(s, b, n, list, list_len, out, lent_len, o),
             Call::Report { .. } => ffi::sighting_report(b, n, list, list_len, out, lent_len, o),
+            Call::Show => ffi::sighting_show(b, n, lent.shown.at, lent.shown.len, o),
+            Call::Write { .. } => ffi::sighting_write(lent.listing.at, lent.listing.len, out, lent_len, o),
         }
     }
 }
@@ -102,6 +107,8 @@ impl Library for Wrapper {
                 counts(result)
             }
             Call::Report { .. } => sighting::report(book, list, bytes).map(|length| vec![length]),
+            Call::Show => sighting::show(book, lent.shown.elements_mut()).map(|written| vec![written]),
+            Call::Write { .. } => sighting::write(lent.listing.elements(), bytes).map(|written| vec![written]),
         };
         if !call.only_reads_sheet() {
             lent.sheet.elements_mut().copy_from_slice(sheet.bytes());
@@ -164,4 +171,20 @@ pub fn one_by_one(book: &[u8], calls: &[u8]) -> (Vec<u64>, Sheet) {
         numbers.push(result.map_or_else(|r| r.number, |()| 0));
     }
     (numbers, *sheet.bytes())
+}
+
+/// The listing that the library shows for a book.
+pub fn shown(book: &[u8]) -> Result<Vec<u16>, Refusal> {
+    let mut out = vec![0; sighting::LISTING_NUMBERS];
+    let written = sighting::show(book, &mut out)?;
+    out.truncate(written as usize);
+    Ok(out)
+}
+
+/// The bytes that the library writes for a listing.
+pub fn written(listing: &[u16]) -> Result<Vec<u8>, Refusal> {
+    let mut out = vec![0; sighting::BOOK_BYTES];
+    let written = sighting::write(listing, &mut out)?;
+    out.truncate(written as usize);
+    Ok(out)
 }

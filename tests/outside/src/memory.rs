@@ -21,8 +21,8 @@ const MAP_ANONYMOUS: c_int = 0x20;
 
 const PAGE: usize = 4096;
 
-/// The bytes of a room: more than any book, list or buffer of the cases has.
-const ROOM: usize = 16 * PAGE;
+/// The bytes of a room: more than any book, list, listing or buffer of the cases has.
+const ROOM: usize = 160 * PAGE;
 
 /// How many known bytes stand beside what is lent.
 const BESIDE: usize = 64;

@@ -2,8 +2,9 @@
 //!
 //! `calls CASES [SEED]` runs the cases of a seed, 1 if none is given; `calls case INDEX SEED` repeats one of them. Each call is made
 //! bare and by the safe wrapper, with buffers one short, exact, longer, as long as the header says suffices, and of length 0, and with
-//! its memory flush against a page that nobody may touch, in front and behind; a list of calls is also made one by one. The run prints
-//! how often each refusal of each call was reached and what else the cases had, and fails if something was missed.
+//! its memory flush against a page that nobody may touch, in front and behind; a list of calls is also made one by one, and a book that
+//! is shown or written goes the way back too. The run prints how often each refusal of each call was reached and what else the cases
+//! had, and fails if something was missed.
 
 use std::ffi::c_int;
 use std::io::Write;
@@ -16,7 +17,7 @@ use outside::cases::{case, Case};
 use outside::compare::{trials, Rooms, Trial};
 use outside::coverage::Coverage;
 use outside::desk::{after, Desk, Reading};
-use outside::library::{one_by_one, Exported, Library, OneByOne, Wrapper};
+use outside::library::{one_by_one, shown, written, Exported, Library, OneByOne, Wrapper};
 
 extern "C" {
     fn signal(number: c_int, handler: extern "C" fn(c_int)) -> usize;
@@ -53,6 +54,23 @@ fn list_agrees(case: &Case, reading: &Reading, call: &Call) -> bool {
     expected == got
 }
 
+/// An accepted book is shown and written again, and so is what a listing is written to: each gives what it began with.
+fn round_trips_agree(case: &Case, call: &Call) -> bool {
+    let agrees = match call {
+        Call::Show => {
+            shown(&case.book).is_err() || shown(&case.book).and_then(|numbers| written(&numbers)) == Ok(case.book.clone())
+        }
+        Call::Write { listing } => {
+            written(listing).is_err() || written(listing).and_then(|bytes| shown(&bytes)) == Ok(listing.clone())
+        }
+        _ => true,
+    };
+    if !agrees {
+        println!("{call:?} and the way back does not give what it began with");
+    }
+    agrees
+}
+
 /// The ways to make a call.
 fn ways(call: &Call) -> &'static [(&'static str, &'static dyn Library)] {
     let ways: &[(&str, &dyn Library)] = &[("bare", &Exported), ("by the wrapper", &Wrapper), ("one by one", &OneByOne)];
@@ -78,7 +96,7 @@ fn case_agrees(rooms: &Rooms, seed: u64, index: u64, seen: &mut Coverage) -> boo
     let trials = trials(&case, &reading, seed, index);
     seen.note(&case, &reading, &trials);
     trials.iter().all(|trial| trial_agrees(rooms, &case, trial))
-        && case.calls.iter().all(|call| list_agrees(&case, &reading, call))
+        && case.calls.iter().all(|call| list_agrees(&case, &reading, call) && round_trips_agree(&case, call))
 }
 
 fn agrees(rooms: &Rooms, seed: u64, index: u64, seen: &mut Coverage) -> bool {

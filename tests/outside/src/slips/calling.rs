@@ -11,8 +11,11 @@ use crate::desk::{faults, Desk};
 use crate::filter::{largest, NO_ANSWER};
 use crate::reader::field_list;
 
-const TELLING: &[&str] = &["read", "enter", "withdraw", "filtered", "alternatives", "load", "store", "replay", "report"];
-const WRITING: &[&str] = &["filtered", "alternatives", "store", "replay", "report"];
+const TELLING: &[&str] =
+    &["read", "enter", "withdraw", "filtered", "alternatives", "load", "store", "replay", "report", "show", "write"];
+const WRITING: &[&str] = &["filtered", "alternatives", "store", "replay", "report", "show", "write"];
+/// The calls that write and have a count.
+const COUNTING: &[&str] = &["alternatives", "replay", "report", "show", "write"];
 const OF_A_FIELD: &[&str] = &["enter", "withdraw", "filtered"];
 const OF_A_SHEET: &[&str] = &["enter", "withdraw", "filtered", "alternatives", "store"];
 
@@ -36,7 +39,7 @@ pub const SLIPS: &[Listed] = &[
     ("a code that does not stand refused by 16", &["enter"], Left(standing_codes_only)),
     ("18 where just enough is lent", WRITING, Left(more_room_asked)),
     ("18 only after what fits was written", WRITING, Left(written_as_it_fits)),
-    ("18 with its counts", &["alternatives", "replay", "report"], Left(counted_and_refused)),
+    ("18 with its counts", COUNTING, Left(counted_and_refused)),
     ("zeros behind what is written", WRITING, Left(cleared_behind)),
     ("a refusal clears the sheet", &["enter", "withdraw", "replay"], Left(|_, left| if_refused(left, |left| left.sheet = FRESH))),
     ("a refusal leaves the sheet", &["load"], Left(|seen, left| if_refused(left, |left| left.sheet = *seen.sheet))),
@@ -144,30 +147,28 @@ fn standing_codes_only(seen: &Seen, left: &mut calls::Left) {
 }
 
 /// Tells a refusal by another number, where that one holds too. Neither writes anything.
-fn before(left: &mut calls::Left, number: u64, other: u64, holds: impl Fn() -> bool) {
+pub fn before(left: &mut calls::Left, number: u64, other: u64, holds: impl Fn() -> bool) {
     if left.number == number && holds() {
         left.number = other;
         left.cells.fill(0);
     }
 }
 
-fn if_refused(left: &mut calls::Left, change: impl Fn(&mut calls::Left)) {
+pub fn if_refused(left: &mut calls::Left, change: impl Fn(&mut calls::Left)) {
     if left.number != 0 {
         change(left);
     }
 }
 
 fn more_room_asked(seen: &Seen, left: &mut calls::Left) {
-    let written = seen.answer.bytes.len().max(seen.answer.numbers.len());
-    if left.number == 0 && written == seen.lent {
+    if left.number == 0 && seen.answer.written.elements() == seen.lent {
         *left = calls::Left { number: 18, cells: vec![0; left.cells.len()], ..left.clone() };
     }
 }
 
 fn written_as_it_fits(seen: &Seen, left: &mut calls::Left) {
     if left.number == 18 {
-        left.bytes.iter_mut().zip(&seen.answer.bytes).for_each(|(byte, &written)| *byte = written);
-        left.numbers.iter_mut().zip(&seen.answer.numbers).for_each(|(number, &written)| *number = written);
+        left.out.write(&seen.answer.written);
     }
 }
 
@@ -179,8 +180,10 @@ fn counted_and_refused(seen: &Seen, left: &mut calls::Left) {
 
 fn cleared_behind(seen: &Seen, left: &mut calls::Left) {
     if left.number == 0 {
-        left.bytes[seen.answer.bytes.len()..].fill(0);
-        left.numbers[seen.answer.numbers.len()..].fill(0);
+        let written = &seen.answer.written;
+        left.out.bytes[written.bytes.len()..].fill(0);
+        left.out.listing[written.listing.len()..].fill(0);
+        left.out.numbers[written.numbers.len()..].fill(0);
     }
 }
 

@@ -218,6 +218,6 @@ mod tests {
     fn the_repeat_makes_five_lines() {
         let slipping = Desk { alternatives: super::line_for_each_row, ..Desk::default() };
         let [listed, _] = shown(&slipping, &e1(), &sheet([0, 1, 255]));
-        assert_eq!(listed.bytes.len(), 2 * 5);
+        assert_eq!(listed.written.bytes.len(), 2 * 5);
     }
 }

@@ -3,10 +3,11 @@
 
 mod calling;
 mod filtering;
+mod listing;
 mod reading;
 mod straying;
 
-use crate::calls::{Answer, Call, Left, Sheet};
+use crate::calls::{Answer, Buffers, Call, Left, Sheet};
 use crate::desk::{Desk, Reading};
 use crate::library::{Lent, Library};
 pub use straying::Stray;
@@ -50,7 +51,7 @@ impl Slip {
 
 /// All slips, each in each of its calls.
 pub fn all() -> Vec<Slip> {
-    let listed = [reading::SLIPS, filtering::SLIPS, calling::SLIPS].concat();
+    let listed = [reading::SLIPS, filtering::SLIPS, calling::SLIPS, listing::SLIPS].concat();
     let in_each = |(what, calls, wrong): Listed| calls.iter().map(move |call| Slip::new(call, what, wrong));
     listed.into_iter().flat_map(in_each).chain(straying::slips()).collect()
 }
@@ -77,11 +78,16 @@ impl Library for SlowLibrary {
         let (book, sheet) = (lent.book.elements(), lent.sheet());
         let reading = self.desk.reader.read(book);
         let answer = self.desk.answer(call, &reading, &sheet);
-        let mut left = answer.left(call, lent.bytes.elements(), lent.numbers.elements());
+        let out = Buffers {
+            bytes: lent.bytes.elements().to_vec(),
+            listing: lent.shown.elements().to_vec(),
+            numbers: lent.numbers.elements().to_vec(),
+        };
+        let mut left = answer.left(call, &out);
         match &self.wrong {
             Some(Wrong::Left(change)) => {
-                let lent = lent.bytes.len.max(lent.numbers.len);
-                change(&Seen { call, book, reading: &reading, sheet: &sheet, answer: &answer, lent }, &mut left);
+                let seen = Seen { call, book, reading: &reading, sheet: &sheet, answer: &answer, lent: out.elements() };
+                change(&seen, &mut left);
             }
             Some(Wrong::Memory(stray)) => stray.touch(lent),
             _ => {}
@@ -90,8 +96,9 @@ impl Library for SlowLibrary {
             lent.sheet.elements_mut().copy_from_slice(&left.sheet);
         }
         lent.cells.elements_mut().copy_from_slice(&left.cells);
-        lent.bytes.elements_mut().copy_from_slice(&left.bytes);
-        lent.numbers.elements_mut().copy_from_slice(&left.numbers);
+        lent.bytes.elements_mut().copy_from_slice(&left.out.bytes);
+        lent.shown.elements_mut().copy_from_slice(&left.out.listing);
+        lent.numbers.elements_mut().copy_from_slice(&left.out.numbers);
         left.number
     }
 }

@@ -50,11 +50,11 @@ pub const SLIPS: &[Listed] = &[
     of("a row repeated in another table not counted as different", |desk| desk.different_rows = different_in_all),
 ];
 
-fn whole(desk: &mut Desk, stage: usize, test: Test) {
+pub fn whole(desk: &mut Desk, stage: usize, test: Test) {
     desk.reader.stages[stage] = Stage::Whole(test);
 }
 
-fn table(desk: &mut Desk, place: usize, test: TableTest) {
+pub fn table(desk: &mut Desk, place: usize, test: TableTest) {
     desk.reader.table_tests()[place] = test;
 }
 

@@ -8,9 +8,11 @@ use crate::library::Lent;
 enum Memory {
     Book,
     List,
+    Listing,
     Sheet,
     Outcome,
     Bytes,
+    Shown,
     Numbers,
 }
 
@@ -44,9 +46,11 @@ impl Stray {
         let (at, length) = match self.memory {
             Memory::Book => (lent.book.at, lent.book.len),
             Memory::List => (lent.list.at, lent.list.len),
+            Memory::Listing => (lent.listing.at.cast(), 2 * lent.listing.len),
             Memory::Sheet => (lent.sheet.at, lent.sheet.len),
             Memory::Outcome => (lent.cells.at.cast(), 8 * lent.cells.len),
             Memory::Bytes => (lent.bytes.at, lent.bytes.len),
+            Memory::Shown => (lent.shown.at.cast(), 2 * lent.shown.len),
             Memory::Numbers => (lent.numbers.at.cast(), 4 * lent.numbers.len),
         };
         let byte: *mut u8 = match self.place {
@@ -62,17 +66,22 @@ impl Stray {
 }
 
 /// The calls that each memory is lent to.
-const LENT: [(Memory, &[&str]); 6] = [
-    (Memory::Book, &["read", "enter", "withdraw", "filtered", "alternatives", "load", "store", "replay", "report"]),
+const LENT: [(Memory, &[&str]); 8] = [
+    (Memory::Book, &["read", "enter", "withdraw", "filtered", "alternatives", "load", "store", "replay", "report", "show"]),
     (Memory::List, &["load", "replay", "report"]),
+    (Memory::Listing, &["write"]),
     (Memory::Sheet, &["fresh", "clear", "enter", "withdraw", "filtered", "alternatives", "load", "store", "replay"]),
-    (Memory::Outcome, &["read", "enter", "withdraw", "filtered", "alternatives", "load", "store", "replay", "report"]),
-    (Memory::Bytes, &["alternatives", "store", "replay", "report"]),
+    (
+        Memory::Outcome,
+        &["read", "enter", "withdraw", "filtered", "alternatives", "load", "store", "replay", "report", "show", "write"],
+    ),
+    (Memory::Bytes, &["alternatives", "store", "replay", "report", "write"]),
+    (Memory::Shown, &["show"]),
     (Memory::Numbers, &["filtered"]),
 ];
 
 /// The calls that each memory is lent to be read only.
-const LENT_TO_READ: [(Memory, &[&str]); 3] = [LENT[0], LENT[1], (Memory::Sheet, &["filtered", "alternatives", "store"])];
+const LENT_TO_READ: [(Memory, &[&str]); 4] = [LENT[0], LENT[1], LENT[2], (Memory::Sheet, &["filtered", "alternatives", "store"])];
 
 const BESIDE: [(Place, Access); 4] = [
     (Place::Before, Access::Read),
