@@ -1,6 +1,7 @@
 // What a call answers and the sheet that it hands back, put where the caller lent room for them.
-ghost use mathlib.Core.List.{List};
+ghost use mathlib.Core.List.{List, [], _∷_};
 ghost use Prim.Native.Nat.{ℕ};
+ghost use Rattle.format.specs.Reading.{accepted, refused};
 ghost use Rattle.sheet.specs.Shown.{shown, shownListing, resultOf, listResultOf};
 ghost use Rattle.sighting.specs.Exported.{Tells, Exports};
 use sheet::Answer;
@@ -60,4 +61,20 @@ pub(crate) fn hand_list(handed: HandedList, sheet: &mut [u8; 32], outcome: &mut 
     *sheet = places;
     let listing = handed.answer;
     tell_list(listing, outcome)
+}
+
+// The answer of a call that wrote count elements.
+pub(crate) fn tell_written(count: usize, outcome: &mut [u64; 2]) -> u64
+    ensures { λ r. ⌜ Tells r (now (outcome .exit)) (accepted (count ∷ [])) ⌝ }
+{
+    *outcome = [0, count as u64];
+    0
+}
+
+// The answer of such a call that is refused.
+pub(crate) fn tell_declined(number: u64, place: usize, outcome: &mut [u64; 2]) -> u64
+    ensures { λ r. ⌜ Tells r (now (outcome .exit)) (refused 1 number place) ⌝ }
+{
+    *outcome = [place as u64, 0];
+    number
 }

@@ -18,7 +18,9 @@ use book::Reading;
 use handed::hand;
 use handed::hand_list;
 use handed::tell;
+use handed::tell_declined;
 use handed::tell_list;
+use handed::tell_written;
 use listing::Shown;
 use listing::Written;
 use report::Printed;
@@ -63,18 +65,12 @@ pub extern "C" fn sighting_show(book: &[u8], out: &mut [u16], outcome: &mut [u64
 {
     let shown = listing::show(book, out);
     match shown {
-        Shown::Numbers(count) => {
-            *outcome = [0, count as u64];
-            0
-        }
+        Shown::Numbers(count) => tell_written(count, outcome),
         Shown::Refused(kind, place) => {
-            *outcome = [place as u64, 0];
-            book::number(kind)
+            let number = book::number(kind);
+            tell_declined(number, place, outcome)
         }
-        Shown::TooShort => {
-            *outcome = [0, 0];
-            18
-        }
+        Shown::TooShort => tell_declined(18, 0, outcome),
     }
 }
 
@@ -86,18 +82,9 @@ pub extern "C" fn sighting_write(listing: &[u16], out: &mut [u8], outcome: &mut 
 {
     let written = listing::write(listing, out);
     match written {
-        Written::Bytes(count) => {
-            *outcome = [0, count as u64];
-            0
-        }
-        Written::Unwritable => {
-            *outcome = [0, 0];
-            20
-        }
-        Written::TooShort => {
-            *outcome = [0, 0];
-            18
-        }
+        Written::Bytes(count) => tell_written(count, outcome),
+        Written::Unwritable => tell_declined(20, 0, outcome),
+        Written::TooShort => tell_declined(18, 0, outcome),
     }
 }
 
@@ -241,13 +228,7 @@ pub extern "C" fn sighting_report(
 {
     let printed = report::report(book, form, out);
     match printed {
-        Printed::Written(length) => {
-            *outcome = [0, length as u64];
-            0
-        }
-        Printed::TooShort => {
-            *outcome = [0, 0];
-            18
-        }
+        Printed::Written(length) => tell_written(length, outcome),
+        Printed::TooShort => tell_declined(18, 0, outcome),
     }
 }

@@ -12,20 +12,26 @@ report-requires c κs = search needs
 enum-known-printed : tie.Need-enum-known-printed
 enum-known-printed c = search needs
 
+tell-written-requires : tie.Need-tell-written-requires
+tell-written-requires c κs = search needs
+
 enum-told : tie.Need-enum-told
 enum-told c = search needs
+
+tell-declined-requires : tie.Need-tell-declined-requires
+tell-declined-requires c κs = search needs
 
 same-length : tie.Need-same-length
 same-length c = search needs
 
 returns : tie.Need-returns
-returns c = replies-along (record { tells = record { number-is = refl; cells-are = refl }; buffer-is = refl }) (sym (ap₂ shown (c .before .before .printed .given .1) refl) ∙ c .before .before .before .before .before .before .report .ensures)
+returns c = replies-along (record { tells = c .tell-written .ensures; buffer-is = refl }) (sym (ap₂ shown (c .before .before .before .printed .given .1) refl) ∙ c .before .before .before .before .before .before .before .report .ensures)
 
 same-length-2 : tie.Need-same-length-2
 same-length-2 c = search needs
 
 returns-2 : tie.Need-returns-2
-returns-2 c = replies-along (record { tells = record { number-is = refl; cells-are = refl }; buffer-is = refl }) (sym (ap₂ shown (c .before .enum-told .given .1) refl) ∙ c .before .before .before .before .before .report .ensures)
+returns-2 c = replies-along (record { tells = c .tell-declined .ensures; buffer-is = refl }) (sym (ap₂ shown (c .before .before .enum-told .given .1) refl) ∙ c .before .before .before .before .before .before .report .ensures)
 
 pub sighting-report-spec : {M : Type 1} → statement M
 sighting-report-spec =
@@ -33,7 +39,9 @@ sighting-report-spec =
     (tie.spec
     report-requires
     enum-known-printed
+    tell-written-requires
     enum-told
+    tell-declined-requires
     same-length
     returns
     same-length-2
