@@ -32,7 +32,7 @@ pub enum Fault {
 /// The numbers of a listing that have not been taken yet.
 struct Numbers<'a>(&'a [u16]);
 
-impl<'a> Numbers<'a> {
+impl Numbers<'_> {
     fn take(&mut self, how_many: usize) -> Result<Vec<u16>, Fault> {
         let (taken, rest) = self.0.split_at_checked(how_many).ok_or(Fault::Missing)?;
         self.0 = rest;
