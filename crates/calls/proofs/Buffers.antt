@@ -11,7 +11,7 @@ use Rattle.format.specs.Listing.{listingOf, bookIn}
 use Rattle.format.specs.Writing.{laidOut, writable}
 use Rattle.format.proofs.Numbers.{fail-number}
 use Rattle.format.proofs.Accepted.{verdict-accepted, accepted-promise}
-use Rattle.format.proofs.Decode.{promise-layout}
+use Rattle.format.proofs.Decode.{promise-well}
 use Rattle.format.proofs.WriteAndShow.{book-well, write-and-show}
 use Rattle.consistency.specs.Counts.{total}
 use Rattle.consistency.proofs.Limits.{total-few}
@@ -76,9 +76,9 @@ suffices =
       form = λ bytes s o l e.
           let r = refused-18 bytes s (to-store o) refl e in
           omega (arith, store-short (r .1) e, accepted-within bytes (r .0) .few);
-      listing = λ bytes o b l e.
+      listing = λ bytes o l e.
           let r = refused-18 bytes [] (to-show o) refl e in
-          let well = promise-layout bytes b (accepted-promise bytes (r .0)) .0 in
+          let well = promise-well bytes (accepted-promise bytes (r .0)) in
           omega (arith, show-short (r .1), write-and-show .each (bookOf bytes) well .numbers-few);
       book = λ l o h e.
           let w = write-short (of-writing (condition1 [] [] (to-write l o) (λ z. omega arith) .reason)) e in

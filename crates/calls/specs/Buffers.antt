@@ -4,7 +4,6 @@ use mathlib.Core.Logic.{_≢_}
 use mathlib.Core.List.{List}
 use lib.ListN.{length}
 use Rattle.format.specs.Format.{codeLimit}
-use Rattle.format.specs.Layout.{Bytes}
 use Rattle.format.specs.Writing.{showing, writing, bookLimit, listingLimit}
 use Rattle.consistency.specs.Consistency.{places}
 use Rattle.calls.specs.Calls.{filtered, alternatives, stored}
@@ -27,5 +26,5 @@ pub record Suffices : Type 0 where
   pub numbers : (bytes s : List ℕ) (f : ℕ) (o : List ℕ) → numbersEnough ≤ length o → filtered bytes s f o .outcome .number ≢ 18
   pub form : (bytes s o : List ℕ) → formEnough ≤ length o → stored bytes s o .outcome .number ≢ 18
   -- Request M-100: numbers for a book's listing, bytes for a book
-  pub listing : (bytes o : List ℕ) → Bytes bytes → listingLimit ≤ length o → showing bytes o .outcome .number ≢ 18
+  pub listing : (bytes o : List ℕ) → listingLimit ≤ length o → showing bytes o .outcome .number ≢ 18
   pub book : (l o : List ℕ) → bookLimit ≤ length o → writing l o .outcome .number ≢ 18

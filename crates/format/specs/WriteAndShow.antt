@@ -17,7 +17,7 @@ pub record HasListing (l : List ℕ) : Type 0 where
   pub numbers : l ≡ listingOf book
 
 -- of a well-formed book
-pub record Lists (b : Book) : Type 0 where
+pub record WrittenAndShown (b : Book) : Type 0 where
   -- "a run of 16-bit numbers"
   pub words : All (λ x. x < 65536) (listingOf b)
   -- they say the book: "The writer keeps the listing's order and its repeats"
@@ -32,7 +32,7 @@ pub record Lists (b : Book) : Type 0 where
 pub record WriteAndShow : Type 0 where
   -- 20 is for what is no listing of a well-formed book, and for nothing else
   pub exactly : (l o : List ℕ) → (writing l o .outcome .number ≢ 20) ↔ HasListing l
-  pub each : (b : Book) → WellFormed b → Lists b
+  pub each : (b : Book) → WellFormed b → WrittenAndShown b
   -- "Writing a listing and reading the bytes shows that listing"
   pub write-show : (l o o′ : List ℕ) → writing l o .outcome .number ≡ 0 → showing (written (writing l o)) o′ ≡ into l o′
   -- "reading an accepted book and writing what it shows gives its bytes"

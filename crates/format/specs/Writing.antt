@@ -18,8 +18,8 @@ pub record Reply : Type 0 where
 abbrev pub declined : List ℕ → ℕ → ℕ → Reply
 declined o number place = record { outcome = refused 1 number place; buffer = o }
 
--- 18, place 0, if fewer numbers or bytes are lent than xs has; else xs is written, what stands behind it "keep[s its] contents", and the call
--- "tells in its result how many bytes or numbers it wrote"
+-- 18, place 0, if fewer numbers or bytes are lent than xs has; else xs is written, what stands behind it stays, and the call "tells in its
+-- result how many bytes or numbers it wrote"
 unfoldable pub into : List ℕ → List ℕ → Reply
 into xs o =
     pick (ltb (length o) (length xs))

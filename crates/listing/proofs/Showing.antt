@@ -1,14 +1,17 @@
 -- A table's numbers as parts of the book's bytes, and how many they are. Assumes nothing.
 use mathlib.Core.Path.{_≡_, refl, sym, ap, _∙_}
 use mathlib.Core.List.{List, [], _∷_, _++_, append-nil}
-use Prim.Native.Nat.{ℕ, zero, suc, _+_, _-_, _*_, _≤_, _<_}
-use native.Mathlib.Nat.{add-zero, sub-zero}
+use Prim.Native.Nat.{ℕ, suc, _+_, _-_, _*_, _≤_, _<_}
+use native.Mathlib.Nat.{sub-zero}
 use native.Mathlib.Numerals.{add-one}
 use native.Mathlib.Omega.{arith}
 use lib.ListN.{length, drop, set, length-append}
 use lib.Seq.{sets}
 use Rattle.format.specs.Format.{byte, part, le16, arityAt, rowsOf, firstRow, tableEnd, tableAt, tablesAt, tableCount, bookOf}
 use Rattle.format.specs.Promise.{place}
+use Rattle.format.proofs.Decode.{list-length}
+use Rattle.format.proofs.Parsing.{listing-length}
+use Rattle.format.proofs.Sizes.{tables-longer}
 use Rattle.format.proofs.Views.{part-length, table-rows, table-arity, places-rise, counts-count, tables-count}
 use Rattle.book.specs.View.{Numbered}
 use Rattle.format.specs.Listing.{tableNumbers, tablesNumbers, listingOf}
@@ -119,18 +122,6 @@ module _ (s : List ℕ) (tables i at n : ℕ) (h : i < tables) (e : at ≡ place
 
 -- ---- the listing of an accepted book
 
--- the numbers of n tables from table i on, by places
-numbers-places : (s : List ℕ) (n i : ℕ) → place s (i + n) ≤ length s
-    → place s i + length (tablesNumbers (tablesAt s (place s i) n)) + n ≡ place s (i + n)
-unfolding place tablesAt
-numbers-places s zero i h = let e : i + 0 ≡ i = add-zero i in rw e (omega arith)
-numbers-places s (suc n) i h =
-    let e : i + suc n ≡ suc i + n = omega arith in
-    let h′ : place s (suc i + n) ≤ length s = rw e at h in
-    let r = numbers-places s n (suc i) h′ in
-    let t = numbers-length s (place s i) (arityAt s (place s i)) (rowsOf s (place s i)) refl refl (omega (arith, places-rise s i (suc i + n) (omega arith))) in
-    rw e (omega (arith, length-append (tableNumbers (tableAt s (place s i))) (tablesNumbers (tablesAt s (tableEnd s (place s i)) n))))
-
 module _ (s : List ℕ) (list fields tables : ℕ) (v : Numbered s list fields tables) where
   -- the tables end within the bytes
   pub tables-within : place s tables ≤ length s
@@ -151,14 +142,16 @@ module _ (s : List ℕ) (list fields tables : ℕ) (v : Numbered s list fields t
       let l = part-length s list fields counts-within in
       rw listing-parts (omega (arith, length-append (part s list fields) (tables ∷ tablesNumbers (tablesAt s 0 tables))))
 
+  -- one less for each table than the bytes of tables and field list, and the two numbers of fields and of tables
   pub listing-count : (2 + fields + list - tables ≡ length (listingOf (bookOf s))) × (tables ≤ 2 + fields + list)
-  unfolding place
   listing-count =
-      let h = tables-within in
-      let z : 0 + tables ≡ tables = omega arith in
-      let n = rw z at (numbers-places s tables 0 (rw z h)) in
-      let e : place s tables ≡ list = ap (place s) (v .tables-is) ∙ (v .promise .last ∙ sym (v .list-is)) in
-      (omega (arith, listing-size), omega arith)
+      let b = bookOf s in
+      let l = list-length s (v .promise) in
+      let t = tables-longer (b .tables) in
+      let n = tables-count s in
+      let c = counts-count s (v .promise .whole) in
+      let w = listing-length b in
+      (omega (arith, v .list-is, v .fields-is, v .tables-is), omega (arith, v .list-is, v .tables-is))
 
   -- stored in four steps
   pub book-stored : (o : List ℕ) → length (listingOf (bookOf s)) ≤ length o
