@@ -1,14 +1,12 @@
--- E1 is shown as its listing, its listing is written as E1, and listings at fault are refused. Assumes nothing.
+-- E1 is shown as its listing, and its listing is written as E1, both computed. Assumes nothing.
 use mathlib.Core.Path.{_≡_, refl}
-use mathlib.Core.Bool.{true, false}
-use mathlib.Core.List.{[], _∷_}
+use mathlib.Core.Bool.{true}
 use Rattle.format.specs.Basics.{scan, firstBad}
 use Rattle.format.specs.Format.{tableBytes, trailerBytes, encode, rowsAt, tableAt, tablesAt, bookOf}
 use Rattle.format.specs.Reading.{trailerTest, listTest, rowsStep, tableStep, tablesStep, verdict, reading}
-use Rattle.format.specs.Examples.{e1}
 use Rattle.format.specs.Listing.{tableNumbers, listingOf, tableIn, tablesIn, tablesEnd, bookIn}
 use Rattle.format.specs.Writing.{laidOut, writable}
-use Rattle.format.specs.Examples.{e1Listing}
+use Rattle.format.specs.Examples.{e1, e1Listing}
 
 pub e1-listing : listingOf (bookOf e1) ≡ e1Listing
 unfolding listingOf tableNumbers bookOf tablesAt tableAt rowsAt
@@ -21,21 +19,3 @@ e1-laid = refl
 pub e1-writable : writable e1Listing ≡ true
 unfolding writable bookIn tablesIn tableIn tablesEnd rowsAt encode trailerBytes tableBytes reading verdict trailerTest listTest tablesStep tableStep rowsStep firstBad scan
 e1-writable = refl
-
--- a number missing, one left over, and one too large for its byte
-pub missing : writable (1 ∷ 2 ∷ 1 ∷ 1 ∷ 0 ∷ 1 ∷ []) ≡ false
-unfolding writable bookIn tablesIn tableIn tablesEnd rowsAt encode trailerBytes tableBytes reading verdict trailerTest listTest tablesStep tableStep rowsStep firstBad scan
-missing = refl
-
-pub left-over : writable (1 ∷ 1 ∷ 0 ∷ 0 ∷ []) ≡ false
-unfolding writable bookIn tablesIn tableIn tablesEnd rowsAt encode trailerBytes tableBytes reading verdict trailerTest listTest tablesStep tableStep rowsStep firstBad scan
-left-over = refl
-
-pub too-large : writable (1 ∷ 257 ∷ 0 ∷ []) ≡ false
-unfolding writable bookIn tablesIn tableIn tablesEnd rowsAt encode trailerBytes tableBytes reading verdict trailerTest listTest tablesStep tableStep rowsStep firstBad scan
-too-large = refl
-
--- one that reading would refuse: a field of 33 codes
-pub unread : writable (1 ∷ 33 ∷ 0 ∷ []) ≡ false
-unfolding writable bookIn tablesIn tableIn tablesEnd rowsAt encode trailerBytes tableBytes reading verdict trailerTest listTest tablesStep tableStep rowsStep firstBad scan
-unread = refl

@@ -16,7 +16,7 @@ use Rattle.format.proofs.Views.{noTable, tables-count, table-view, coun
 use Rattle.format.proofs.Tables.{table-promise}
 
 -- a two-byte number, read
-pub word-read : (s : List ℕ) (p n : ℕ) (xs : List ℕ) → drop p s ≡ word n ++ xs → le16 s p ≡ n
+word-read : (s : List ℕ) (p n : ℕ) (xs : List ℕ) → drop p s ≡ word n ++ xs → le16 s p ≡ n
 word-read s p n xs e =
     let lo = byte-front s p _ _ e in
     let hi = byte-front s (p + 1) _ _ (drop-behind s p (n % 256 ∷ []) (n / 256 ∷ xs) e) in

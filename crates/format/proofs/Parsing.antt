@@ -68,7 +68,7 @@ tables-read l post (t ∷ ts) p o e =
     (rw (r .0, i .0), (omega (arith, i .1 .0, end, length-append (tableNumbers t) (tablesNumbers ts)), i .1 .1))
 
 -- a well-formed book is of version 1
-pub version-one : (v : ℕ) → 1 ≤ fieldLimit v → v ≡ 1
+version-one : (v : ℕ) → 1 ≤ fieldLimit v → v ≡ 1
 version-one v h = go (eqb v 1) refl
   where
     go : (t : Bool) → eqb v 1 ≡ t → v ≡ 1

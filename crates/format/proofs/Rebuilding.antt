@@ -34,7 +34,7 @@ module _ (l : List ℕ) where
   unfolding tableIn
   table-rows p = rows-count l (arityIn l p) (firstRowIn l p) (rowCountIn l p)
 
-  pub table-even : (p : ℕ) → tableEndIn l p ≤ length l → Even (tableIn l p)
+  table-even : (p : ℕ) → tableEndIn l p ≤ length l → Even (tableIn l p)
   unfolding tableIn
   table-even p h = rw (table-fields p h) (rows-width l (arityIn l p) (firstRowIn l p) (rowCountIn l p) h)
 
@@ -73,7 +73,7 @@ module _ (l : List ℕ) where
       ∙ ap (λ (r : List ℕ). tableNumbers (tableIn l p) ++ r) (tables-then n (tableEndIn l p) h)
       ∙ table-then p (omega (arith, ends-rise n (tableEndIn l p)))
 
-  pub tables-even-in : (n p : ℕ) → tablesEnd l p n ≤ length l → All Even (tablesIn l p n)
+  tables-even-in : (n p : ℕ) → tablesEnd l p n ≤ length l → All Even (tablesIn l p n)
   unfolding tablesIn tablesEnd
   tables-even-in zero p h = tt
   tables-even-in (suc n) p h =

@@ -15,7 +15,7 @@ use Rattle.format.proofs.Encode.{tables-even, encode-length}
 use Rattle.format.proofs.Parsing.{flat-length, listing-length}
 
 -- a table has one number less than bytes
-pub table-longer : (t : Table) → length (tableBytes t) ≡ length (tableNumbers t) + 1
+table-longer : (t : Table) → length (tableBytes t) ≡ length (tableNumbers t) + 1
 unfolding tableBytes tableNumbers
 table-longer t =
     omega (arith, length-append (t .fields) (word (length (t .rows)) ++ flat (t .rows)), length-append (t .fields) (length (t .rows) ∷ flat (t .rows)))

@@ -26,7 +26,7 @@ pub sets-front : (o xs : List ℕ) → length xs ≤ length o → sets o 0 xs �
 sets-front o xs h = rw (sets-eq xs o 0 (omega arith), zero-add)
 
 -- one number more of a part
-pub part-more : (s : List ℕ) (p i : ℕ) → p + i < length s → part s p (i + 1) ≡ part s p i ++ (byte s (p + i) ∷ [])
+part-more : (s : List ℕ) (p i : ℕ) → p + i < length s → part s p (i + 1) ≡ part s p i ++ (byte s (p + i) ∷ [])
 part-more s p i h = rw (add-one, ← getD-drop p s i 0) (take-suc (drop p s) i 0 (omega (arith, length-drop p s)))
 
 -- and stored

@@ -88,18 +88,18 @@ module _ (l : List ℕ) (f t : ℕ) (ef : f ≡ fieldsIn l) (et : t ≡ numberAt
   count-is : t ≡ tableCountIn l
   count-is = et ∙ ap (λ (x : ℕ). numberAt l (1 + x)) ef
 
-  pub laid-parts : laidOut l
+  laid-parts : laidOut l
       ≡ laidTables l f t ++ (part l 1 f ++ (trailer (length (laidTables l f t)) f t 1))
   unfolding encode trailerBytes bookIn
   laid-parts = rw (counts-length l whole, tables-length l whole, count-is, ef)
 
-  pub fields-within : 2 + f ≤ length l
+  fields-within : 2 + f ≤ length l
   fields-within = omega (arith, head-within l whole)
 
-  pub counts-run : length (part l 1 f) ≡ f
+  counts-run : length (part l 1 f) ≡ f
   counts-run = part-length l 1 f (omega (arith, fields-within))
 
-  pub laid-size : length (laidOut l) ≡ length (laidTables l f t) + f + 6
+  laid-size : length (laidOut l) ≡ length (laidTables l f t) + f + 6
   laid-size =
       rw laid-parts
       (omega (arith, counts-run, length-append (laidTables l f t) (part l 1 f ++ (trailer (length (laidTables l f t)) f t 1)), length-append (part l 1 f) (trailer (length (laidTables l f t)) f t 1)))

@@ -28,7 +28,7 @@ module _ (l : List ℕ) (at a n : ℕ) (ea : a ≡ arityIn l at) (en : n ≡ num
       let c = part-cons l at (arityIn l at) (omega arith) in
       rw (en, ea, table-fields l at h, table-rows l at, rows-flat l (arityIn l at) (firstRowIn l at) (rowCountIn l at), c)
 
-  pub head-length : length (part l at (1 + a)) ≡ 1 + a
+  head-length : length (part l at (1 + a)) ≡ 1 + a
   head-length = part-length l at (1 + a) (omega (arith, end-in l at a n ea en))
 
   pub bytes-length : length (tableBytes (tableIn l at)) ≡ 3 + a + n * a
@@ -100,7 +100,7 @@ module _ (l : List ℕ) (at left n : ℕ) (h : 0 < left) (ends : tablesEnd l at 
   unfolding tablesIn
   one-laid k e = rw e
 
-  pub laid-left : tablesBytes (tablesIn l at left) ≡ tableBytes (tableIn l at) ++ tablesBytes (tablesIn l (at + (n - 1)) (left - 1))
+  laid-left : tablesBytes (tablesIn l at left) ≡ tableBytes (tableIn l at) ++ tablesBytes (tablesIn l (at + (n - 1)) (left - 1))
   laid-left = rw (next-at .0) (one-laid (left - 1) less)
 
   pub laid-length : length (tablesBytes (tablesIn l at left)) ≡ n + length (tablesBytes (tablesIn l (at + (n - 1)) (left - 1)))
