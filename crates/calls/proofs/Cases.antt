@@ -8,22 +8,26 @@ use native.Mathlib.Omega.{arith}
 use borrow.Author.Tests.{le-ltb}
 use lib.ListN.{length}
 use lib.Dec.{T}
+use Rattle.format.specs.Basics.{pick}
 use Rattle.format.specs.Format.{Book, bookOf}
 use Rattle.format.specs.Reading.{Accepted}
 use Rattle.format.proofs.Accepted.{accepted-verdict}
-use Rattle.consistency.specs.Counting.{sumOver}
-use Rattle.consistency.specs.Consistency.{Subdomain, relax, IsLargest}
+use Rattle.consistency.specs.Counting.{howMany, sumOver}
+use Rattle.consistency.specs.Consistency.{Subdomain, codes, relax, IsLargest}
 use Rattle.consistency.specs.Largest.{largest}
-use Rattle.consistency.specs.Counts.{codesIn, outside, answered, relaxable, total, struck, Line, lines}
+use Rattle.consistency.specs.Emptiness.{noneEmpty}
+use Rattle.consistency.specs.Counts.{codesIn, outside, answered, relaxable, listedIn, listed, total, struck, Line, lines}
 use Rattle.consistency.specs.Order.{In}
-use Rattle.consistency.proofs.Sums.{those-ext, sum-over-ext}
+use Rattle.consistency.proofs.Sums.{many-ext, those-ext, sum-over-ext}
 use Rattle.consistency.proofs.Members.{in-those}
-use Rattle.consistency.proofs.CodeCounts.{codes-in-ext, outside-ext}
+use Rattle.consistency.proofs.Booleans.{and-in, and-left, and-right}
+use Rattle.consistency.proofs.CodeCounts.{outside-ext}
+use Rattle.consistency.proofs.EmptyFields.{none-out, none-in, listed-many}
 use Rattle.consistency.proofs.Largest.{largest-is, largest-unique}
-use Rattle.consistency.proofs.Lines.{relaxable-are, lines-are, lines-in-order, length-lines}
+use Rattle.consistency.proofs.Lines.{relaxable-are, listed-are, lines-are, lines-in-order, length-lines}
 use Rattle.calls.specs.Calls.{Result, filtered, alternatives}
 use Rattle.calls.specs.Histories.{Answer, none, is, Answers, given, sheetOf}
-use Rattle.calls.specs.Conditions.{Shows, answeredFields, Cases, theSum, theStruck, Lists}
+use Rattle.calls.specs.Conditions.{Shows, answeredFields, Cases, theSum, theStruck, IsListed, Lists}
 use Rattle.calls.proofs.Sheets.{Within, accepted-within, Sound, answered-given, no-fault}
 use Rattle.calls.proofs.Steps.{on-sheet}
 use Rattle.calls.proofs.Listing.{listing, list-accepts}
@@ -53,10 +57,12 @@ module _ (b : Book) (w : Within b) (a : Answers) (s : Sound b a) where
 
     -- "the total of alternatives"
     total-sum : total b (sheetOf a) ≡ theSum b a S
-    unfolding total codesIn
+    unfolding total
     total-sum =
-        over-fields (λ f. codesIn b (largest b (relax (sheetOf a) f)) f) (λ f. codesIn b (S (is f)) f)
-        (λ f t. codes-in-ext b (largest b (relax (sheetOf a) f)) (S (is f)) (λ g c l. alone-same f t g c) f)
+        over-fields (λ f. howMany (codes b f) (listed b (sheetOf a) f)) (λ f. pick (noneEmpty b (S (is f))) (codesIn b (S (is f)) f) 0)
+        (λ f t.
+        many-ext (codes b f) (listed b (sheetOf a) f) (listedIn b (S (is f)) f) (λ c l. listed-are b (sheetOf a) f (cases .alone f t) c)
+        ∙ listed-many b (S (is f)) f)
 
     -- "the number struck"
     struck-sum : struck b (sheetOf a) ≡ theStruck b a S
@@ -67,20 +73,36 @@ module _ (b : Book) (w : Within b) (a : Answers) (s : Sound b a) where
         (λ f t. outside-ext b (largest b (relax (sheetOf a) f)) (S (is f)) (λ g c l. alone-same f t g c)))
 
     -- the lines are the alternatives of the answered fields, and no other
-    lines-exactly : (l : Line) → In l (lines b (sheetOf a))
-        ↔ ((l .field < length (b .counts)) × (T (given (a (l .field))) × T (S (is (l .field)) (l .field) (l .code))))
+    lines-exactly : (l : Line) → In l (lines b (sheetOf a)) ↔ IsListed b a S l
     lines-exactly l = (
       λ m.
           let h = lines-are b (sheetOf a) l .0 m in
-          let k = relaxable-are b (sheetOf a) (l .field) .0 (h .0) in
-          let t = T-iff (answered-given b w a s (l .field)) .0 (k .1) in
-          (k .0, (t, T-iff (alone-same (l .field) t (l .field) (l .code)) .0 (h .1))),
+          let k = relaxable-are b (sheetOf a) f .0 (h .0) in
+          let t = T-iff (answered-given b w a s f) .0 (k .1) in
+          let d = T-iff (listed-are b (sheetOf a) f (cases .alone f t) c) .0 (h .1) in
+          record {
+            known = k .0;
+            answered = t;
+            has = and-left (R f c) (noneEmpty b R) d;
+            mended = none-out b R (and-right (R f c) (noneEmpty b R) d);
+          },
       λ h.
+          let x = cases .alone f (h .answered) in
+          let d = and-in (R f c) (noneEmpty b R) (h .has) (none-in b R (x .fits .of-book) (h .mended)) in
           lines-are b (sheetOf a) l .1 (
-            relaxable-are b (sheetOf a) (l .field) .1 (h .0, T-iff (answered-given b w a s (l .field)) .1 (h .1 .0)),
-            T-iff (alone-same (l .field) (h .1 .0) (l .field) (l .code)) .1 (h .1 .1),
+            relaxable-are b (sheetOf a) f .1 (h .known, T-iff (answered-given b w a s f) .1 (h .answered)),
+            T-iff (listed-are b (sheetOf a) f x c) .1 d,
           ),
     )
+      where
+        f : ℕ
+        f = l .field
+
+        c : ℕ
+        c = l .code
+
+        R : Subdomain
+        R = S (is (l .field))
 
 -- there are largest subdomains for them
 pub cases-are : (b : Book) (a : Answers) → (S : Answer → Subdomain) × Cases b a S

@@ -14,7 +14,7 @@ use Rattle.format.specs.Format.{Book, bookOf}
 use Rattle.format.specs.Reading.{pass, verdict}
 use Rattle.consistency.specs.Consistency.{places, codes, answer, relax}
 use Rattle.consistency.specs.Largest.{largest}
-use Rattle.consistency.specs.Counts.{bit, masks, answered}
+use Rattle.consistency.specs.Counts.{bit, mask, masks, answered}
 use Rattle.consistency.proofs.Booleans.{true-T, T-true}
 use Rattle.consistency.proofs.Largest.{largest-is, largest-unique}
 use Rattle.consistency.proofs.Masks.{mask-lt, masks-at, masks-bit, length-masks}
@@ -90,6 +90,15 @@ filter-accepted bytes s g o =
     pick-cases (Where F) (ltb g (length (b .counts)))
     (λ l. pick-cases (Where F) (eqb (answer s g) 255) (λ u n. absurd (omega arith)) (one-where b s g o t l))
     (λ l n. absurd (omega arith))))
+
+-- a field's number is the mask of its codes
+pub filter-number : (bytes s : List ℕ) (g : ℕ) (o : List ℕ) → filtered bytes s g o .outcome .number ≡ 0
+    → (f : ℕ) → f < length (bookOf bytes .counts)
+    → getD (filtered bytes s g o .buffer) f 0 ≡ mask (codes (bookOf bytes) f) (largest (bookOf bytes) (filterAnswers s g) f)
+filter-number bytes s g o e f l =
+    let b : Book = bookOf bytes in
+    let a : List ℕ = filterAnswers s g in
+    ap (λ (r : Result). getD (r .buffer) f 0) (filter-accepted bytes s g o e .result) ∙ number-at b a o f l ∙ masks-at b a f
 
 -- the other way: where the book passes, no place is at fault, field g has an answer and numbers enough are lent
 pub filter-accepts : (bytes s : List ℕ) (g : ℕ) (o : List ℕ) → verdict bytes ≡ pass → places ≤ faultOf (bookOf bytes) s → g ≢ 255

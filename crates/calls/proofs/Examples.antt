@@ -5,12 +5,13 @@ use Rattle.format.specs.Format.{encode, tableBytes, trailerBytes, rowsAt, table
 use Rattle.format.specs.Reading.{trailerTest, listTest, rowsStep, tableStep, tablesStep, verdict, reading}
 use Rattle.consistency.specs.Counting.{tabulate}
 use Rattle.consistency.specs.Largest.{removeFrom, remove, countOf, count, rowSupports, tableSupports, bookSupports, start, rounds, largestDomains}
+use Rattle.consistency.specs.Emptiness.{noneEmpty}
 use Rattle.consistency.specs.Counts.{codesIn, outside, total, struck, lines, masks}
 use Rattle.calls.specs.Calls.{loaded, filtered, alternatives}
 use Rattle.calls.specs.Examples.{ExamplesHold, NoneFull}
 
 pub examples-hold : ExamplesHold
-unfolding scan firstBad encode tableBytes trailerBytes rowsAt tableAt tablesAt bookOf trailerTest listTest rowsStep tableStep tablesStep verdict reading tabulate removeFrom remove countOf count rowSupports tableSupports bookSupports start rounds largestDomains codesIn outside total struck lines masks loaded filtered alternatives
+unfolding scan firstBad encode tableBytes trailerBytes rowsAt tableAt tablesAt bookOf trailerTest listTest rowsStep tableStep tablesStep verdict reading tabulate removeFrom remove countOf count rowSupports tableSupports bookSupports start rounds largestDomains noneEmpty codesIn outside total struck lines masks loaded filtered alternatives
 examples-hold = refl
 
 pub none-full : NoneFull

@@ -17,6 +17,7 @@ use Rattle.format.proofs.Witness.{e1-reading}
 use Rattle.format.proofs.ByteTests.{bytes-true}
 use Rattle.consistency.specs.Consistency.{fieldOf, nth}
 use Rattle.consistency.specs.Largest.{largest, largestDomains, rounds, start, remove, removeFrom, count, countOf, bookSupports, tableSupports, rowSupports}
+use Rattle.consistency.specs.Emptiness.{noneEmpty}
 use Rattle.consistency.specs.Counts.{total, struck, lines, outside}
 use Rattle.consistency.specs.Alike.{Alike}
 use Rattle.consistency.proofs.AlikeExample.{example, turned, example-alike}
@@ -72,7 +73,7 @@ some-numbers = refl
 -- E1's sheet, total, number struck and lines; the ninth byte lent keeps its contents
 pub some-alternatives : alternatives e1 (sheetAfter e1 someCalls) (replicate 9 7)
     ≡ done (4 ∷ 11 ∷ []) (0 ∷ 1 ∷ replicate 30 255) (0 ∷ 0 ∷ 0 ∷ 1 ∷ 1 ∷ 0 ∷ 1 ∷ 1 ∷ 7 ∷ [])
-unfolding alternatives total struck lines outside largestDomains rounds start remove removeFrom count countOf bookSupports tableSupports rowSupports sheetThrough entered withdrawn verdict trailerTest listTest tablesStep tableStep rowsStep firstBad scan bookOf tablesAt tableAt rowsAt
+unfolding alternatives total noneEmpty struck lines outside largestDomains rounds start remove removeFrom count countOf bookSupports tableSupports rowSupports sheetThrough entered withdrawn verdict trailerTest listTest tablesStep tableStep rowsStep firstBad scan bookOf tablesAt tableAt rowsAt
 some-alternatives = refl
 
 -- ---- "It is accepted even if the code isn't standing: the observer saw it"

@@ -15,6 +15,7 @@ use Rattle.format.specs.Listing.{listingOf, listingEnd}
 use Rattle.format.specs.Writing.{showing, laidOut, writable, writing}
 use Rattle.consistency.specs.Counting.{sumOver, those}
 use Rattle.consistency.specs.Consistency.{places, Subdomain, codes, answer, relax, IsLargest}
+use Rattle.consistency.specs.Emptiness.{NoneEmpty, noneEmpty}
 use Rattle.consistency.specs.Counts.{bit, codesIn, outside, answered, total, Line, lineBytes}
 use Rattle.consistency.specs.Order.{InOrder, In}
 use Rattle.consistency.specs.Alike.{Alike}
@@ -206,22 +207,24 @@ Condition2-filter =
     (bytes s : List ℕ) (g : ℕ) (o : List ℕ) → filtered bytes s g o .outcome .number ≡ 0
     → Filtered (bookOf bytes) (filterAnswers s g) o (filtered bytes s g o .buffer)
 
--- "A plain filtering with one chosen field lifted is offered beside it and must agree with it": what plain filtering with f relaxed answers,
--- plain, and what alternatives answers with o lent, whole
-pub record Agrees (f : ℕ) (o : List ℕ) (plain whole : Result) : Type 0 where
+-- "A plain filtering with one chosen field lifted is offered beside it and must agree with it"; "the list agrees with them wherever they leave no
+-- field empty" (document 02, M-101): of n fields, what plain filtering with f relaxed answers, plain, and alternatives with o lent, whole
+pub record Agrees (n f : ℕ) (o : List ℕ) (plain whole : Result) : Type 0 where
   pub accepts : plain .outcome .number ≡ 0
   pub list : List Line
   pub total : getD (whole .outcome .counts) 0 0 ≡ length list
   pub written : whole .buffer ≡ lineBytes list ++ drop (2 * length list) o
-  -- the lines of f are the codes that its number shows
-  pub same : (c : ℕ) → In (record { field = f; code = c }) list ↔ Shows (plain .buffer) f c
+  -- where no field's number is 0, the lines of f are the codes that its number shows
+  pub same : ((g : ℕ) → g < n → getD (plain .buffer) g 0 ≢ 0) → (c : ℕ) → In (record { field = f; code = c }) list ↔ Shows (plain .buffer) f c
+  -- where some field's number is 0, f has no line
+  pub unmended : (g : ℕ) → g < n → getD (plain .buffer) g 0 ≡ 0 → (c : ℕ) → In (record { field = f; code = c }) list → ⊥
 
 -- for each answered field, wherever alternatives accepts and numbers enough are lent
 abbrev pub Agreement : Type 0
 Agreement =
     (bytes s o o′ : List ℕ) → alternatives bytes s o .outcome .number ≡ 0 → length (bookOf bytes .counts) ≤ length o′
     → (f : ℕ) → f < length (bookOf bytes .counts) → T (answered s f)
-    → Agrees f o (filtered bytes s f o′) (alternatives bytes s o)
+    → Agrees (length (bookOf bytes .counts)) f o (filtered bytes s f o′) (alternatives bytes s o)
 
 -- "Loading a stored sheet": an accepted load, stored where bytes enough are lent, gives the bytes loaded; an accepted store, loaded, gives the
 -- sheet stored
@@ -246,9 +249,17 @@ pub record Cases (b : Book) (a : Answers) (S : Answer → Subdomain) : Type 0 wh
   pub nothing : IsLargest b (sheetOf a) (S none)
   pub alone : (f : ℕ) → T (given (a f)) → IsLargest b (relax (sheetOf a) f) (S (is f))
 
--- the sum over answered fields of that field's codes in the largest subdomain with that one answer relaxed
+-- the sum over answered fields of that field's codes in the largest subdomain with that one answer relaxed; 0 for a field where some field is
+-- empty there (document 02, M-101: "condition 3's sum and lines now count and hold the codes of this list alone")
 abbrev pub theSum : Book → Answers → (Answer → Subdomain) → ℕ
-theSum b a S = sumOver (answeredFields b a) (λ f. codesIn b (S (is f)) f)
+theSum b a S = sumOver (answeredFields b a) (λ f. pick (noneEmpty b (S (is f))) (codesIn b (S (is f)) f) 0)
+
+-- what a line says: its field is an answered one of the book, has its code with that one answer relaxed, and then "no field at all is empty"
+pub record IsListed (b : Book) (a : Answers) (S : Answer → Subdomain) (l : Line) : Type 0 where
+  pub known : l .field < length (b .counts)
+  pub answered : T (given (a (l .field)))
+  pub has : T (S (is (l .field)) (l .field) (l .code))
+  pub mended : NoneEmpty b (S (is (l .field)))
 
 -- the sum, over nothing relaxed and each one answer relaxed, of the codes outside
 abbrev pub theStruck : Book → Answers → (Answer → Subdomain) → ℕ
@@ -258,7 +269,7 @@ theStruck b a S = outside b (S none) + sumOver (answeredFields b a) (λ f. outsi
 pub record Lists (b : Book) (a : Answers) (S : Answer → Subdomain) (o : List ℕ) (r : Result) : Type 0 where
   pub list : List Line
   pub in-order : InOrder list
-  pub exactly : (l : Line) → In l list ↔ ((l .field < length (b .counts)) × (T (given (a (l .field))) × T (S (is (l .field)) (l .field) (l .code))))
+  pub exactly : (l : Line) → In l list ↔ IsListed b a S l
   pub header : r .outcome ≡ accepted (length list ∷ theStruck b a S ∷ [])
   pub sum : length list ≡ theSum b a S
   pub written : r .buffer ≡ lineBytes list ++ drop (2 * length list) o

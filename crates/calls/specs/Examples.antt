@@ -1,10 +1,10 @@
--- Document 01, "Examples to hold": E1 to E8 as one table. Assumes nothing.
+-- Document 01, "Examples to hold": E1 to E8 as one table, and two of fields that stay empty in it. Assumes nothing.
 use Prim.Native.Nat.{ℕ}
 use mathlib.Core.Path.{_≡_}
-use mathlib.Core.List.{List, [], _∷_, map}
+use mathlib.Core.List.{List, [], _∷_, _++_, map}
 use mathlib.Core.Bool.{Bool, true, false, _&&_}
 use lib.ListN.{length, getD, replicate}
-use Rattle.format.specs.Format.{Table, Book, encode, isIn}
+use Rattle.format.specs.Format.{Table, Book, encode, bookOf, isIn}
 use Rattle.format.specs.Reading.{Outcome, refused, accepted, reading}
 use Rattle.format.specs.Examples.{e1}
 use Rattle.calls.specs.Calls.{loaded, filtered, alternatives}
@@ -12,6 +12,10 @@ use Rattle.calls.specs.Calls.{loaded, filtered, alternatives}
 -- the rows of a table that makes two fields of two codes differ
 abbrev pub differing : List (List ℕ)
 differing = (0 ∷ 1 ∷ []) ∷ (1 ∷ 0 ∷ []) ∷ []
+
+-- and of one that makes them equal
+abbrev pub equal : List (List ℕ)
+equal = (0 ∷ 0 ∷ []) ∷ (1 ∷ 1 ∷ []) ∷ []
 
 -- E4: "three fields of two codes, three tables making each pair differ"
 abbrev pub e4 : Book
@@ -22,9 +26,23 @@ e4 =
       tables = record { fields = 0 ∷ 1 ∷ []; rows = differing } ∷ record { fields = 0 ∷ 2 ∷ []; rows = differing } ∷ record { fields = 1 ∷ 2 ∷ []; rows = differing } ∷ [];
     }
 
--- E6: "two fields of two codes; one table, on field 1, with no rows"
+-- E6: "two fields of two codes; one table, on field 1, with no rows"; "E6 then has total 0 and still struck 5" (document 02, M-101)
 abbrev pub e6 : Book
 e6 = record { version = 1; counts = 2 ∷ 2 ∷ []; tables = record { fields = 1 ∷ []; rows = [] } ∷ [] }
+
+-- E1 and one field more, of one code, tied to nothing and always empty: its only table has no rows
+abbrev pub e1Apart : Book
+e1Apart =
+    record { version = 1; counts = bookOf e1 .counts ++ 1 ∷ []; tables = bookOf e1 .tables ++ record { fields = 3 ∷ []; rows = [] } ∷ [] }
+
+-- four fields of two codes, fields 0 and 1 equal, 2 and 3 equal
+abbrev pub twoPairs : Book
+twoPairs =
+    record {
+      version = 1;
+      counts = 2 ∷ 2 ∷ 2 ∷ 2 ∷ [];
+      tables = record { fields = 0 ∷ 1 ∷ []; rows = equal } ∷ record { fields = 2 ∷ 3 ∷ []; rows = equal } ∷ [];
+    }
 
 abbrev pub e7 : List ℕ
 e7 = 1 ∷ 0 ∷ 0 ∷ 1 ∷ 0 ∷ 1 ∷ 229 ∷ []
@@ -50,9 +68,13 @@ examples =
     ∷ record { book = e1; form = 255 ∷ 255 ∷ 255 ∷ []; read = accepted (3 ∷ 2 ∷ 8 ∷ 7 ∷ []); standing = 3 ∷ 7 ∷ 7 ∷ []; pairs = []; listing = accepted (0 ∷ 0 ∷ []) }
     ∷ record { book = encode e4; form = 255 ∷ 255 ∷ 255 ∷ []; read = accepted (3 ∷ 3 ∷ 6 ∷ 6 ∷ []); standing = 3 ∷ 3 ∷ 3 ∷ []; pairs = []; listing = accepted (0 ∷ 0 ∷ []) }
     ∷ record { book = encode e4; form = 0 ∷ 255 ∷ 255 ∷ []; read = accepted (3 ∷ 3 ∷ 6 ∷ 6 ∷ []); standing = 0 ∷ 0 ∷ 0 ∷ []; pairs = 0 ∷ 0 ∷ 0 ∷ 1 ∷ []; listing = accepted (2 ∷ 6 ∷ []) }
-    ∷ record { book = encode e6; form = 0 ∷ 255 ∷ []; read = accepted (2 ∷ 1 ∷ 0 ∷ 0 ∷ []); standing = 1 ∷ 0 ∷ []; pairs = 0 ∷ 0 ∷ 0 ∷ 1 ∷ []; listing = accepted (2 ∷ 5 ∷ []) }
+    ∷ record { book = encode e6; form = 0 ∷ 255 ∷ []; read = accepted (2 ∷ 1 ∷ 0 ∷ 0 ∷ []); standing = 1 ∷ 0 ∷ []; pairs = []; listing = accepted (0 ∷ 5 ∷ []) }
     ∷ record { book = e7; form = 0 ∷ []; read = accepted (1 ∷ 0 ∷ 0 ∷ 0 ∷ []); standing = 1 ∷ []; pairs = 0 ∷ 0 ∷ []; listing = accepted (1 ∷ 0 ∷ []) }
     ∷ record { book = e8; form = 0 ∷ []; read = refused 4 2 5; standing = []; pairs = []; listing = refused 2 2 5 }
+    -- no answer can mend the field apart: E1's four alternatives are gone, and each of its three cases has one mark more struck
+    ∷ record { book = encode e1Apart; form = 0 ∷ 1 ∷ 255 ∷ 255 ∷ []; read = accepted (4 ∷ 3 ∷ 8 ∷ 7 ∷ []); standing = 1 ∷ 2 ∷ 2 ∷ 0 ∷ []; pairs = []; listing = accepted (0 ∷ 14 ∷ []) }
+    -- fields 0 and 1 contradict each other: lifting either mends that, lifting field 2 does not, though both its codes stand then
+    ∷ record { book = encode twoPairs; form = 0 ∷ 1 ∷ 0 ∷ 255 ∷ []; read = accepted (4 ∷ 2 ∷ 4 ∷ 4 ∷ []); standing = 0 ∷ 0 ∷ 1 ∷ 1 ∷ []; pairs = 0 ∷ 1 ∷ 1 ∷ 0 ∷ []; listing = accepted (2 ∷ 18 ∷ []) }
     ∷ []
 
 -- the row as the calls answer it: plain filtering into numbers that were 9, alternatives into bytes that were 9

@@ -39,14 +39,9 @@ outside-without b S S′ f c l t w =
     (many-one (codes b f) (λ d. not (S f d)) (λ d. not (S′ f d)) c l (ap not t) (ap not (w .gone)) (λ d n. ap not (w .rest f d (λ q. n (q .1)))))
     (λ g n. many-ext (codes b g) (λ d. not (S′ g d)) (λ d. not (S g d)) (λ d k. ap not (w .rest g d (λ q. n (q .0)))))
 
--- the counts turn on the book's codes alone
-module _ (b : Book) (R S : Subdomain) (same : (f c : ℕ) → c < codes b f → R f c ≡ S f c) where
-  pub codes-in-ext : (f : ℕ) → codesIn b R f ≡ codesIn b S f
-  unfolding codesIn
-  codes-in-ext f = many-ext (codes b f) (R f) (S f) (same f)
-
-  pub outside-ext : outside b R ≡ outside b S
-  unfolding outside
-  outside-ext =
-      sum-ext (length (b .counts)) (λ f. howMany (codes b f) (λ c. not (R f c))) (λ f. howMany (codes b f) (λ c. not (S f c)))
-      (λ f l. many-ext (codes b f) (λ c. not (R f c)) (λ c. not (S f c)) (λ c k. ap not (same f c k)))
+-- the codes outside turn on the book's codes alone
+pub outside-ext : (b : Book) (R S : Subdomain) → ((f c : ℕ) → c < codes b f → R f c ≡ S f c) → outside b R ≡ outside b S
+unfolding outside
+outside-ext b R S same =
+    sum-ext (length (b .counts)) (λ f. howMany (codes b f) (λ c. not (R f c))) (λ f. howMany (codes b f) (λ c. not (S f c)))
+    (λ f l. many-ext (codes b f) (λ c. not (R f c)) (λ c. not (S f c)) (λ c k. ap not (same f c k)))

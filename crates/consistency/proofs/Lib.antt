@@ -7,6 +7,7 @@ pub mod Loops
 pub mod Members
 pub mod Sums
 pub mod CodeCounts
+pub mod EmptyFields
 pub mod Lines
 pub mod Marks
 pub mod Limits

@@ -1,7 +1,7 @@
 -- The lines: exactly the alternatives of the answered fields, in order, as many as the total, two bytes each. Assumes nothing.
-use mathlib.Core.Path.{_≡_, refl, sym, ap, _∙_, subst, subst₂}
+use mathlib.Core.Path.{_≡_, refl, sym, ap, ap₂, _∙_, subst, subst₂}
 use mathlib.Core.Logic.{_↔_}
-use mathlib.Core.Bool.{Bool}
+use mathlib.Core.Bool.{Bool, _&&_}
 use mathlib.Core.List.{List, [], _∷_, Memᴰ·map}
 use Prim.Native.Nat.{ℕ, _*_, _<_}
 use native.Mathlib.Omega.{arith}
@@ -10,11 +10,15 @@ use lib.Dec.{T}
 use Rattle.format.specs.Format.{Book}
 use Rattle.consistency.specs.Counting.{howMany, those, sumOver, joinOver}
 use Rattle.consistency.specs.Consistency.{Subdomain, OfBook, IsLargest, codes, relax}
-use Rattle.consistency.specs.Counts.{answered, relaxable, listed, total, Line, linesOf, lines, lineBytes}
+use Rattle.consistency.specs.Largest.{largest}
+use Rattle.consistency.specs.Emptiness.{noneEmpty}
+use Rattle.consistency.specs.Counts.{answered, relaxable, listedIn, listed, total, Line, linesOf, lines, lineBytes}
 use Rattle.consistency.specs.Order.{In, Before, by-field, by-code, InOrder}
+use Rattle.consistency.proofs.Booleans.{and-left}
 use Rattle.consistency.proofs.Sums.{length-those, length-join, sum-over-ext}
 use Rattle.consistency.proofs.Members.{in-map, in-join, join-in, in-those, those-in, those-rising, map-in-order, join-in-order}
 use Rattle.consistency.proofs.Largest.{largest-is, largest-unique}
+use Rattle.consistency.proofs.EmptyFields.{none-ext}
 
 -- the fields that get a case of their own are the book's answered ones
 pub relaxable-are : (b : Book) (a : List ℕ) (f : ℕ) → In f (relaxable b a) ↔ ((f < length (b .counts)) × T (answered a f))
@@ -81,9 +85,12 @@ module _ (b : Book) (q : ℕ → Bool) (p : ℕ → ℕ → Bool) where
   )
 
 module _ (b : Book) (a : List ℕ) where
-  -- "The alternatives of an answered field are its own codes in the subdomain with it lifted", whichever S is the largest
-  pub listed-are : (f : ℕ) {S : Subdomain} → IsLargest b (relax a f) S → (c : ℕ) → listed b a f c ≡ S f c
-  listed-are f h c = largest-unique (largest-is b (relax a f)) h f c
+  -- what is listed, whichever S is the largest
+  pub listed-are : (f : ℕ) {S : Subdomain} → IsLargest b (relax a f) S → (c : ℕ) → listed b a f c ≡ listedIn b S f c
+  listed-are f {S} h c = ap₂ _&&_ (same f c) (none-ext b (largest b (relax a f)) S (λ g d l. same g d))
+    where
+      same : (g d : ℕ) → largest b (relax a f) g d ≡ S g d
+      same = largest-unique (largest-is b (relax a f)) h
 
   -- by field, then code
   pub lines-in-order : InOrder (lines b a)
@@ -98,7 +105,11 @@ module _ (b : Book) (a : List ℕ) where
   -- a line is there exactly when its field is answered and its code is one of the field's alternatives
   pub lines-are : (l : Line) → In l (lines b a) ↔ (In (l .field) (relaxable b a) × T (listed b a (l .field) (l .code)))
   unfolding lines
-  lines-are = picked-are b (answered a) (listed b a) (λ f c t. largest-is b (relax a f) .fits .of-book f c t)
+  lines-are =
+      picked-are b (answered a) (listed b a)
+      (λ f c t.
+      let S = largest b (relax a f) in
+      largest-is b (relax a f) .fits .of-book f c (and-left (S f c) (noneEmpty b S) t))
 
 -- two bytes a line
 pub length-line-bytes : (ls : List Line) → length (lineBytes ls) ≡ 2 * length ls

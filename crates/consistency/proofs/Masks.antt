@@ -1,7 +1,7 @@
 -- The masks: bit c of a field's number is set exactly when code c is in its part of the largest subdomain. Assumes nothing.
 use mathlib.Core.Path.{_≡_, refl, sym, ap, _∙_, subst}
-use mathlib.Core.Logic.{⊎-elim}
-use mathlib.Core.Bool.{Bool, true, false, _&&_}
+use mathlib.Core.Logic.{_≢_, ⊎-elim}
+use mathlib.Core.Bool.{Bool, true, false, _&&_, _||_}
 use mathlib.Core.List.{List}
 use Prim.Native.Nat.{ℕ, zero, suc, _+_, _-_, _*_, _/_, _%_, _^_, _≤_, _<_}
 use native.Mathlib.Nat.{lt-suc-self, not-suc-le-zero, add-zero, zero-add, pow-suc, div-eq-of-lt, add-mul-div-right, add-mul-mod-self-right, add-comm, one-mul, le-trans}
@@ -9,14 +9,15 @@ use native.Mathlib.Decide.{decLt}
 use native.Mathlib.Omega.{arith}
 use lib.ListN.{length, getD, List·getD-eq-default}
 use lib.Pow.{pow-pos, pow-mono, pow-add, high}
-use lib.Dec.{eqb, ltb, lt→ltb}
+use lib.Dec.{T, eqb, ltb, lt→ltb}
 use borrow.Author.Tests.{lt-ltb, le-ltb}
 use Rattle.format.specs.Basics.{pick}
 use Rattle.format.specs.Format.{Book}
+use Rattle.consistency.specs.Counting.{anyBelow}
 use Rattle.consistency.specs.Consistency.{codes}
 use Rattle.consistency.specs.Largest.{largest}
 use Rattle.consistency.specs.Counts.{bit, mask, masks}
-use Rattle.consistency.proofs.Booleans.{T-ext, below-suc, below-less, and-in, and-right}
+use Rattle.consistency.proofs.Booleans.{T-ext, below-suc, below-less, and-in, and-right, or-left, or-right}
 use Rattle.consistency.proofs.Sums.{length-tabulate, tabulate-at}
 use Rattle.consistency.proofs.Largest.{largest-is}
 
@@ -73,6 +74,20 @@ mask-bit n p c = at (decLt c n)
     at (no h) =
         let l : n ≤ c = omega arith in
         ap (λ (k : ℕ). eqb (k % 2) 1) (div-eq-of-lt (le-trans (mask-lt n p) (pow-mono l))) ∙ sym (ap (_&& p c) (le-ltb c n l))
+
+-- what is not 0 with something added, if the test passes
+one-more-some : (m k : ℕ) (y x : Bool) → m + pick x k 0 ≢ 0 → (m ≢ 0 → T y) → T (y || x)
+one-more-some m k y true h rest = or-right y true tt
+one-more-some m k y false h rest = or-left y false (rest (λ e. h (add-zero m ∙ e)))
+
+-- a mask that is not 0 has some number below n at which p holds
+pub mask-some : (n : ℕ) (p : ℕ → Bool) → mask n p ≢ 0 → T (anyBelow n p)
+mask-some zero p h = absurd (h refl)
+mask-some (suc n) p h = one-more-some (mask n p) (2 ^ n) (anyBelow n p) (p n) h (mask-some n p)
+
+-- 0 has none
+pub zero-bit : (c : ℕ) → bit 0 c ≡ false
+zero-bit c = ap (λ (k : ℕ). eqb (k % 2) 1) (div-eq-of-lt (pow-pos c))
 
 -- ---- the masks of a book
 

@@ -1,13 +1,14 @@
 -- Books with the same field list and the same largest subdomains have the same counts, lines and masks. Assumes nothing.
 use mathlib.Core.Path.{_≡_, sym, ap₂, fun-ext}
-use mathlib.Core.Bool.{not}
+use mathlib.Core.Bool.{Bool, not, _&&_}
 use mathlib.Core.List.{List, map}
 use Prim.Native.Nat.{ℕ, _+_}
 use lib.ListN.{length, getD}
 use Rattle.format.specs.Format.{Book}
-use Rattle.consistency.specs.Counting.{howMany, those, sumBelow, sumOver, joinOver, tabulate}
+use Rattle.consistency.specs.Counting.{allBelow, anyBelow, howMany, those, sumBelow, sumOver, joinOver, tabulate}
 use Rattle.consistency.specs.Consistency.{Subdomain, relax}
 use Rattle.consistency.specs.Largest.{largest}
+use Rattle.consistency.specs.Emptiness.{noneEmpty}
 use Rattle.consistency.specs.Counts.{outside, answered, total, struck, lines, mask, masks}
 
 module _ (b d : Book) (counts : d .counts ≡ b .counts) (same : (a : List ℕ) (f c : ℕ) → largest b a f c ≡ largest d a f c) where
@@ -15,9 +16,14 @@ module _ (b d : Book) (counts : d .counts ≡ b .counts) (same : (a : List ℕ) 
   by-both : {A : Type 0} (F : List ℕ → (List ℕ → Subdomain) → A) → F (b .counts) (largest b) ≡ F (d .counts) (largest d)
   by-both F = ap₂ F (sym counts) (fun-ext (λ a. fun-ext (λ f. fun-ext (λ c. same a f c))))
 
+  -- what is listed, by the field list and the largest subdomain
+  abbrev listedBy : List ℕ → Subdomain → ℕ → ℕ → Bool
+  listedBy ns S f c = S f c && allBelow (length ns) (λ g. anyBelow (getD ns g 0) (S g))
+
   pub same-total : (a : List ℕ) → total b a ≡ total d a
-  unfolding total
-  same-total a = by-both (λ ns L. sumOver (those (length ns) (answered a)) (λ f. howMany (getD ns f 0) (L (relax a f) f)))
+  unfolding total noneEmpty
+  same-total a =
+      by-both (λ ns L. sumOver (those (length ns) (answered a)) (λ f. howMany (getD ns f 0) (listedBy ns (L (relax a f)) f)))
 
   pub same-struck : (a : List ℕ) → struck b a ≡ struck d a
   unfolding struck outside
@@ -28,12 +34,12 @@ module _ (b d : Book) (counts : d .counts ≡ b .counts) (same : (a : List ℕ) 
       out (L a) + sumOver (those (length ns) (answered a)) (λ f. out (L (relax a f))))
 
   pub same-lines : (a : List ℕ) → lines b a ≡ lines d a
-  unfolding lines
+  unfolding lines noneEmpty
   same-lines a =
       by-both
       (λ ns L.
       joinOver (those (length ns) (answered a))
-      (λ f. map (λ (c : ℕ). record { field = f; code = c }) (those (getD ns f 0) (L (relax a f) f))))
+      (λ f. map (λ (c : ℕ). record { field = f; code = c }) (those (getD ns f 0) (listedBy ns (L (relax a f)) f))))
 
   pub same-masks : (a : List ℕ) → masks b a ≡ masks d a
   unfolding masks

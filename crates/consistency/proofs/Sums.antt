@@ -2,7 +2,7 @@
 -- Assumes nothing.
 use mathlib.Core.Path.{_≡_, refl, sym, ap, ap₂, _∙_, subst}
 use mathlib.Core.Logic.{_⊎_, inl, inr, _≢_}
-use mathlib.Core.Bool.{Bool, true, false, not}
+use mathlib.Core.Bool.{Bool, true, false, not, _&&_}
 use mathlib.Core.List.{List, [], _∷_, List·Memᴰ·head, List·Memᴰ·tail}
 use Prim.Native.Nat.{ℕ, zero, suc, _+_, _<_}
 use native.Mathlib.Nat.{lt-suc-self, not-suc-le-zero, le-of-suc-le-suc, add-zero}
@@ -81,6 +81,27 @@ one-of-two false = refl
 pub many-not : (n : ℕ) (p : ℕ → Bool) → howMany n p + howMany n (λ k. not (p k)) ≡ n
 many-not zero p = refl
 many-not (suc n) p = omega (arith, many-not n p, one-of-two (p n))
+
+-- ---- a test beside another
+
+-- with a test that holds p alone counts
+and-true : (x : Bool) → (x && true) ≡ x
+and-true true = refl
+and-true false = refl
+
+-- with one that fails nothing does
+and-false : (x : Bool) → (x && false) ≡ false
+and-false true = refl
+and-false false = refl
+
+none : (n : ℕ) → howMany n (λ k. false) ≡ 0
+none zero = refl
+none (suc n) = ap (_+ 0) (none n)
+
+-- p beside a test that is the same at each number
+pub many-and : (n : ℕ) (p : ℕ → Bool) (x : Bool) → howMany n (λ k. p k && x) ≡ pick x (howMany n p) 0
+many-and n p true = many-ext n (λ k. p k && true) p (λ k l. and-true (p k))
+many-and n p false = many-ext n (λ k. p k && false) (λ k. false) (λ k l. and-false (p k)) ∙ none n
 
 -- ---- one value more
 

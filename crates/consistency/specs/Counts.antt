@@ -1,7 +1,7 @@
--- Document 01, "The sheet and its one pass": the cases, and what the pass counts and lists over them. Assumes nothing.
+-- Document 01, "The sheet and its one pass", with document 02's M-101: the cases, and what the pass counts and lists over them. Assumes nothing.
 use Prim.Native.Nat.{ℕ, zero, suc, _+_, _/_, _%_, _^_}
 use mathlib.Core.List.{List, [], _∷_, _++_, map}
-use mathlib.Core.Bool.{Bool, not}
+use mathlib.Core.Bool.{Bool, not, _&&_}
 use lib.ListN.{length}
 use lib.Dec.{eqb}
 use Rattle.format.specs.Basics.{pick}
@@ -9,6 +9,7 @@ use Rattle.format.specs.Format.{Book}
 use Rattle.consistency.specs.Counting.{howMany, those, sumBelow, sumOver, joinOver, joinBelow, tabulate}
 use Rattle.consistency.specs.Consistency.{Subdomain, codes, answer, relax}
 use Rattle.consistency.specs.Largest.{largest}
+use Rattle.consistency.specs.Emptiness.{noneEmpty}
 
 -- the number of field f's codes in S
 unfoldable pub codesIn : Book → Subdomain → ℕ → ℕ
@@ -26,9 +27,14 @@ answered a f = not (eqb (answer a f) 255)
 abbrev pub relaxable : Book → List ℕ → List ℕ
 relaxable b a = those (length (b .counts)) (answered a)
 
--- "The alternatives of an answered field are its own codes in the subdomain with it lifted": c is one of f
+-- What is listed for field f if S is the largest subdomain with f lifted: "its own codes in the subdomain with it lifted", and "only if, with it
+-- lifted, no field at all is empty. Otherwise it has none" (document 02, M-101; source 004's summary has only codes that lead to no wipe-out)
+abbrev pub listedIn : Book → Subdomain → ℕ → ℕ → Bool
+listedIn b S f c = S f c && noneEmpty b S
+
+-- "The alternatives of an answered field": c is one of f
 abbrev pub listed : Book → List ℕ → ℕ → ℕ → Bool
-listed b a f c = largest b (relax a f) f c
+listed b a f c = listedIn b (largest b (relax a f)) f c
 
 -- "the total of alternatives"
 unfoldable pub total : Book → List ℕ → ℕ

@@ -1,6 +1,7 @@
 pub mod Counting
 pub mod Consistency
 pub mod Largest
+pub mod Emptiness
 pub mod Counts
 pub mod Order
 pub mod Alike
