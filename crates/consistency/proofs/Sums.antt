@@ -2,8 +2,8 @@
 -- Assumes nothing.
 use mathlib.Core.Path.{_≡_, refl, sym, ap, ap₂, _∙_, subst}
 use mathlib.Core.Logic.{_⊎_, inl, inr, _≢_}
-use mathlib.Core.Bool.{Bool, true, false, not, _&&_}
-use mathlib.Core.List.{List, [], _∷_, List·Memᴰ·head, List·Memᴰ·tail}
+use mathlib.Core.Bool.{Bool, true, false, not, _&&_, and-true, and-false}
+use mathlib.Core.List.{List, [], _∷_, _++_, List·Memᴰ·head, List·Memᴰ·tail}
 use Prim.Native.Nat.{ℕ, zero, suc, _+_, _<_}
 use native.Mathlib.Nat.{lt-suc-self, not-suc-le-zero, le-of-suc-le-suc, add-zero}
 use native.Mathlib.Omega.{arith}
@@ -84,24 +84,23 @@ many-not (suc n) p = omega (arith, many-not n p, one-of-two (p n))
 
 -- ---- a test beside another
 
--- with a test that holds p alone counts
-and-true : (x : Bool) → (x && true) ≡ x
-and-true true = refl
-and-true false = refl
+-- a test that fails everywhere holds of nothing
+those-none : (n : ℕ) → those n (λ k. false) ≡ []
+those-none zero = refl
+those-none (suc n) = ap (_++ []) (those-none n)
 
--- with one that fails nothing does
-and-false : (x : Bool) → (x && false) ≡ false
-and-false true = refl
-and-false false = refl
+-- p beside a test that is the same at each number: the numbers of p, or none
+pub those-and : (n : ℕ) (p : ℕ → Bool) (x : Bool) → those n (λ k. p k && x) ≡ pick x (those n p) []
+those-and n p true = those-ext n (λ k. p k && true) p (λ k l. and-true (p k))
+those-and n p false = those-ext n (λ k. p k && false) (λ k. false) (λ k l. and-false (p k)) ∙ those-none n
 
-none : (n : ℕ) → howMany n (λ k. false) ≡ 0
-none zero = refl
-none (suc n) = ap (_+ 0) (none n)
-
--- p beside a test that is the same at each number
+-- and how many
 pub many-and : (n : ℕ) (p : ℕ → Bool) (x : Bool) → howMany n (λ k. p k && x) ≡ pick x (howMany n p) 0
-many-and n p true = many-ext n (λ k. p k && true) p (λ k l. and-true (p k))
-many-and n p false = many-ext n (λ k. p k && false) (λ k. false) (λ k l. and-false (p k)) ∙ none n
+many-and n p x = sym (length-those n (λ k. p k && x)) ∙ ap length (those-and n p x) ∙ length-pick x
+  where
+    length-pick : (x : Bool) → length (pick x (those n p) []) ≡ pick x (howMany n p) 0
+    length-pick true = length-those n p
+    length-pick false = refl
 
 -- ---- one value more
 

@@ -23,11 +23,10 @@ use Rattle.consistency.specs.Counts.{bit, outside, answered, relaxable, mask, s
 use Rattle.consistency.proofs.Booleans.{T-true, T-false, below-suc}
 use Rattle.consistency.proofs.Sums.{sum-ext, length-those, length-tabulate, tabulate-at}
 use Rattle.consistency.proofs.CodeCounts.{field-in, outside-ext}
-use Rattle.consistency.proofs.Masks.{mask-bit}
+use Rattle.consistency.proofs.Masks.{mask-bit, zero-bit}
 use Rattle.consistency.proofs.Largest.{largest-is}
 use Rattle.filter.specs.Words.{wordAt, domainOf}
-use Rattle.filter.specs.Cases.{casesOf, marksOf, plainOf}
-use Rattle.filter.proofs.Bits.{zero-bit}
+use Rattle.filter.specs.Cases.{casesOf, ownCase, marksOf, plainOf}
 use Rattle.filter.proofs.Words.{domain-bit}
 use Rattle.filter.proofs.Limits.{fields-few, codes-few}
 use Rattle.filter.proofs.Totals.{outside-cases}
@@ -56,19 +55,15 @@ those-at (suc n) p f l t = last (below-suc l) (λ m. those-at n p f m t)
         )
 
 module _ (b : Book) (a : List ℕ) (f : ℕ) (l : f < length (b .counts)) (t : T (answered a f)) where
-  -- the case that relaxes f: the answered fields count from 1 on
-  abbrev pub caseOf : ℕ
-  caseOf = suc (howMany f (answered a))
-
   -- f's place among the answered fields
   rank : (howMany f (answered a) < length (relaxable b a)) × (getD (relaxable b a) (howMany f (answered a)) 0 ≡ f)
   rank = those-at (length (b .counts)) (answered a) f l t
 
-  -- it is one of the cases, and its answers are those without f's
-  pub case-in : caseOf < length (casesOf b a)
+  -- its own case is one of the cases, with the answers without f's
+  pub case-in : ownCase a f < length (casesOf b a)
   case-in = omega (arith, rank .0, length-map (relaxable b a) (relax a))
 
-  pub case-relaxes : getD (casesOf b a) caseOf [] ≡ relax a f
+  pub case-relaxes : getD (casesOf b a) (ownCase a f) [] ≡ relax a f
   case-relaxes =
       any-default (map (relax a) (relaxable b a)) (howMany f (answered a)) [] (relax a 0) (omega (arith, rank .0, length-map (relaxable b a) (relax a)))
       ∙ List·getD-map (relax a) (relaxable b a) (howMany f (answered a)) 0 ∙ ap (relax a) (rank .1)
@@ -134,10 +129,10 @@ module _ (s : List ℕ) (p : Promise s) where
   pub agrees-unrelaxed : (a : List ℕ) (g c : ℕ) → domainOf (marksOf (bookOf s) (casesOf (bookOf s) a)) 0 g c ≡ plainDomain (bookOf s) a g c
   agrees-unrelaxed a = marks-agree (casesOf (bookOf s) a) 0 (omega arith)
 
-  pub agrees-relaxed : (a : List ℕ) (f : ℕ) (l : f < length (bookOf s .counts)) (t : T (answered a f)) (g c : ℕ)
-      → domainOf (marksOf (bookOf s) (casesOf (bookOf s) a)) (caseOf (bookOf s) a f l t) g c ≡ plainDomain (bookOf s) (relax a f) g c
+  pub agrees-relaxed : (a : List ℕ) (f : ℕ) → f < length (bookOf s .counts) → T (answered a f) → (g c : ℕ)
+      → domainOf (marksOf (bookOf s) (casesOf (bookOf s) a)) (ownCase a f) g c ≡ plainDomain (bookOf s) (relax a f) g c
   agrees-relaxed a f l t g c =
-      marks-agree (casesOf (bookOf s) a) (caseOf (bookOf s) a f l t) (case-in (bookOf s) a f l t) g c
+      marks-agree (casesOf (bookOf s) a) (ownCase a f) (case-in (bookOf s) a f l t) g c
       ∙ ap (λ (e : List ℕ). plainDomain (bookOf s) e g c) (case-relaxes (bookOf s) a f l t)
 
   -- the codes outside the n + 1 plain filterings are the number struck

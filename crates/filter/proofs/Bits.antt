@@ -15,6 +15,7 @@ use Rattle.consistency.specs.Counting.{howMany}
 use Rattle.consistency.specs.Counts.{bit}
 use Rattle.consistency.proofs.Booleans.{T-ext, T-false}
 use Rattle.consistency.proofs.Sums.{many-ext}
+use Rattle.consistency.proofs.Masks.{zero-bit}
 use Rattle.filter.proofs.Tallies.{many-front, many-add}
 
 two : zero < 2
@@ -70,11 +71,6 @@ half m k = ap (λ (n : ℕ). m / 2 ^ n) (omega arith) ∙ sym (shr-shr m 1 k)
 -- bit k + 1 of m is bit k of its half
 pub bit-next : (m k : ℕ) → bit m (suc k) ≡ bit (m / 2) k
 bit-next m k = ap (λ (x : ℕ). eqb (x % 2) 1) (half m k)
-
--- 0 has no bits
-pub zero-bit : (k : ℕ) → bit 0 k ≡ false
-zero-bit zero = refl
-zero-bit (suc k) = bit-next 0 k ∙ zero-bit k
 
 -- 2 ^ x has bit x alone
 pub one-bit : (x k : ℕ) → bit (2 ^ x) k ≡ eqb k x

@@ -18,8 +18,9 @@ use Rattle.consistency.specs.Counting.{those}
 use Rattle.consistency.specs.Consistency.{places, answer, relax}
 use Rattle.consistency.specs.Counts.{bit, answered}
 use Rattle.consistency.proofs.Booleans.{true-T, false-T, T-false, below-suc}
+use Rattle.consistency.proofs.Masks.{zero-bit}
 use Rattle.filter.specs.Start.{CasesAre, casesBelow}
-use Rattle.filter.proofs.Bits.{zero-bit, one-bit, low-bits}
+use Rattle.filter.proofs.Bits.{one-bit, low-bits}
 use Rattle.filter.proofs.Lists.{answer-at}
 
 -- a word that is 0 has no case

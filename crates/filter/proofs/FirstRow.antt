@@ -18,12 +18,13 @@ use Rattle.consistency.specs.Largest.{rowSupports}
 use Rattle.consistency.specs.Counts.{bit}
 use Rattle.consistency.proofs.Booleans.{T-ext, true-T, false-T, and-in, and-left, and-right, eq→eqb}
 use Rattle.consistency.proofs.Supports.{row-in, row-there, row-others}
+use Rattle.consistency.proofs.Masks.{zero-bit}
 use Rattle.filter.specs.Words.{domainOf}
 use Rattle.filter.specs.declared.support.Shape.{Shape}
 use Rattle.filter.specs.declared.support.Found.{Found}
 use Rattle.filter.specs.declared.support.Found.the-variants.{Row, Nothing}
 use Rattle.filter.specs.Support.{InTable, rowCases, firstFrom}
-use Rattle.filter.proofs.Bits.{zero-bit, one-bit, same-bits}
+use Rattle.filter.proofs.Bits.{one-bit, same-bits}
 use Rattle.filter.proofs.Firsts.{FirstIs}
 use Rattle.filter.proofs.Shapes.{codes-small}
 use Rattle.filter.proofs.Narrowing.{cases-bit}

@@ -31,4 +31,5 @@ pub mod Totals
 pub mod Gathers
 pub mod Passes
 pub mod Agreement
+pub mod Emptied
 pub mod ViewCalls

@@ -1,7 +1,7 @@
 -- The cases in which a row supports its own code: column by column, and bit by bit. Assumes nothing.
 use mathlib.Core.Path.{_≡_, refl, sym, ap, ap₂, _∙_}
 use mathlib.Core.Logic.{_≢_}
-use mathlib.Core.Bool.{Bool, true, false, _&&_, _||_}
+use mathlib.Core.Bool.{Bool, true, false, _&&_, _||_, and-true, and-assoc}
 use mathlib.Core.List.{List}
 use Prim.Native.Nat.{ℕ, zero, suc, _+_, _-_, _≤_, _<_}
 use native.Mathlib.Nat.{le-trans, le-suc, le-refl}
@@ -72,14 +72,6 @@ module _ (M : List ℕ) (t : Table) (j r : ℕ) where
 
   -- ---- bit by bit
 
-  and-assoc : (x y z : Bool) → ((x && y) && z) ≡ (x && (y && z))
-  and-assoc true y z = refl
-  and-assoc false y z = refl
-
-  and-true : (x : Bool) → x ≡ (x && true)
-  and-true true = refl
-  and-true false = refl
-
   module _ (small : (i : ℕ) → i < length (t .fields) → codeOf t r i < codeLimit) (w k : ℕ) where
     -- column i is j, or its code stands in case k
     abbrev column : ℕ → Bool
@@ -87,7 +79,7 @@ module _ (M : List ℕ) (t : Table) (j r : ℕ) where
 
     narrowed-bit : (i : ℕ) → i ≤ length (t .fields) → bit (narrowed M t j r w i) k ≡ (bit w k && allBelow i column)
     unfolding narrowed
-    narrowed-bit zero l = and-true (bit w k)
+    narrowed-bit zero l = sym (and-true (bit w k))
     narrowed-bit (suc i) l = go (ℕ-discrete i j) (narrowed-bit i (le-trans (le-suc i) l))
       where
         v : ℕ
@@ -95,7 +87,7 @@ module _ (M : List ℕ) (t : Table) (j r : ℕ) where
 
         go : Dec (i ≡ j) → bit (narrowed M t j r w i) k ≡ (bit w k && allBelow i column)
             → bit (pick (eqb i j) (narrowed M t j r w i) (bitAnd (narrowed M t j r w i) v)) k ≡ (bit w k && (allBelow i column && column i))
-        go (yes e) ih = rw (eq-eqb i j e) (ih ∙ ap (bit w k &&_) (and-true (allBelow i column)))
+        go (yes e) ih = rw (eq-eqb i j e) (ih ∙ ap (bit w k &&_) (sym (and-true (allBelow i column))))
         go (no e) ih =
             rw (ne-eqb i j e)
             (bit-and (narrowed M t j r w i) v k ∙ ap₂ _&&_ ih (sym (domain-bit M k (fieldOf t i) (codeOf t r i) (small i l)))

@@ -20,12 +20,13 @@ use Rattle.consistency.specs.Consistency.{fieldOf, codeOf, nth, Support, ArcCon
 use Rattle.consistency.specs.Counts.{bit}
 use Rattle.consistency.proofs.Booleans.{T-true, T-false, true-T, false-T, and-in, and-left}
 use Rattle.consistency.proofs.Loops.{loop-ends}
+use Rattle.consistency.proofs.Masks.{zero-bit}
 use Rattle.filter.specs.Words.{wordAt, domainOf, standing}
 use Rattle.filter.specs.Revise.{Removal, TableSupported, Watches, Swept}
 use Rattle.filter.specs.Asks.{SweepAsks}
 use Rattle.filter.specs.Queue.{PropagateGiven, Propagated}
 use Rattle.filter.proofs.Tallies.{many-le}
-use Rattle.filter.proofs.Bits.{Within, bit-without, many-without, ones-many, ones-pos, zero-bit, one-bit, shl-one, lowest, bit-small, later-bit}
+use Rattle.filter.proofs.Bits.{Within, bit-without, many-without, ones-many, ones-pos, one-bit, shl-one, lowest, bit-small, later-bit}
 use Rattle.filter.proofs.Words.{domain-small}
 use Rattle.filter.proofs.Removals.{removal-none, removal-then, removal-marks}
 

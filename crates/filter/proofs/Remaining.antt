@@ -17,11 +17,12 @@ use Rattle.consistency.specs.Largest.{rowSupports}
 use Rattle.consistency.specs.Counts.{bit}
 use Rattle.consistency.proofs.Booleans.{T-false, false-T, T-or-not, and-in, and-left, and-right, below-suc}
 use Rattle.consistency.proofs.Supports.{row-in, row-there, row-others}
+use Rattle.consistency.proofs.Masks.{zero-bit}
 use Rattle.filter.specs.Words.{domainOf}
 use Rattle.filter.specs.declared.support.Found.the-variants.{Nothing}
 use Rattle.filter.specs.Support.{rowCases}
 use Rattle.filter.specs.Revise.{Unsupported}
-use Rattle.filter.proofs.Bits.{Within, bit-without, zero-bit, same-bits}
+use Rattle.filter.proofs.Bits.{Within, bit-without, same-bits}
 use Rattle.filter.proofs.Firsts.{FirstAt, FirstIs}
 use Rattle.filter.proofs.Narrowing.{cases-bit}
 

@@ -14,12 +14,13 @@ use Rattle.consistency.specs.Consistency.{Support, HoldsAll, places, fieldOf, c
 use Rattle.consistency.specs.Counts.{bit}
 use Rattle.consistency.proofs.Booleans.{T-false, false-T, T-or-not}
 use Rattle.consistency.proofs.Supports.{support-grows}
+use Rattle.consistency.proofs.Masks.{zero-bit}
 use Rattle.filter.specs.Words.{wordAt, domainOf, standing}
 use Rattle.filter.specs.declared.support.Shape.{Shape}
 use Rattle.filter.specs.Revise.{Unsupported, Revised}
 use Rattle.filter.specs.Asks.{Looks, Struck, ReviseAsks}
 use Rattle.filter.proofs.StruckWords.{LeftOf, others, stood, stays, elsewhere, inside, still, counts}
-use Rattle.filter.proofs.Bits.{Within, zero-bit}
+use Rattle.filter.proofs.Bits.{Within}
 use Rattle.filter.proofs.Words.{domain-bit, domain-small}
 use Rattle.filter.proofs.Limits.{fields-few, codes-few}
 use Rattle.filter.proofs.Shapes.{arity-of, field-is, field-known, index-below, nth-is}

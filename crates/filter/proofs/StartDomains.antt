@@ -19,9 +19,9 @@ use Rattle.consistency.specs.Counts.{bit}
 use Rattle.consistency.proofs.Booleans.{false-T}
 use Rattle.consistency.proofs.Rounds.{start-at, start-within, start-holds-all}
 use Rattle.consistency.proofs.CodeCounts.{field-in}
+use Rattle.consistency.proofs.Masks.{zero-bit}
 use Rattle.filter.specs.Words.{wordAt, domainOf}
 use Rattle.filter.specs.Start.{CasesAre, startWord, Started}
-use Rattle.filter.proofs.Bits.{zero-bit}
 use Rattle.filter.proofs.Words.{domain-bit}
 use Rattle.filter.proofs.Limits.{fields-few, codes-few}
 use Rattle.filter.proofs.Starts.{or-true, word-within}

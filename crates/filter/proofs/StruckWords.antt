@@ -17,11 +17,12 @@ use Rattle.consistency.specs.Consistency.{Inside, codes}
 use Rattle.consistency.specs.Counts.{bit}
 use Rattle.consistency.proofs.Booleans.{and-in, and-left, and-right}
 use Rattle.consistency.proofs.Sums.{sum-ext}
+use Rattle.consistency.proofs.Masks.{zero-bit}
 use Rattle.filter.specs.Words.{wordAt, domainOf, standing}
 use Rattle.filter.specs.Revise.{OnlyField}
 use Rattle.filter.specs.Asks.{Struck}
 use Rattle.filter.proofs.Tallies.{many-none, sum-add, sum-none, sum-change}
-use Rattle.filter.proofs.Bits.{Within, bit-without, many-without, zero-bit, bit-ext}
+use Rattle.filter.proofs.Bits.{Within, bit-without, many-without, bit-ext}
 use Rattle.filter.proofs.Words.{domain-bit, domain-small}
 
 -- what is left are cases in which the code stands, of the k codes alone

@@ -19,8 +19,9 @@ use Rattle.format.specs.Promise.{place, fieldAt}
 use Rattle.consistency.specs.Consistency.{places}
 use Rattle.consistency.specs.Counts.{bit}
 use Rattle.consistency.proofs.Booleans.{or-left, or-right, or-out, false-T}
+use Rattle.consistency.proofs.Masks.{zero-bit}
 use Rattle.filter.specs.Queue.{WatchGiven, Watched, SurveyGiven, Surveyed}
-use Rattle.filter.proofs.Bits.{bit-or, one-bit, zero-bit, shl-one}
+use Rattle.filter.proofs.Bits.{bit-or, one-bit, shl-one}
 use Rattle.filter.proofs.Limits.{fields-few}
 
 -- all of the first k bits, as the code has them

@@ -1,16 +1,20 @@
 -- Document 01, "The sheet and its one pass": the cases of a pass, and what the marks and the count say at its end. Assumes nothing.
-use Prim.Native.Nat.{ℕ, _+_, _*_, _/_, _%_}
+use Prim.Native.Nat.{ℕ, suc, _+_, _*_, _/_, _%_}
 use mathlib.Core.List.{List, [], _∷_, map}
 use lib.ListN.{length, getD}
 use Rattle.format.specs.Format.{Book, codeLimit}
-use Rattle.consistency.specs.Counting.{tabulate}
+use Rattle.consistency.specs.Counting.{howMany, tabulate}
 use Rattle.consistency.specs.Consistency.{places, relax}
 use Rattle.consistency.specs.Largest.{largest}
-use Rattle.consistency.specs.Counts.{outside, relaxable, mask}
+use Rattle.consistency.specs.Counts.{outside, answered, relaxable, mask}
 
 -- "n+1 cases .. nothing lifted, then each answered field lifted by itself", as the answers of each case
 abbrev pub casesOf : Book → List ℕ → List (List ℕ)
 casesOf b a = a ∷ map (relax a) (relaxable b a)
+
+-- the case in which the answered field f is lifted: one for each answered field in turn, behind the case with nothing lifted
+abbrev pub ownCase : List ℕ → ℕ → ℕ
+ownCase a f = suc (howMany f (answered a))
 
 -- the word of field f and code c: bit k says whether c is in f's part of the largest subdomain of case k
 abbrev pub caseWord : Book → List (List ℕ) → ℕ → ℕ → ℕ

@@ -5,3 +5,4 @@ pub mod Revise
 pub mod Start
 pub mod Asks
 pub mod Queue
+pub mod Summaries

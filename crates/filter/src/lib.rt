@@ -2,8 +2,11 @@
 ghost use mathlib.Core.Path.{_≡_};
 ghost use Rattle.format.specs.Format.{bookOf};
 ghost use Rattle.book.specs.View.{Viewed};
+ghost use Prim.Native.Nat.{_≤_};
+ghost use Rattle.consistency.specs.Consistency.{places};
 ghost use Rattle.consistency.specs.Counts.{struck};
 ghost use Rattle.filter.specs.Cases.{casesOf, marksOf, plainOf};
+ghost use Rattle.filter.specs.Summaries.{emptyCases};
 use book::Book;
 
 mod gather;
@@ -11,6 +14,7 @@ mod pass;
 mod queue;
 mod revise;
 mod start;
+mod summary;
 mod support;
 
 // The one pass over a view of an accepted book: the marks of all cases, and the number struck.
@@ -71,4 +75,19 @@ pub fn plain(
     ensures { λ r. ⌜ r ≡ plainOf (bookOf (now (bytes .entry))) (now (answers .entry)) ⌝ }
 {
     plain_over(book::view(bytes, list, fields, tables, rows), answers)
+}
+
+// Every bit of a word of cases.
+const EVERY_CASE: u64 = 18446744073709551615;
+
+// The cases in which some field of the book is empty, as a word: bit k for case k.
+pub fn empty_cases(marks: &[u64; 1024], fields: usize) -> u64
+    requires { ⌜ fields ≤ places ⌝ }
+    ensures { λ r. ⌜ r ≡ emptyCases (now (marks .entry)) fields ⌝ }
+{
+    let mut full = EVERY_CASE;
+    for f in 0..fields {
+        full = full & summary::marked_cases(marks, f);
+    }
+    EVERY_CASE ^ full
 }

@@ -1,0 +1,18 @@
+// What the marks of a pass say of each case as a whole.
+ghost use mathlib.Core.Path.{_≡_};
+ghost use Prim.Native.Nat.{ℕ, _<_};
+ghost use Rattle.consistency.specs.Consistency.{places};
+ghost use Rattle.consistency.specs.Counts.{bit};
+ghost use Rattle.filter.specs.Summaries.{marked};
+
+// The cases in which field f has a mark.
+pub(crate) fn marked_cases(marks: &[u64; 1024], f: usize) -> u64
+    requires { ⌜ f < places ⌝ }
+    ensures { λ r. ⌜ ((k : ℕ) → bit r k ≡ marked (now (marks .entry)) f k) ⌝ }
+{
+    let mut cases: u64 = 0;
+    for c in 0..32 {
+        cases = cases | marks[f * 32 + c];
+    }
+    cases
+}
