@@ -1,6 +1,6 @@
 -- One turn over the fields: what the marks of a pass show of a field, and what is counted and written for it. Assumes nothing.
-use mathlib.Core.Path.{_≡_, sym, ap, _∙_, subst}
-use mathlib.Core.Bool.{true, false, not}
+use mathlib.Core.Path.{_≡_, refl, sym, ap, _∙_, subst}
+use mathlib.Core.Bool.{Bool, true, false, not, _&&_, and-true}
 use mathlib.Core.List.{List, _++_, map}
 use Prim.Native.Nat.{ℕ, _+_, _*_, _≤_, _<_}
 use native.Mathlib.Nat.{zero-add}
@@ -13,18 +13,30 @@ use Rattle.format.specs.Format.{codeLimit, byte, bookOf}
 use Rattle.format.proofs.Storing.{sets-append}
 use Rattle.format.proofs.Verdict.{verdict-promise}
 use Rattle.consistency.specs.Counting.{howMany}
-use Rattle.consistency.specs.Consistency.{places, codes, answer}
-use Rattle.consistency.specs.Counts.{answered, listed, total, Line, lines, lineBytes}
+use Rattle.consistency.specs.Consistency.{places, codes, answer, relax}
+use Rattle.consistency.specs.Largest.{largest}
+use Rattle.consistency.specs.Emptiness.{noneEmpty}
+use Rattle.consistency.specs.Counts.{bit, answered, listed, total, Line, lines, lineBytes}
 use Rattle.consistency.proofs.Sums.{many-ext, those-ext}
 use Rattle.consistency.proofs.Limits.{many-few, picked-few}
+use Rattle.consistency.proofs.EmptyFields.{some-or-none}
+use Rattle.filter.specs.Cases.{ownCase}
 use Rattle.filter.proofs.Limits.{codes-few}
-use Rattle.sheet.specs.Lists.{stands, linesBelow, ownCase, InMarks, Room, Passed}
+use Rattle.sheet.specs.Lists.{stands, linesBelow, InMarks, Room, Passed}
 use Rattle.sheet.proofs.Openings.{fields-end, fields-few, fields-count, codes-at}
 use Rattle.sheet.proofs.Places.{answer-at}
 use Rattle.sheet.proofs.Upward.{many-more, many-same}
-use Rattle.sheet.proofs.Fields.{alternativesOf, fieldLines, totalBelow, bytesBelow, total-is, lines-are-below, length-bytes, total-more, bytes-more, total-same, bytes-same, total-rises}
+use Rattle.sheet.proofs.Fields.{alternativesOf, fieldLines, totalBelow, bytesBelow, total-is, lines-are-below, length-bytes, SameBelow, total-more, bytes-more, open-same, unmended-same, total-rises}
 
-module _ {s a M : List ℕ} {list fields : ℕ} (x : Passed s a M list fields) where
+not-out : (x : Bool) → not x ≡ true → x ≡ false
+not-out true e = sym e
+not-out false e = refl
+
+not-in : (x : Bool) → not x ≡ false → x ≡ true
+not-in true e = refl
+not-in false e = sym e
+
+module _ {s a M : List ℕ} {empty list fields : ℕ} (x : Passed s a M empty list fields) where
   -- an accepted book has few alternatives
   pub few-below : (n : ℕ) → totalBelow (bookOf s) a n ≤ n * codeLimit
   few-below n =
@@ -64,16 +76,34 @@ module _ {s a M : List ℕ} {list fields : ℕ} (x : Passed s a M list fields) w
     pub same-case : {k : ℕ} → answered a f ≡ false → k ≡ ownCase a f → k ≡ ownCase a (f + 1)
     same-case e d = omega (arith, many-same (answered a) f e)
 
-    -- a field without an answer adds nothing
-    pub total-without : {sum : ℕ} → answered a f ≡ false → sum ≡ totalBelow (bookOf s) a f → sum ≡ totalBelow (bookOf s) a (f + 1)
-    total-without e d = d ∙ sym (total-same (bookOf s) a f e)
+    -- a word has a bit for each case
+    pub case-few : {k : ℕ} → k ≡ ownCase a f → k < 64
+    case-few d = omega (arith, many-few f (answered a), fields-few s list fields (x .at))
 
-    pub place-without : {next : ℕ} → answered a f ≡ false → next ≡ 2 * totalBelow (bookOf s) a f → next ≡ 2 * totalBelow (bookOf s) a (f + 1)
-    place-without e d = omega (arith, total-same (bookOf s) a f e)
+    -- a field without an answer adds no line
+    pub open-lineless : answered a f ≡ false → SameBelow (bookOf s) a f
+    open-lineless = open-same (bookOf s) a f
 
-    pub lines-without : (o : List ℕ) {out : List ℕ} → answered a f ≡ false → out ≡ sets o 0 (bytesBelow (bookOf s) a f)
-        → out ≡ sets o 0 (bytesBelow (bookOf s) a (f + 1))
-    lines-without o e d = d ∙ ap (sets o 0) (sym (bytes-same (bookOf s) a f e))
+    module _ {k : ℕ} (case-is : k ≡ ownCase a f) (e : answered a f ≡ true) where
+      -- whether some field is empty with it lifted stands in the word
+      emptied : bit empty k ≡ not (noneEmpty (bookOf s) (largest (bookOf s) (relax a f)))
+      emptied =
+          ap (bit empty) case-is ∙ x .empties f l (subst T (sym e) tt)
+          ∙ some-or-none (bookOf s) (largest (bookOf s) (relax a f))
+
+      -- then an answered field adds no line
+      pub unmended-lineless : bit empty k ≡ true → SameBelow (bookOf s) a f
+      unmended-lineless d = unmended-same (bookOf s) a f e (not-out (noneEmpty (bookOf s) (largest (bookOf s) (relax a f))) (sym emptied ∙ d))
+
+    module _ (h : SameBelow (bookOf s) a f) where
+      pub total-without : {sum : ℕ} → sum ≡ totalBelow (bookOf s) a f → sum ≡ totalBelow (bookOf s) a (f + 1)
+      total-without d = d ∙ sym (h .total)
+
+      pub place-without : {next : ℕ} → next ≡ 2 * totalBelow (bookOf s) a f → next ≡ 2 * totalBelow (bookOf s) a (f + 1)
+      place-without d = omega (arith, h .total)
+
+      pub lines-without : (o : List ℕ) {out : List ℕ} → out ≡ sets o 0 (bytesBelow (bookOf s) a f) → out ≡ sets o 0 (bytesBelow (bookOf s) a (f + 1))
+      lines-without o d = d ∙ ap (sets o 0) (sym (h .bytes))
 
     module _ {k n : ℕ} (case-is : k ≡ ownCase a f) (codes-are : n ≡ byte s (list + f)) where
       -- n is its number of codes
@@ -84,15 +114,18 @@ module _ {s a M : List ℕ} {list fields : ℕ} (x : Passed s a M list fields) w
       pub in-marks : InMarks k f n
       in-marks =
           record {
-            case-in = omega (arith, many-few f (answered a), fields-few s list fields (x .at));
+            case-in = case-few case-is;
             field-in = omega (arith, fields-few s list fields (x .at));
             codes-in = omega (arith, codes-is, codes-few s (verdict-promise s (x .at .passes)) f);
           }
 
-      module _ (e : answered a f ≡ true) where
-        -- a code stands there exactly when it is listed
+      module _ (e : answered a f ≡ true) (full : bit empty k ≡ false) where
+        -- a code stands there exactly when it is listed: no field is empty
         own-listed : (c : ℕ) → c < codes (bookOf s) f → stands M k f c ≡ listed (bookOf s) a f c
-        own-listed c h = ap (λ (i : ℕ). stands M i f c) case-is ∙ x .own f c l (subst T (sym e) tt) h
+        own-listed c h =
+            ap (λ (i : ℕ). stands M i f c) case-is ∙ x .own f c l (subst T (sym e) tt) h
+            ∙ sym (ap (largest (bookOf s) (relax a f) f c &&_) (not-in (noneEmpty (bookOf s) (largest (bookOf s) (relax a f))) (sym (emptied case-is e) ∙ full))
+            ∙ and-true (largest (bookOf s) (relax a f) f c))
 
         -- in its own case its alternatives stand
         stand-count : howMany n (stands M k f) ≡ alternativesOf (bookOf s) a f

@@ -1,16 +1,19 @@
 -- The total and the lines of the answered fields below a bound, one field more at a time. Assumes nothing.
 use mathlib.Core.Path.{_≡_, sym, ap, _∙_}
-use mathlib.Core.Bool.{true, false}
-use mathlib.Core.List.{List, [], _∷_, _++_, append-nil}
+use mathlib.Core.Bool.{Bool, true, false}
+use mathlib.Core.List.{List, [], _∷_, _++_, map, append-nil}
 use Prim.Native.Nat.{ℕ, suc, _+_, _*_, _≤_}
+use native.Mathlib.Nat.{add-zero}
 use native.Mathlib.Omega.{arith}
 use lib.ListN.{length, length-map}
 use Rattle.format.specs.Basics.{pick}
 use Rattle.format.specs.Format.{Book}
 use Rattle.consistency.specs.Counting.{howMany, those, sumOver, joinOver}
-use Rattle.consistency.specs.Consistency.{codes}
+use Rattle.consistency.specs.Consistency.{codes, relax}
+use Rattle.consistency.specs.Largest.{largest}
+use Rattle.consistency.specs.Emptiness.{noneEmpty}
 use Rattle.consistency.specs.Counts.{answered, listed, total, Line, linesOf, lines, lineBytes}
-use Rattle.consistency.proofs.Sums.{length-those, length-join, sum-over-ext}
+use Rattle.consistency.proofs.Sums.{length-those, length-join, sum-over-ext, those-and, many-and}
 use Rattle.consistency.proofs.Lines.{length-line-bytes}
 use Rattle.sheet.proofs.Upward.{those-more, those-same, rises, sum-append, join-append, line-bytes-append}
 
@@ -31,6 +34,11 @@ module _ (b : Book) (a : List ℕ) where
 
   abbrev pub bytesBelow : ℕ → List ℕ
   bytesBelow n = lineBytes (joinOver (those n (answered a)) fieldLines)
+
+  -- field f adds nothing to those below it
+  pub record SameBelow (f : ℕ) : Type 0 where
+    pub total : totalBelow (f + 1) ≡ totalBelow f
+    pub bytes : bytesBelow (f + 1) ≡ bytesBelow f
 
   -- the total is over the book's fields
   pub total-is : (n : ℕ) → length (b .counts) ≡ n → totalBelow n ≡ total b a
@@ -64,12 +72,31 @@ module _ (b : Book) (a : List ℕ) where
         ∙ ap (λ (ls : List Line). lineBytes (joinOver (those f (answered a)) fieldLines ++ ls)) (append-nil (fieldLines f))
         ∙ line-bytes-append (joinOver (those f (answered a)) fieldLines) (fieldLines f)
 
-    -- one field more without an answer
-    pub total-same : answered a f ≡ false → totalBelow (f + 1) ≡ totalBelow f
-    total-same e = ap (λ (fs : List ℕ). sumOver fs alternativesOf) (those-same (answered a) f e)
+    -- one field more adds nothing where it has no answer
+    pub open-same : answered a f ≡ false → SameBelow f
+    open-same e =
+        record {
+          total = ap (λ (fs : List ℕ). sumOver fs alternativesOf) (those-same (answered a) f e);
+          bytes = ap (λ (fs : List ℕ). lineBytes (joinOver fs fieldLines)) (those-same (answered a) f e);
+        }
 
-    pub bytes-same : answered a f ≡ false → bytesBelow (f + 1) ≡ bytesBelow f
-    bytes-same e = ap (λ (fs : List ℕ). lineBytes (joinOver fs fieldLines)) (those-same (answered a) f e)
+    -- nor where its answer, lifted, leaves some field empty
+    pub unmended-same : answered a f ≡ true → noneEmpty b (largest b (relax a f)) ≡ false → SameBelow f
+    unmended-same e d =
+        record {
+          total = total-more e ∙ ap (totalBelow f +_) none ∙ add-zero (totalBelow f);
+          bytes = bytes-more e ∙ ap (λ (ls : List Line). bytesBelow f ++ lineBytes ls) no-line ∙ append-nil (bytesBelow f);
+        }
+      where
+        none : alternativesOf f ≡ 0
+        none = many-and (codes b f) (largest b (relax a f) f) (noneEmpty b (largest b (relax a f)))
+            ∙ ap (λ (x : Bool). pick x (howMany (codes b f) (largest b (relax a f) f)) 0) d
+
+        no-line : fieldLines f ≡ []
+        no-line =
+            ap (map (λ (c : ℕ). record { field = f; code = c }))
+            (those-and (codes b f) (largest b (relax a f) f) (noneEmpty b (largest b (relax a f)))
+            ∙ ap (λ (x : Bool). pick x (those (codes b f) (largest b (relax a f) f)) []) d)
 
   -- the total with field n, whether or not it is answered
   total-step : (n : ℕ) → totalBelow (suc n) ≡ totalBelow n + sumOver (pick (answered a n) (n ∷ []) []) alternativesOf

@@ -6,10 +6,13 @@ use mathlib.Core.Bool.{Bool}
 use lib.ListN.{length}
 use lib.Dec.{T}
 use Rattle.format.specs.Format.{codeLimit, bookOf}
-use Rattle.consistency.specs.Counting.{howMany, those}
-use Rattle.consistency.specs.Consistency.{places, codes}
-use Rattle.consistency.specs.Counts.{bit, answered, listed, Line}
+use Rattle.consistency.specs.Counting.{those}
+use Rattle.consistency.specs.Consistency.{places, codes, relax}
+use Rattle.consistency.specs.Largest.{largest}
+use Rattle.consistency.specs.Emptiness.{someEmpty}
+use Rattle.consistency.specs.Counts.{bit, answered, Line}
 use Rattle.filter.specs.Words.{wordAt}
+use Rattle.filter.specs.Cases.{ownCase}
 use Rattle.sheet.specs.Opened.{FieldsAt}
 
 -- code c of field f stands in case k
@@ -19,10 +22,6 @@ stands M k f c = bit (wordAt M f c) k
 -- the lines of field f: those of the codes below n at which p holds, rising
 abbrev pub linesBelow : ℕ → (ℕ → Bool) → ℕ → List Line
 linesBelow n p f = map (λ (c : ℕ). record { field = f; code = c }) (those n p)
-
--- the case in which the answered field f is relaxed: one for each answered field in turn, behind the case with nothing relaxed
-abbrev pub ownCase : List ℕ → ℕ → ℕ
-ownCase a f = 1 + howMany f (answered a)
 
 -- a case, a field, and a bound on its codes for which marks have words
 pub record InMarks (k f n : ℕ) : Type 0 where
@@ -35,7 +34,9 @@ pub record Room (o : List ℕ) (at many : ℕ) : Type 0 where
   pub fits : at + 2 * many ≤ length o
   pub small : at ≤ 65536
 
--- M has the marks of a pass over the accepted book s: in each answered field's own case its alternatives stand
-pub record Passed (s a M : List ℕ) (list fields : ℕ) : Type 0 where
+-- M has the marks of a pass over the accepted book s, and empty its cases in which some field is empty: each answered field's own case has its
+-- codes with it lifted, and says whether some field is empty then
+pub record Passed (s a M : List ℕ) (empty list fields : ℕ) : Type 0 where
   pub at : FieldsAt s list fields
-  pub own : (f c : ℕ) → f < fields → T (answered a f) → c < codes (bookOf s) f → stands M (ownCase a f) f c ≡ listed (bookOf s) a f c
+  pub own : (f c : ℕ) → f < fields → T (answered a f) → c < codes (bookOf s) f → stands M (ownCase a f) f c ≡ largest (bookOf s) (relax a f) f c
+  pub empties : (f : ℕ) → f < fields → T (answered a f) → bit empty (ownCase a f) ≡ someEmpty (bookOf s) (largest (bookOf s) (relax a f))

@@ -222,12 +222,13 @@ impl Sheet {
                     &places,
                     &mut marks,
                 );
-                let total = lists::count_lines(book, places, &marks, list, fields);
+                let empty = filter::empty_cases(&marks, fields);
+                let total = lists::count_lines(book, places, &marks, empty, list, fields);
                 let needed = 2 * total;
                 if out.len() < needed {
                     return refuse_list(self, Reason::Room, 0);
                 }
-                lists::write_lines(book, places, &marks, list, fields, out);
+                lists::write_lines(book, places, &marks, empty, list, fields, out);
                 HandedList {
                     answer: Listing::Listed {
                         total: total,

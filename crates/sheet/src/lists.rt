@@ -52,15 +52,16 @@ fn write_field(marks: &[u64; 1024], k: u64, f: usize, n: usize, out: &mut [u8], 
     next
 }
 
-// The number of alternatives of the answered fields.
+// The number of alternatives of the answered fields: of those whose own case is not one of the cases `empty`.
 pub(crate) fn count_lines(
     book: &[u8],
     answers: [u8; 32],
     marks: &[u64; 1024],
+    empty: u64,
     list: usize,
     fields: usize,
 ) -> usize
-    requires { ⌜ Passed (now book) answers (now marks) list fields ⌝ }
+    requires { ⌜ Passed (now book) answers (now marks) empty list fields ⌝ }
     ensures { λ r. ⌜ (r ≡ total (bookOf (now (book .entry))) answers) × (r ≤ 1024) ⌝ }
 {
     let mut sum = 0;
@@ -68,6 +69,9 @@ pub(crate) fn count_lines(
     let mut f = 0;
     while f < fields {
         if answers[f] == 255 {
+            f += 1;
+        } else if (empty >> k) % 2 == 1 {
+            k += 1;
             f += 1;
         } else {
             let n = wide(book[list + f]);
@@ -84,11 +88,12 @@ pub(crate) fn write_lines(
     book: &[u8],
     answers: [u8; 32],
     marks: &[u64; 1024],
+    empty: u64,
     list: usize,
     fields: usize,
     out: &mut [u8],
 )
-    requires { ⌜ Passed (now book) answers (now marks) list fields × (2 * total (bookOf (now book)) answers ≤ length (now out)) ⌝ }
+    requires { ⌜ Passed (now book) answers (now marks) empty list fields × (2 * total (bookOf (now book)) answers ≤ length (now out)) ⌝ }
     ensures { λ r. ⌜ now (out .exit) ≡ lineBytes (lines (bookOf (now (book .entry))) answers) ++ drop (2 * total (bookOf (now (book .entry))) answers) (now (out .entry)) ⌝ }
 {
     let mut next = 0;
@@ -96,6 +101,9 @@ pub(crate) fn write_lines(
     let mut f = 0;
     while f < fields {
         if answers[f] == 255 {
+            f += 1;
+        } else if (empty >> k) % 2 == 1 {
+            k += 1;
             f += 1;
         } else {
             let n = wide(book[list + f]);
