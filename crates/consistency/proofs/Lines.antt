@@ -92,6 +92,11 @@ module _ (b : Book) (a : List ℕ) where
       same : (g d : ℕ) → largest b (relax a f) g d ≡ S g d
       same = largest-unique (largest-is b (relax a f)) h
 
+  -- the book's codes alone are
+  pub listed-known : OfBook b (listed b a)
+  listed-known f c t =
+      largest-is b (relax a f) .fits .of-book f c (and-left (largest b (relax a f) f c) (noneEmpty b (largest b (relax a f))) t)
+
   -- by field, then code
   pub lines-in-order : InOrder (lines b a)
   unfolding lines
@@ -105,11 +110,7 @@ module _ (b : Book) (a : List ℕ) where
   -- a line is there exactly when its field is answered and its code is one of the field's alternatives
   pub lines-are : (l : Line) → In l (lines b a) ↔ (In (l .field) (relaxable b a) × T (listed b a (l .field) (l .code)))
   unfolding lines
-  lines-are =
-      picked-are b (answered a) (listed b a)
-      (λ f c t.
-      let S = largest b (relax a f) in
-      largest-is b (relax a f) .fits .of-book f c (and-left (S f c) (noneEmpty b S) t))
+  lines-are = picked-are b (answered a) (listed b a) listed-known
 
 -- two bytes a line
 pub length-line-bytes : (ls : List Line) → length (lineBytes ls) ≡ 2 * length ls

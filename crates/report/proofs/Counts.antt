@@ -7,9 +7,9 @@ use native.Mathlib.Omega.{arith}
 use lib.ListN.{length}
 use Rattle.format.specs.Basics.{pick}
 use Rattle.format.specs.Format.{Book, Table, codeLimit, isIn, different, rowTotal, differentTotal}
-use Rattle.consistency.specs.Consistency.{places, relax}
+use Rattle.consistency.specs.Consistency.{places}
 use Rattle.consistency.specs.Largest.{largest}
-use Rattle.consistency.specs.Counts.{answered, lines}
+use Rattle.consistency.specs.Counts.{answered, listed, lines}
 use Rattle.consistency.proofs.Sums.{many-not}
 use Rattle.consistency.proofs.Lines.{length-picked}
 use Rattle.consistency.proofs.Limits.{picked-few}
@@ -40,11 +40,11 @@ pub lines-few : (b : Book) (w : Within b) (s : List ℕ) → length (lines b s) 
 unfolding lines openLines
 lines-few b w s =
     let n : ℕ = length (b .counts) in
-    let alts = picked-few b (w .small) n (answered s) (λ f. largest b (relax s f) f) in
+    let alts = picked-few b (w .small) n (answered s) (listed b s) in
     let opens = picked-few b (w .small) n (λ f. not (answered s f)) (largest b s) in
     omega (
       arith,
-      length-picked b (answered s) (λ f. largest b (relax s f) f),
+      length-picked b (answered s) (listed b s),
       length-picked b (λ f. not (answered s f)) (largest b s),
       many-not n (answered s),
       w .few,

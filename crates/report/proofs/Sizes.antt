@@ -16,11 +16,11 @@ use Rattle.format.proofs.Accepted.{verdict-accepted, accepted-promise}
 use Rattle.format.proofs.Views.{tables-count}
 use Rattle.consistency.specs.Counting.{howMany}
 use Rattle.consistency.specs.Largest.{largest}
-use Rattle.consistency.specs.Consistency.{codes, relax}
+use Rattle.consistency.specs.Consistency.{codes}
 use Rattle.consistency.specs.Counts.{answered, Line, lines, total, struck}
 use Rattle.consistency.specs.Order.{In}
 use Rattle.consistency.proofs.CodeCounts.{field-in}
-use Rattle.consistency.proofs.Lines.{lines-are}
+use Rattle.consistency.proofs.Lines.{listed-known, lines-are}
 use Rattle.consistency.proofs.Limits.{many-few, total-few, struck-few}
 use Rattle.consistency.proofs.Largest.{largest-is}
 use Rattle.calls.specs.Calls.{loaded}
@@ -94,7 +94,7 @@ module _ (b : Book) (w : Within b) (s : List ℕ) where
   -- the lines of alternatives are
   alt-small : (l : Line) → In l (lines b s) → Small l
   alt-small l m =
-      small l (largest-is b (relax s (l .field)) .fits .of-book (l .field) (l .code) (lines-are b s l .0 m .1))
+      small l (listed-known b s (l .field) (l .code) (lines-are b s l .0 m .1))
 
   -- and so are the open lines
   open-small : (l : Line) → In l (openLines b s) → Small l

@@ -1,13 +1,9 @@
 -- `empty_cases` meets its contract. The invariant: the cases in which each field below f has a mark. Assumes nothing.
 use Prim.Native.Nat.{_≤_, _-_}
 use Rattle.filter.proofs.Emptied.{FullBelow, full-none, full-more, full-done}
-use borrow.Author.Needs.{needs}
 use native.Mathlib.Omega.{arith}
 use Rattle.filter.proofs.empty_cases.Statement.{statement}
 use Rattle.filter.proofs.empty_cases.Tie as tie
-use Rattle.filter.proofs.empty_cases.Reads as reads
-use Rattle.filter.proofs.empty_cases.Lts as lts
-use Rattle.filter.proofs.summary.marked_cases.Reads as marked-cases-reads
 
 abbrev Inv-loop : tie.InvT-loop
 Inv-loop marks fields full₀ f₀ full f = (f ≤ fields) × FullBelow marks f full
@@ -15,27 +11,21 @@ Inv-loop marks fields full₀ f₀ full f = (f ≤ fields) × FullBelow marks f 
 abbrev μ-loop : tie.MeasureT-loop
 μ-loop marks fields full₀ f₀ full f = fields - f
 
--- src/lib.rt:89:5
 loop-holds : tie.Need-loop-holds Inv-loop μ-loop
 loop-holds c = (omega arith, full-none (c .args .marks .now))
 
--- src/lib.rt:90:23
 marked-cases-requires : tie.Need-marked-cases-requires Inv-loop μ-loop
 marked-cases-requires c κs = omega (arith, (c .before .before .pre))
 
--- src/lib.rt:89:9
 add-f : tie.Need-add-f Inv-loop μ-loop
 add-f c = omega (arith, (c .before .before .before .pre))
 
--- src/lib.rt:89:5
 loop-less : tie.Need-loop-less Inv-loop μ-loop
 loop-less c = omega arith
 
--- src/lib.rt:89:5
 loop-again : tie.Need-loop-again Inv-loop μ-loop
 loop-again c = (omega arith, full-more (c .before .before .before .args .marks .now) _ (c .before .before .loop .f) _ (c .before .before .loop .inv .1) (c .marked-cases .ensures))
 
--- src/lib.rt:84:1
 returns : tie.Need-returns Inv-loop μ-loop
 returns c = full-done (c .before .before .args .marks .now) (c .before .loop .full) (c .before .loop .f) (c .before .before .args .fields) (c .before .loop .inv .1) (omega arith)
 

@@ -1,12 +1,9 @@
 -- `summary::marked_cases` meets its contract. The invariant: the or of the words of the codes below c. Assumes nothing.
 use Prim.Native.Nat.{_≤_, _-_}
 use Rattle.filter.proofs.Emptied.{MarkedBelow, marked-none, marked-more, marked-all}
-use borrow.Author.Needs.{needs}
 use native.Mathlib.Omega.{arith}
 use Rattle.filter.proofs.summary.marked_cases.Statement.{statement}
 use Rattle.filter.proofs.summary.marked_cases.Tie as tie
-use Rattle.filter.proofs.summary.marked_cases.Reads as reads
-use Rattle.filter.proofs.summary.marked_cases.Lts as lts
 
 abbrev Inv-loop : tie.InvT-loop
 Inv-loop marks f cases₀ c₀ cases c = (c ≤ 32) × MarkedBelow marks f c cases
@@ -14,39 +11,30 @@ Inv-loop marks f cases₀ c₀ cases c = (c ≤ 32) × MarkedBelow marks f c cas
 abbrev μ-loop : tie.MeasureT-loop
 μ-loop marks f cases₀ c₀ cases c = 32 - c
 
--- src/summary.rt:14:5
 loop-holds : tie.Need-loop-holds Inv-loop μ-loop
 loop-holds c = (omega arith, marked-none (c .args .marks .now) (c .args .f))
 
--- src/summary.rt:15:31
 mul-cases : tie.Need-mul-cases Inv-loop μ-loop
 mul-cases c = omega (arith, (c .before .before .pre))
 
--- src/summary.rt:15:31
 add-cases : tie.Need-add-cases Inv-loop μ-loop
 add-cases c = omega (arith, (c .before .before .pre))
 
--- src/summary.rt:15:25
 mul-cases-2 : tie.Need-mul-cases-2 Inv-loop μ-loop
 mul-cases-2 c = omega (arith, (c .before .before .pre))
 
--- src/summary.rt:15:25
 element-copy-out-cases : tie.Need-element-copy-out-cases Inv-loop μ-loop
 element-copy-out-cases c = omega (arith, (c .before .before .pre))
 
--- src/summary.rt:14:9
 add-c : tie.Need-add-c Inv-loop μ-loop
 add-c c = omega arith
 
--- src/summary.rt:14:5
 loop-less : tie.Need-loop-less Inv-loop μ-loop
 loop-less c = omega arith
 
--- src/summary.rt:14:5
 loop-again : tie.Need-loop-again Inv-loop μ-loop
 loop-again c = (omega arith, marked-more (c .before .before .before .args .marks .now) (c .before .before .before .args .f) _ _ (c .before .loop-test .taken) (c .before .before .loop .inv .1))
 
--- src/summary.rt:9:1
 returns : tie.Need-returns Inv-loop μ-loop
 returns c = marked-all (c .before .before .args .marks .now) (c .before .before .args .f) _ (c .before .loop .c) (c .before .loop .inv .1) (omega arith)
 

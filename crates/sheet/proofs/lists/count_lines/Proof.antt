@@ -14,10 +14,6 @@ use borrow.Author.Needs.{needs}
 use native.Mathlib.Omega.{arith}
 use Rattle.sheet.proofs.lists.count_lines.Statement.{statement}
 use Rattle.sheet.proofs.lists.count_lines.Tie as tie
-use Rattle.sheet.proofs.lists.count_lines.Reads as reads
-use Rattle.sheet.proofs.lists.count_lines.Lts as lts
-use Rattle.sheet.proofs.lists.count_codes.Reads as count-codes-reads
-use Rattle.sheet.proofs.lists.wide.Reads as wide-reads
 
 abbrev Inv-loop : tie.InvT-loop
 Inv-loop book marks empty list fields answers sum₀ k₀ f₀ sum k f = (f ≤ fields) × (k ≡ ownCase answers f) × (sum ≡ totalBelow (bookOf book) answers f)
@@ -25,23 +21,18 @@ Inv-loop book marks empty list fields answers sum₀ k₀ f₀ sum k f = (f ≤ 
 abbrev μ-loop : tie.MeasureT-loop
 μ-loop book marks empty list fields answers sum₀ k₀ f₀ sum k f = fields - f
 
--- src/lists.rt:70:5
 loop-holds : tie.Need-loop-holds Inv-loop μ-loop
 loop-holds c = (omega arith, refl, refl)
 
--- src/lists.rt:71:12
 array-read-if1 : tie.Need-array-read-if1 Inv-loop μ-loop
 array-read-if1 c = omega (arith, fields-few _ _ _ (c .before .before .before .pre .at))
 
--- src/lists.rt:72:13
 add-f : tie.Need-add-f Inv-loop μ-loop
 add-f c = search needs
 
--- src/lists.rt:70:5
 loop-less : tie.Need-loop-less Inv-loop μ-loop
 loop-less c = search needs
 
--- src/lists.rt:70:5
 loop-again : tie.Need-loop-again Inv-loop μ-loop
 loop-again c =
     let x = (c .before .before .before .before .pre) in
@@ -50,23 +41,18 @@ loop-again c =
     let e = open-here x l long (c .if1 .taken) in
     (omega arith, same-case x l e (c .before .before .loop .inv .1), total-without x l (open-lineless x l e) (c .before .before .loop .inv .2))
 
--- src/lists.rt:73:20
 shr-if2 : tie.Need-shr-if2 Inv-loop μ-loop
 shr-if2 c = case-few (c .before .before .before .before .pre) (c .before .loop-test .taken) (c .before .before .loop .inv .1)
 
--- src/lists.rt:74:13
 add-k : tie.Need-add-k Inv-loop μ-loop
 add-k c = omega (arith, case-few (c .before .before .before .before .before .pre) (c .before .before .loop-test .taken) (c .before .before .before .loop .inv .1))
 
--- src/lists.rt:75:13
 add-f-2 : tie.Need-add-f-2 Inv-loop μ-loop
 add-f-2 c = search needs
 
--- src/lists.rt:70:5
 loop-less-2 : tie.Need-loop-less-2 Inv-loop μ-loop
 loop-less-2 c = search needs
 
--- src/lists.rt:70:5
 loop-again-2 : tie.Need-loop-again-2 Inv-loop μ-loop
 loop-again-2 c =
     let x = (c .before .before .before .before .before .pre) in
@@ -78,39 +64,30 @@ loop-again-2 c =
       total-without x l (unmended-lineless x l (c .before .before .before .loop .inv .1) e (eq-eqb _ _ (c .if2 .taken))) (c .before .before .before .loop .inv .2),
     )
 
--- src/lists.rt:77:31
 add-wide : tie.Need-add-wide Inv-loop μ-loop
 add-wide c = omega (arith, field-byte (c .before .before .before .before .before .pre) (c .before .before .loop-test .taken), verdict-promise _ (c .before .before .before .before .before .pre .at .passes) .short)
 
--- src/lists.rt:77:26
 shared-slice-read-wide : tie.Need-shared-slice-read-wide Inv-loop μ-loop
 shared-slice-read-wide c = field-byte (c .before .before .before .before .before .before .pre) (c .before .before .before .loop-test .taken)
 
--- src/lists.rt:77:17
 wide-requires : tie.Need-wide-requires Inv-loop μ-loop
 wide-requires c κs = search needs
 
--- src/lists.rt:78:20
 count-codes-requires : tie.Need-count-codes-requires Inv-loop μ-loop
 count-codes-requires c κs = in-marks (c .before .before .before .before .before .before .before .pre) (c .before .before .before .before .loop-test .taken) (c .before .before .before .before .before .loop .inv .1) (c .wide .ensures)
 
--- src/lists.rt:78:13
 add-sum : tie.Need-add-sum Inv-loop μ-loop
 add-sum c = omega (arith, few-below (c .before .before .before .before .before .before .before .before .pre) (c .before .before .before .before .before .before .loop .f), c .before .before .before .before .before .before .loop .inv .2, fields-few _ _ _ (c .before .before .before .before .before .before .before .before .pre .at), in-marks (c .before .before .before .before .before .before .before .before .pre) (c .before .before .before .before .before .loop-test .taken) (c .before .before .before .before .before .before .loop .inv .1) (c .before .wide .ensures) .codes-in, c .count-codes .ensures .1)
 
--- src/lists.rt:79:13
 add-k-2 : tie.Need-add-k-2 Inv-loop μ-loop
 add-k-2 c = omega (arith, case-few (c .before .before .before .before .before .before .before .before .pre) (c .before .before .before .before .before .loop-test .taken) (c .before .before .before .before .before .before .loop .inv .1))
 
--- src/lists.rt:80:13
 add-f-3 : tie.Need-add-f-3 Inv-loop μ-loop
 add-f-3 c = search needs
 
--- src/lists.rt:70:5
 loop-less-3 : tie.Need-loop-less-3 Inv-loop μ-loop
 loop-less-3 c = search needs
 
--- src/lists.rt:70:5
 loop-again-3 : tie.Need-loop-again-3 Inv-loop μ-loop
 loop-again-3 c =
     let x = (c .before .before .before .before .before .before .before .before .pre) in
@@ -122,7 +99,6 @@ loop-again-3 c =
       total-with x l (c .before .before .before .before .before .before .loop .inv .1) (c .before .wide .ensures) e (ne-eqb _ _ (c .before .before .before .if2 .left)) (c .before .before .before .before .before .before .loop .inv .2) (c .count-codes .ensures .0),
     )
 
--- src/lists.rt:56:1
 returns : tie.Need-returns Inv-loop μ-loop
 returns c = (
   counted-all (c .before .before .before .pre) (c .loop-test .left) (c .before .loop .inv .0) (c .before .loop .inv .2),
