@@ -1,5 +1,5 @@
 -- What computed tests say: `&&`, `||`, `not`, equality of numbers, and a test at each number below n, or at some. Assumes nothing.
-use mathlib.Core.Path.{_≡_, refl, sym, subst}
+use mathlib.Core.Path.{_≡_, refl, sym, ap, subst}
 use mathlib.Core.Logic.{_⊎_, inl, inr, ⊎-elim}
 use mathlib.Core.Bool.{Bool, true, false, not, _&&_, _||_}
 use Prim.Native.Nat.{ℕ, zero, suc, _+_, _<_}
@@ -101,6 +101,15 @@ any-out (suc n) p t =
     ⊎-elim {C = (k : ℕ) × (k < suc n) × T (p k)}
     (λ (u : T (anyBelow n p)). let r = any-out n p u in (r .0, le-trans (r .1) (le-suc n), r .2))
     (λ (u : T (p n)). (n, lt-suc-self n, u)) (or-out (anyBelow n p) (p n) t)
+
+-- a test fails somewhere below n exactly when it does not hold at each number
+not-all : (x y z : Bool) → x ≡ not y → (x || not z) ≡ not (y && z)
+not-all x true z e = ap (_|| not z) e
+not-all x false z e = ap (_|| not z) e
+
+pub any-not : (n : ℕ) (p : ℕ → Bool) → anyBelow n (λ k. not (p k)) ≡ not (allBelow n p)
+any-not zero p = refl
+any-not (suc n) p = not-all (anyBelow n (λ k. not (p k))) (allBelow n p) (p n) (any-not n p)
 
 -- tests that are equal at each number below n
 pub all-ext : (n : ℕ) (p q : ℕ → Bool) → ((k : ℕ) → k < n → p k ≡ q k) → allBelow n p ≡ allBelow n q

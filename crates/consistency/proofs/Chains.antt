@@ -3,12 +3,13 @@ use Prim.Native.Nat.{ℕ, zero, suc, _+_, _<_}
 use mathlib.Core.Path.{_≡_, refl, sym, ap, ap₂, _∙_, subst}
 use mathlib.Core.Bool.{_&&_, _||_}
 use mathlib.Core.List.{List, _∷_}
+use native.Mathlib.Decide.{ℕ-discrete}
 use native.Mathlib.Omega.{arith}
 use lib.ListN.{length, set}
 use lib.Seq.{getD-set-other}
 use lib.Dec.{T, eqb, ltb}
 use Rattle.format.specs.Format.{Table, Book}
-use Rattle.consistency.specs.Consistency.{nth, fieldOf}
+use Rattle.consistency.specs.Consistency.{Subdomain, Support, ArcConsistent, nth, fieldOf, codeOf}
 use Rattle.consistency.specs.Largest.{Domains, has, remove, count, bookSupports, start, rounds, largest}
 use Rattle.consistency.specs.Ties.{FieldIn, Tied, TablesAround, SameAround}
 use Rattle.consistency.proofs.Booleans.{T-ext}
@@ -35,6 +36,24 @@ tied-trans t (Tied.step u i l w h v) = Tied.step (tied-trans t u) i l w h v
 pub tied-sym : {b : Book} {f g : ℕ} → Tied b f g → Tied b g f
 tied-sym Tied.here = Tied.here
 tied-sym (Tied.step {g = g} t i l w h v) = tied-trans (Tied.step Tied.here i l v g w) (tied-sym t)
+
+-- ---- what a chain ties together
+
+-- Fields that a chain ties together are empty together: so a field that has codes with its answer lifted, and "another field still empty"
+-- (document 02, M-101), are tied by no chain
+pub tied-some : (b : Book) (S : Subdomain) → ArcConsistent b S → {f g : ℕ} → Tied b f g → (c : ℕ) × T (S f c) → (c : ℕ) × T (S g c)
+tied-some b S consistent Tied.here x = x
+tied-some b S consistent (Tied.step {g = g} t i l w h v) x = along (tied-some b S consistent t x)
+  where
+    along : (c : ℕ) × T (S g c) → (c : ℕ) × T (S h c)
+    along y = at (ℕ-discrete (v .0) (w .0))
+      where
+        row : Support S (nth b i) (w .0) (y .0)
+        row = consistent g (y .0) (y .1) i l (w .0) (w .1) (w .2)
+
+        at : Dec (v .0 ≡ w .0) → (c : ℕ) × T (S h c)
+        at (yes e) = (y .0, subst (λ (f : ℕ). T (S f (y .0))) (sym (w .2) ∙ ap (fieldOf (nth b i)) (sym e) ∙ v .2) (y .1))
+        at (no n) = let c : ℕ = codeOf (nth b i) (row .row) (v .0) in (c, subst (λ (f : ℕ). T (S f c)) (v .2) (row .others (v .0) (v .1) n))
 
 -- ---- what is the same around f
 

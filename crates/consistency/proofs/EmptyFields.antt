@@ -1,33 +1,23 @@
 -- Fields that are left empty: what the tests say, how many codes are listed, and that it turns on the book's codes alone. Assumes nothing.
-use mathlib.Core.Path.{_≡_, refl, ap}
-use mathlib.Core.Bool.{Bool, true, false, not, _&&_, _||_}
-use Prim.Native.Nat.{ℕ, zero, suc, _<_}
+use mathlib.Core.Path.{_≡_}
+use mathlib.Core.Bool.{not}
+use Prim.Native.Nat.{ℕ, _<_}
 use lib.ListN.{length}
 use lib.Dec.{T}
 use Rattle.format.specs.Basics.{pick}
 use Rattle.format.specs.Format.{Book}
-use Rattle.consistency.specs.Counting.{allBelow, anyBelow, howMany}
+use Rattle.consistency.specs.Counting.{anyBelow, howMany}
 use Rattle.consistency.specs.Consistency.{Subdomain, OfBook, codes}
 use Rattle.consistency.specs.Emptiness.{NoneEmpty, noneEmpty, someEmpty}
 use Rattle.consistency.specs.Counts.{codesIn, listedIn}
-use Rattle.consistency.proofs.Booleans.{all-in, all-out, any-in, any-out, all-ext, any-ext}
+use Rattle.consistency.proofs.Booleans.{all-in, all-out, any-in, any-out, any-not, all-ext, any-ext}
 use Rattle.consistency.proofs.Sums.{many-and}
-
--- ---- a test fails everywhere below n, or holds somewhere
-
-not-or : (x y z : Bool) → x ≡ not y → (x || not z) ≡ not (y && z)
-not-or x true z e = ap (_|| not z) e
-not-or x false z e = ap (_|| not z) e
-
-pub any-all : (n : ℕ) (p : ℕ → Bool) → anyBelow n (λ k. not (p k)) ≡ not (allBelow n p)
-any-all zero p = refl
-any-all (suc n) p = not-or (anyBelow n (λ k. not (p k))) (allBelow n p) (p n) (any-all n p)
 
 module _ (b : Book) (S : Subdomain) where
   -- some field is empty exactly when it is not so that none is
   pub some-or-none : someEmpty b S ≡ not (noneEmpty b S)
   unfolding someEmpty noneEmpty
-  some-or-none = any-all (length (b .counts)) (λ f. anyBelow (codes b f) (S f))
+  some-or-none = any-not (length (b .counts)) (λ f. anyBelow (codes b f) (S f))
 
   -- what the test says
   pub none-out : T (noneEmpty b S) → NoneEmpty b S

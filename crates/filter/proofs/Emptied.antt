@@ -18,8 +18,7 @@ use Rattle.consistency.specs.Consistency.{Subdomain, codes, relax}
 use Rattle.consistency.specs.Largest.{largest}
 use Rattle.consistency.specs.Emptiness.{someEmpty}
 use Rattle.consistency.specs.Counts.{bit, answered, mask}
-use Rattle.consistency.proofs.Booleans.{T-ext, and-left, any-in, any-out, any-ext}
-use Rattle.consistency.proofs.EmptyFields.{any-all}
+use Rattle.consistency.proofs.Booleans.{T-ext, and-left, any-in, any-out, any-not, any-ext}
 use Rattle.consistency.proofs.Masks.{mask-bit, zero-bit}
 use Rattle.consistency.proofs.Limits.{many-few}
 use Rattle.consistency.proofs.Largest.{largest-is}
@@ -83,7 +82,7 @@ module _ (M : List ℕ) where
       at k =
           bit-without 18446744073709551615 w k inside ∙ ap₂ (λ (x y : Bool). x && not y) (low-bits 64 k) (h k) ∙ without (ltb k 64) (full k)
           ∙ ap (λ (n : ℕ). ltb k 64 && not (allBelow n (λ i. marked M i k))) e
-          ∙ ap (ltb k 64 &&_) (sym (any-all fields (λ i. marked M i k))) ∙ sym (mask-bit 64 (emptied M fields) k)
+          ∙ ap (ltb k 64 &&_) (sym (any-not fields (λ i. marked M i k))) ∙ sym (mask-bit 64 (emptied M fields) k)
 
 -- bit k of the word
 empty-bit : (M : List ℕ) (n k : ℕ) → k < 64 → bit (emptyCases M n) k ≡ emptied M n k

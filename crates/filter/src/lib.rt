@@ -17,6 +17,9 @@ mod start;
 mod summary;
 mod support;
 
+// Every bit of a word of cases.
+const EVERY_CASE: u64 = 18446744073709551615;
+
 // The one pass over a view of an accepted book: the marks of all cases, and the number struck.
 fn one_pass_over<'a>(book: Book<'a>, answers: &[u8; 32], marks: &mut [u64; 1024]) -> u32
     requires { ⌜ Viewed (now (book .bytes)) (book .list) (book .fields) (book .tables) (book .rows) ⌝ }
@@ -76,9 +79,6 @@ pub fn plain(
 {
     plain_over(book::view(bytes, list, fields, tables, rows), answers)
 }
-
-// Every bit of a word of cases.
-const EVERY_CASE: u64 = 18446744073709551615;
 
 // The cases in which some field of the book is empty, as a word: bit k for case k.
 pub fn empty_cases(marks: &[u64; 1024], fields: usize) -> u64
