@@ -16,6 +16,7 @@ pub mod library;
 pub mod listing;
 pub mod listings;
 pub mod memory;
+pub mod parts;
 pub mod random;
 pub mod reader;
 pub mod slips;

@@ -3,6 +3,7 @@
 
 mod calling;
 mod filtering;
+mod lifting;
 mod listing;
 mod reading;
 mod straying;
@@ -10,6 +11,7 @@ mod straying;
 use crate::calls::{Answer, Buffers, Call, Left, Sheet};
 use crate::desk::{Desk, Reading};
 use crate::library::{Lent, Library};
+pub use lifting::listed_although_empty;
 pub use straying::Stray;
 
 /// A slip in one call: in no other is it looked for.
@@ -51,7 +53,7 @@ impl Slip {
 
 /// All slips, each in each of its calls.
 pub fn all() -> Vec<Slip> {
-    let listed = [reading::SLIPS, filtering::SLIPS, calling::SLIPS, listing::SLIPS].concat();
+    let listed = [reading::SLIPS, filtering::SLIPS, lifting::SLIPS, calling::SLIPS, listing::SLIPS].concat();
     let in_each = |(what, calls, wrong): Listed| calls.iter().map(move |call| Slip::new(call, what, wrong));
     listed.into_iter().flat_map(in_each).chain(straying::slips()).collect()
 }
