@@ -19,5 +19,6 @@ pub mod memory;
 pub mod parts;
 pub mod random;
 pub mod reader;
+pub mod shapes;
 pub mod slips;
 pub mod text;

@@ -122,6 +122,25 @@ mod tests {
         }
     }
 
+    /// Whether alternatives and plain filtering do not agree in one of the first cases.
+    fn disagrees(library: &SlowLibrary) -> bool {
+        let (desk, rooms) = (Desk::default(), Rooms::default());
+        (0..200).map(|index| case(1, index)).any(|case| {
+            let reading = desk.reader.read(&case.book);
+            rooms.disagreement(library, &case, &reading).is_some()
+        })
+    }
+
+    #[test]
+    fn a_list_that_plain_filtering_does_not_give_is_seen() {
+        assert!(!disagrees(&SlowLibrary::default()));
+        let slips = all();
+        for name in ["a field listed although another is empty", "empty fields looked for with nothing lifted"] {
+            let slip = slips.iter().find(|slip| slip.name == format!("alternatives: {name}")).expect("it is listed");
+            assert!(disagrees(&SlowLibrary::with(slip)), "{name}");
+        }
+    }
+
     #[test]
     fn names_are_different() {
         let mut names: Vec<String> = all().into_iter().map(|slip| slip.name).collect();
