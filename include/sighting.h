@@ -122,9 +122,10 @@ uint64_t sighting_filtered(const uint8_t *sheet, const uint8_t *book, size_t boo
                            uint64_t *outcome);
 
 /*
- * The alternatives of every answered field: its codes that stand with its own answer left out. Each is written as two bytes, field
- * then code, by rising field and then rising code.
- *   outcome[3]  place, total (the number of alternatives), struck (the marks removed in all cases together)
+ * The alternatives of every answered field: its codes that stand with its own answer left out. A field has lines only where no field of
+ * the book is then empty; where one is, the field has none. Each line is two bytes, field then code, by rising field and then rising
+ * code.
+ *   outcome[3]  place, total (the number of lines), struck (the marks removed in all cases together, with or without lines)
  * Refusals: 1 to 13, 14, 18 where out_len is below 2 * total.
  */
 uint64_t sighting_alternatives(const uint8_t *sheet, const uint8_t *book, size_t book_len, uint8_t *out, size_t out_len,
@@ -151,7 +152,8 @@ uint64_t sighting_store(const uint8_t *sheet, const uint8_t *book, size_t book_l
  * an incomplete last one; withdraw reads no code, and clear neither field nor code. A call that is refused changes nothing and the
  * list goes on. What the sheet held before plays no part; it ends as the one that the list reached, also where the replay is refused.
  * By a refused book every enter and withdraw is refused, so the list then reaches a fresh sheet.
- *   outcome[3]  place, total, struck, as sighting_alternatives
+ * A field has lines only where, with its answer left out, no field of the book is empty.
+ *   outcome[3]  place, total (the number of lines), struck, as sighting_alternatives
  * Refusals: 1 to 13, 18 where out_len is below 2 * total.
  */
 uint64_t sighting_replay(uint8_t *sheet, const uint8_t *book, size_t book_len, const uint8_t *calls, size_t calls_len, uint8_t *out,
@@ -159,7 +161,8 @@ uint64_t sighting_replay(uint8_t *sheet, const uint8_t *book, size_t book_len, c
 
 /*
  * Writes the whole text that the program `desk` prints for this book and this stored sheet. A book or a stored sheet that is turned
- * down is no refusal here: the text says it.
+ * down is no refusal here: the text says it. A field has `alt` lines only where, with its answer left out, no field of the book is
+ * empty; the total in the line `sheet` is the number of `alt` lines.
  *   outcome[2]  place, the length of the text in bytes
  * Refusals: 18 where out_len is below that length.
  */

@@ -1,7 +1,7 @@
 // The alternatives by Gecode: one space for the book, propagated once; then for each case a clone with that case's answers.
 //
 // A space whose propagation fails has no domains to read: where the desk leaves what no chain of tables ties to the empty field, such
-// a case ends early here and counts no code.
+// a case ends early here. It counts no code, as in the desk.
 #include <gecode/int.hh>
 
 #include <cstddef>
@@ -55,7 +55,8 @@ class BookSpace : public Space {
     }
 };
 
-// How many codes field `relaxed` has with its own answer left out; for -1 all answers are held and nothing is counted.
+// How many codes field `relaxed` has with its own answer left out, or 0 where some field is empty then; for -1 all answers are held and
+// nothing is counted.
 uint64_t one_case(BookSpace *root, const uint8_t *sheet, int relaxed) {
     BookSpace *space = static_cast<BookSpace *>(root->clone());
     uint64_t codes = 0;

@@ -26,12 +26,15 @@ fn one_pass(book: &[u8], sheet: &Sheet) -> u64 {
 
 /// The library's total, by n + 1 separate filterings: nothing relaxed, then each answered field.
 fn separate(book: &[u8], sheet: &Sheet) -> u64 {
-    let mut numbers = [0; NUMBERS];
+    // those behind the fields stay, and are no empty field's
+    let mut numbers = [1; NUMBERS];
     sheet.filtered(book, None, &mut numbers).expect("accepted");
     let mut total = 0;
     for f in (0..sighting::SHEET_BYTES).filter(|&f| sheet.bytes()[f] != sighting::NO_ANSWER) {
         sheet.filtered(book, Some(f), &mut numbers).expect("accepted");
-        total += numbers[f].count_ones() as u64;
+        if !numbers.contains(&0) {
+            total += numbers[f].count_ones() as u64;
+        }
     }
     total
 }

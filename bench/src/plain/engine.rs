@@ -115,6 +115,16 @@ impl<'a> Engine<'a> {
             from = (i + 1) % 64;
         }
     }
+
+    /// The cases in which some field is empty: all but those in which every field has a code that stands.
+    fn empty_cases(&self) -> u64 {
+        let mut full = u64::MAX;
+        for f in 0..self.book.view.fields {
+            let codes = &self.marks[f * 32..f * 32 + self.book.view.codes(f)];
+            full &= codes.iter().fold(0, |any, word| any | word);
+        }
+        !full
+    }
 }
 
 /// The lowest place of the sheet at fault: refusal 14.
@@ -127,7 +137,7 @@ fn check_sheet(book: &Checked, sheet: &[u8; 32]) -> Result<(), Refused> {
     Ok(())
 }
 
-/// Total and struck; the pairs go to `out`.
+/// Total and struck; the pairs go to `out`. A field with whose answer left out some field is empty has none.
 pub fn alternatives(sheet: &[u8; 32], bytes: &[u8], out: &mut [u8]) -> Result<(u64, u64), Refused> {
     let book = check(bytes)?;
     check_sheet(&book, sheet)?;
@@ -139,7 +149,8 @@ pub fn alternatives(sheet: &[u8; 32], bytes: &[u8], out: &mut [u8]) -> Result<(u
     }
     let mut engine = Engine::start(&book, sheet, cases, &relaxing);
     engine.propagate();
-    let listed = |f: usize, c: usize| engine.marks[f * 32 + c] & relaxing[f] != 0;
+    let empty = engine.empty_cases();
+    let listed = |f: usize, c: usize| engine.marks[f * 32 + c] & relaxing[f] & !empty != 0;
     let places = || (0..book.view.fields).flat_map(|f| (0..book.view.codes(f)).map(move |c| (f, c)));
     let total = places().filter(|&(f, c)| listed(f, c)).count();
     if out.len() < 2 * total {

@@ -101,7 +101,7 @@ pub struct Counts {
     pub different_rows: u64,
 }
 
-/// What the one pass counts: the alternatives of all answered fields, and the marks struck in all cases.
+/// What the one pass counts: the alternatives that are listed, and the marks struck in all cases, listed or not.
 #[derive(Clone, Copy, Debug, PartialEq, Eq)]
 pub struct Alternatives {
     pub total: u64,
@@ -143,8 +143,9 @@ pub fn read(book: &[u8]) -> Result<Counts, Refusal> {
     answer(number, place, Counts { fields, tables, rows, different_rows })
 }
 
-/// Writes the text that the program `desk` prints for this book and this stored sheet, and answers its length. What the text says
-/// of a book or a sheet that is turned down is no refusal of this call. Refusals: 18.
+/// Writes the text that the program `desk` prints for this book and this stored sheet, and answers its length. A field has `alt` lines
+/// only where, with its answer left out, no field of the book is empty, and the total counts these lines. What the text says of a book
+/// or a sheet that is turned down is no refusal of this call. Refusals: 18.
 pub fn report(book: &[u8], form: &[u8], out: &mut [u8]) -> Result<u64, Refusal> {
     let mut cells = [0; 2];
     // SAFETY: each pointer has its slice's length beside it; two cells are lent.
@@ -263,7 +264,9 @@ impl Sheet {
         answer(number, cells[0], ())
     }
 
-    /// The alternatives of every answered field, written as pairs of bytes, field then code. Refusals: 1 to 13, 14, 18.
+    /// The alternatives of every answered field: its codes that stand with its own answer left out, written as pairs of bytes, field
+    /// then code. A field has some only where no field of the book is then empty, and the total counts these pairs. Refusals: 1 to 13,
+    /// 14, 18.
     pub fn alternatives(&self, book: &[u8], out: &mut [u8]) -> Result<Alternatives, Refusal> {
         let mut cells = [0; 3];
         let number = unsafe {
@@ -298,7 +301,8 @@ impl Sheet {
     }
 
     /// Runs a list of calls, three bytes each as [`Call::bytes`] gives them, from a fresh sheet, and then the alternatives of the
-    /// sheet reached. A call of the list that is refused changes nothing, and the list goes on. Refusals: 1 to 13, 18.
+    /// sheet reached, as [`Sheet::alternatives`] lists and counts them: of a field only where, with its answer left out, no field of
+    /// the book is empty. A call of the list that is refused changes nothing, and the list goes on. Refusals: 1 to 13, 18.
     ///
     /// The sheet that the list reached comes back beside the answer, also where that is a refusal: after an 18 it holds the answers
     /// after the list. By a refused book, 1 to 13, every enter and withdraw is refused too, so a fresh sheet comes back.

@@ -55,6 +55,20 @@ fn several_readers_share_a_sheet() {
     assert_eq!(sheet, answered());
 }
 
+/// Two pairs of fields of two codes, each pair equal. Fields 0 and 1 contradict each other: lifting one of them mends that, lifting
+/// field 2 does not, though both of its codes stand then.
+#[test]
+fn a_lifted_answer_that_mends_nothing_has_no_lines() {
+    let book = [&[2, 0, 1, 2, 0, 0, 0, 1, 1, 2, 2, 3, 2, 0, 0, 0, 1, 1][..], &[2; 4], &[18, 0, 4, 2, 1, 0xE5]].concat();
+    let sheet = Sheet::load(&book, &[0, 1, 0, NO_ANSWER]).expect("accepted");
+    let (mut pairs, mut numbers) = ([7; 5], [7; NUMBERS]);
+    assert_eq!(sheet.alternatives(&book, &mut pairs[..3]), Err(TOO_FEW));
+    assert_eq!(sheet.alternatives(&book, &mut pairs[..4]), Ok(Alternatives { total: 2, struck: 18 }));
+    assert_eq!(pairs, [0, 1, 1, 0, 7]);
+    assert_eq!(sheet.filtered(&book, Some(2), &mut numbers), Ok(()));
+    assert_eq!(numbers[..5], [0, 0, 0b11, 0b11, 7]);
+}
+
 #[test]
 fn relaxing_255_is_not_relaxing_none() {
     let (sheet, mut numbers) = (answered(), [7; NUMBERS]);

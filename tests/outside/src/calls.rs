@@ -77,6 +77,11 @@ impl Call {
         matches!(self, Call::Filtered { .. } | Call::Alternatives | Call::Store)
     }
 
+    /// Whether the call lists alternatives.
+    pub fn lists(&self) -> bool {
+        matches!(self, Call::Alternatives | Call::Replay { .. } | Call::Report { .. })
+    }
+
     /// How many elements of a lent buffer suffice by the header; none where the call writes no buffer.
     pub fn sufficient(&self) -> Option<usize> {
         match self {

@@ -195,10 +195,11 @@ fn answered(r: &mut Random, book: &Book, sheet: &Sheet) -> u8 {
     }
 }
 
-/// Calls of three bytes, mostly few, some of no kind, and in some cases an incomplete one behind them.
+/// Calls of three bytes, mostly few, some of no kind, and in some cases an incomplete one behind them. Some lists begin with the
+/// answers of a stored sheet, so that they reach one as a call on a sheet is given.
 fn list(r: &mut Random, book: &Book) -> Vec<u8> {
-    let mut bytes = Vec::new();
-    let most = [10, 10, 30, 100][r.from(0, 3)];
+    let mut bytes = if r.one_in(2) { entered(r, book) } else { Vec::new() };
+    let most = [0, 2, 10, 10, 30, 100][r.from(0, 5)];
     for _ in 0..r.from(0, most) {
         let field = field(r, book);
         let code = code(r, book, field);
@@ -209,6 +210,15 @@ fn list(r: &mut Random, book: &Book) -> Vec<u8> {
         bytes.extend([0, 0].iter().take(r.from(1, 2)));
     }
     bytes
+}
+
+/// The calls that enter the answers of a stored sheet, in any order.
+fn entered(r: &mut Random, book: &Book) -> Vec<u8> {
+    let form = random::form(r, book);
+    let answers = form.iter().enumerate().filter(|(_, &code)| code != NO_ANSWER);
+    let mut calls: Vec<[u8; 3]> = answers.map(|(f, &code)| [0, f as u8, code]).collect();
+    r.shuffle(&mut calls);
+    calls.concat()
 }
 
 fn calls(r: &mut Random, book: &Book, sheet: &Sheet) -> Vec<Call> {

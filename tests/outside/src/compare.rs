@@ -1,11 +1,14 @@
 //! Comparing a library with the slow desk: the calls of a case, each with several lengths lent, and what each has to leave.
 
+use crate::book::Book;
 use crate::calls::{Buffers, Call, Left};
 use crate::cases::{random, Case};
 use crate::desk::{Desk, Reading};
+use crate::filter::NO_ANSWER;
 use crate::library::{Lent, Library};
 use crate::memory::{End, Room};
 use crate::random::Random;
+use crate::slips::listed_although_empty;
 
 /// What an outcome's cells hold before a call, to see that each is written.
 pub const UNWRITTEN: u64 = 0xDEAD_BEEF_DEAD_BEEF;
@@ -13,13 +16,29 @@ pub const UNWRITTEN: u64 = 0xDEAD_BEEF_DEAD_BEEF;
 /// A call with the contents of the buffers lent to it, and what it has to leave.
 pub struct Trial<'a> {
     pub call: &'a Call,
+    pub asked: Asked,
     pub lent: Buffers,
     pub left: Left,
 }
 
-/// The lengths to lend where the call writes so many elements: exactly that many, more, what the header says suffices, one less, and
-/// fewer.
-fn lengths(r: &mut Random, call: &Call, written: usize) -> Vec<usize> {
+/// How many elements a call writes, and how many it would write if it listed a field although another is empty.
+#[derive(Clone, Copy)]
+pub struct Asked {
+    pub written: usize,
+    pub wider: usize,
+}
+
+impl Asked {
+    fn by(call: &Call, reading: &Reading, case: &Case, written: usize) -> Asked {
+        let desk = Desk { alternatives: listed_although_empty, ..Desk::default() };
+        let wider = if call.lists() { desk.answer(call, reading, &case.sheet).written.elements() } else { written };
+        Asked { written, wider }
+    }
+}
+
+/// The lengths to lend: exactly what the call writes, more, what the header says suffices, one less, and fewer; where the wider list
+/// asks for more, also what that one asks for, and one less.
+fn lengths(r: &mut Random, call: &Call, Asked { written, wider }: Asked) -> Vec<usize> {
     let Some(sufficient) = call.sufficient() else {
         return vec![0];
     };
@@ -30,6 +49,9 @@ fn lengths(r: &mut Random, call: &Call, written: usize) -> Vec<usize> {
     }
     if written > 0 {
         lengths.extend([written - 1, r.from(0, written - 1)]);
+    }
+    if wider > written {
+        lengths.extend([wider, wider - 1]);
     }
     lengths
 }
@@ -49,10 +71,11 @@ pub fn trials<'a>(case: &'a Case, reading: &Reading, seed: u64, index: u64) -> V
     let mut trials = Vec::new();
     for call in &case.calls {
         let answer = desk.answer(call, reading, &case.sheet);
-        for length in lengths(&mut r, call, answer.written.elements()) {
+        let asked = Asked::by(call, reading, case, answer.written.elements());
+        for length in lengths(&mut r, call, asked) {
             let lent = lent(&mut r, call, length);
             let left = answer.left(call, &lent);
-            trials.push(Trial { call, lent, left });
+            trials.push(Trial { call, asked, lent, left });
         }
     }
     trials
@@ -77,13 +100,12 @@ pub struct Rooms {
 
 impl Rooms {
     /// What the library leaves in memory that lies at this end of its rooms; none where it wrote beside it.
-    fn left(&self, library: &dyn Library, case: &Case, trial: &Trial, end: End) -> Option<Left> {
-        let call = trial.call;
+    fn left(&self, library: &dyn Library, case: &Case, call: &Call, lent: &Buffers, end: End) -> Option<Left> {
         let (book, sheet) = (self.book.put(end, &case.book), self.sheet.put(end, &case.sheet));
         let (list, listing) = (self.list.put(end, call.list()), self.listing.put(end, call.listing()));
         let cells = self.cells.put(end, &vec![UNWRITTEN; call.cells()]);
-        let (bytes, shown) = (self.bytes.put(end, &trial.lent.bytes), self.shown.put(end, &trial.lent.listing));
-        let numbers = self.numbers.put(end, &trial.lent.numbers);
+        let (bytes, shown) = (self.bytes.put(end, &lent.bytes), self.shown.put(end, &lent.listing));
+        let numbers = self.numbers.put(end, &lent.numbers);
         let lent = Lent {
             book: book.readable(),
             list: list.readable(),
@@ -104,12 +126,48 @@ impl Rooms {
     /// What the library leaves where it should not, at either end of the rooms.
     pub fn difference(&self, library: &dyn Library, case: &Case, trial: &Trial) -> Option<String> {
         [End::Front, End::Back].iter().find_map(|&end| {
-            let left = self.left(library, case, trial, end);
+            let left = self.left(library, case, trial.call, &trial.lent, end);
             (left.as_ref() != Some(&trial.left)).then(|| {
                 let got = left.map_or("written beside the memory lent".to_string(), |left| format!("{left:?}"));
                 let (book, sheet) = (hex(&case.book), hex(&case.sheet));
                 format!("{:?}, {end:?}\nbook {book}\nsheet {sheet}\nexpected {:?}\ngot      {got}", trial.call, trial.left)
             })
+        })
+    }
+
+    /// The numbers of plain filtering by the library with this field relaxed.
+    fn numbers(&self, library: &dyn Library, case: &Case, book: &Book, relaxed: usize) -> Option<Vec<u32>> {
+        let lent = vec![0u32; book.counts.len()].into();
+        let left = self.left(library, case, &Call::Filtered { relaxed }, &lent, End::Back)?;
+        (left.number == 0).then_some(left.out.numbers)
+    }
+
+    /// What the alternatives have to be by plain filtering, each answered field relaxed in turn: "the list agrees with them wherever
+    /// they leave no field empty", and elsewhere a field has no line.
+    fn by_filtering(&self, library: &dyn Library, case: &Case, book: &Book) -> Option<Vec<u8>> {
+        let mut pairs = Vec::new();
+        for f in (0..book.counts.len()).filter(|&f| case.sheet[f] != NO_ANSWER) {
+            let numbers = self.numbers(library, case, book, f)?;
+            if !numbers.contains(&0) {
+                pairs.extend((0..32).filter(|c| numbers[f] >> c & 1 == 1).flat_map(|c| [f as u8, c]));
+            }
+        }
+        Some(pairs)
+    }
+
+    /// Where the library's alternatives are not what its own plain filtering says. A sheet or a book that is refused has none.
+    pub fn disagreement(&self, library: &dyn Library, case: &Case, reading: &Reading) -> Option<String> {
+        let book = reading.as_ref().ok()?;
+        let lent = vec![0u8; sighting::PAIRS_BYTES].into();
+        let left = self.left(library, case, &Call::Alternatives, &lent, End::Back);
+        if left.as_ref().is_some_and(|left| left.number == 14) {
+            return None;
+        }
+        let expected = self.by_filtering(library, case, book);
+        let listed = left.and_then(|left| left.out.bytes.get(..2 * left.cells[1] as usize).map(<[u8]>::to_vec));
+        (listed.is_none() || listed != expected).then(|| {
+            let (book, sheet) = (hex(&case.book), hex(&case.sheet));
+            format!("book {book}\nsheet {sheet}\nby plain filtering {expected:?}\nlisted             {listed:?}")
         })
     }
 }

@@ -2,14 +2,15 @@
 
 use std::collections::{BTreeMap, BTreeSet};
 
-use crate::calls::Call;
+use crate::calls::{Call, Sheet};
 use crate::cases::{Case, BOUNDARIES};
-use crate::compare::Trial;
-use crate::desk::{Desk, Reading};
+use crate::compare::{Asked, Trial};
+use crate::desk::{after, Desk, Reading};
 use crate::faults::FAULTS;
 use crate::listing::book_bytes;
 use crate::listings::{reason, ways, REASONS};
 use crate::reader::Reader;
+use crate::shapes::{shapes, SHAPES};
 
 /// A refusal as counted: its number, and for 14 whether the place lies behind the book's fields.
 type Kind = (u64, bool);
@@ -20,6 +21,8 @@ pub struct Coverage {
     accepted: BTreeMap<&'static str, u64>,
     /// What the cases had beside that, by its name.
     had: BTreeMap<String, u64>,
+    /// What the calls that list had to list, and the lengths lent for it, by call and name.
+    listed: BTreeMap<(&'static str, &'static str), u64>,
 }
 
 /// The refusals that each call has beside 1 to 13; `true` for a place behind the book's fields.
@@ -35,6 +38,13 @@ const BESIDE: [(&str, &[Kind]); 10] = [
     ("report", &[(14, false), (18, false), (19, false)]),
     ("show", &[(18, false)]),
 ];
+
+/// How often something was had, and how often it has to be.
+struct Had {
+    name: String,
+    times: u64,
+    least: u64,
+}
 
 /// The call that reads no book, and its refusals.
 const WITHOUT_BOOK: (&str, &[Kind]) = ("write", &[(20, false), (18, false)]);
@@ -61,6 +71,35 @@ const ARGUMENTS: [Arguments; 6] = [
     ("a listing of more than 65,535 numbers", |call| call.listing().len() > 65_535),
 ];
 
+/// A name for a length that is lent, and what has it.
+type Length = (&'static str, fn(usize, &Asked) -> bool);
+
+/// The lengths to lend to a call that passes a field over, so that the wider list asks for more.
+const LENGTHS: [Length; 5] = [
+    ("one less than the list", |lent, asked| lent + 1 == asked.written),
+    ("the list's", |lent, asked| lent == asked.written),
+    ("between both lists", |lent, asked| (asked.written + 1..asked.wider).contains(&lent)),
+    ("one less than the wider list", |lent, asked| lent + 1 == asked.wider),
+    ("the wider list's", |lent, asked| lent == asked.wider),
+];
+
+/// How often each of them has to be lent.
+const LENGTHS_ASKED: u64 = 200;
+
+/// The calls that list alternatives.
+const LISTING: [&str; 3] = ["alternatives", "replay", "report"];
+
+/// The sheet whose alternatives the call lists; none where it is refused.
+fn listed_sheet(case: &Case, reading: &Reading, call: &Call) -> Option<Sheet> {
+    let desk = Desk::default();
+    match call {
+        Call::Alternatives => desk.answer(&Call::Store, reading, &case.sheet).result.is_ok().then_some(case.sheet),
+        Call::Replay { calls } => Some(after(reading, calls).1),
+        Call::Report { form } => desk.loaded(reading, form).ok(),
+        _ => None,
+    }
+}
+
 /// The name of a pair of faults, by their places in the order.
 fn pair(first: usize, second: usize) -> String {
     format!("{} with {}", FAULTS[first].0, FAULTS[second].0)
@@ -82,11 +121,24 @@ impl Coverage {
         for name in names(case) {
             *self.had.entry(name).or_default() += 1;
         }
+        for call in &case.calls {
+            if let (Ok(book), Some(sheet)) = (reading, listed_sheet(case, reading, call)) {
+                shapes(book, &sheet).for_each(|shape| self.count(call, shape));
+            }
+        }
         trials.iter().for_each(|trial| self.note_trial(reading, trial));
+    }
+
+    fn count(&mut self, call: &Call, what: &'static str) {
+        *self.listed.entry((call.name(), what)).or_default() += 1;
     }
 
     fn note_trial(&mut self, reading: &Reading, trial: &Trial) {
         let (name, number) = (trial.call.name(), trial.left.number);
+        if trial.asked.wider > trial.asked.written {
+            let lengths = LENGTHS.iter().filter(|(_, has)| has(trial.lent.elements(), &trial.asked));
+            lengths.for_each(|(length, _)| self.count(trial.call, length));
+        }
         match (trial.call, number) {
             // what its text says
             (Call::Report { form }, 0) => match Desk::default().loaded(reading, form) {
@@ -127,11 +179,27 @@ impl Coverage {
         for (call, kinds) in &kinds {
             complete &= self.print_call(call, kinds);
         }
-        complete &= self.print_had("boundaries", BOUNDARIES.iter().map(|(name, _)| name.to_string()));
-        complete &= self.print_had("arguments", ARGUMENTS.iter().map(|(name, _)| name.to_string()));
-        complete &= self.print_had("two faults at once", (1..FAULTS.len()).map(|place| pair(place - 1, place)));
-        complete &= self.print_had("listings", ways().map(|way| way.name.to_string()));
-        complete & self.print_had("reasons for 20", REASONS.iter().map(|name| name.to_string()))
+        let once = |name: String| {
+            let times = self.had.get(&name).copied().unwrap_or(0);
+            Had { name, times, least: 1 }
+        };
+        complete &= print_had("boundaries", BOUNDARIES.iter().map(|(name, _)| once(name.to_string())));
+        complete &= print_had("arguments", ARGUMENTS.iter().map(|(name, _)| once(name.to_string())));
+        complete &= print_had("two faults at once", (1..FAULTS.len()).map(|place| once(pair(place - 1, place))));
+        complete &= print_had("listings", ways().map(|way| once(way.name.to_string())));
+        complete &= print_had("reasons for 20", REASONS.iter().map(|name| once(name.to_string())));
+        LISTING.iter().fold(complete, |complete, call| complete & self.print_listed(call))
+    }
+
+    /// Prints what the call had to list and the lengths lent for it, and answers whether each was had often enough.
+    fn print_listed(&self, call: &'static str) -> bool {
+        let had = |name: &'static str, least: u64| {
+            let times = self.listed.get(&(call, name)).copied().unwrap_or(0);
+            Had { name: name.to_string(), times, least }
+        };
+        let shapes = print_had(&format!("sheets for {call}"), SHAPES.iter().map(|&(name, least, _)| had(name, least)));
+        let lengths = LENGTHS.iter().map(|&(name, _)| had(name, LENGTHS_ASKED));
+        shapes & print_had(&format!("lengths for {call} where a field is passed over"), lengths)
     }
 
     /// Prints how often and at how many places the call was refused in each way, and answers whether all were reached.
@@ -148,13 +216,13 @@ impl Coverage {
         println!("{line}");
         complete
     }
+}
 
-    /// Prints how often each was had, and answers whether all were.
-    fn print_had(&self, what: &str, names: impl Iterator<Item = String>) -> bool {
-        let names: Vec<String> = names.collect();
-        let times = |name: &String| self.had.get(name).copied().unwrap_or(0);
-        let shown: Vec<String> = names.iter().map(|name| format!("{name} {}", times(name))).collect();
-        println!("{what}: {}", shown.join(", "));
-        names.iter().all(|name| times(name) > 0)
-    }
+/// Prints how often each was had, and answers whether all were as often as they have to be.
+fn print_had(what: &str, had: impl Iterator<Item = Had>) -> bool {
+    let had: Vec<Had> = had.collect();
+    let missing = |had: &Had| if had.times < had.least { " MISSED" } else { "" };
+    let shown: Vec<String> = had.iter().map(|had| format!("{} {}{}", had.name, had.times, missing(had))).collect();
+    println!("{what}: {}", shown.join(", "));
+    had.iter().all(|had| had.times >= had.least)
 }

@@ -63,8 +63,38 @@ pub fn relaxed(answers: &[u8], f: usize) -> Vec<u8> {
     relaxed
 }
 
-fn outside(domain: &Subdomain) -> u64 {
-    domain.iter().flatten().filter(|&&stands| !stands).count() as u64
+/// Some field has no code in the subdomain.
+pub fn has_empty(domain: &Subdomain) -> bool {
+    domain.iter().any(|codes| !codes.contains(&true))
+}
+
+/// A case of the one pass: the field that is lifted, if one is, and the largest subdomain with it lifted.
+pub struct PassCase {
+    pub lifted: Option<usize>,
+    pub domain: Subdomain,
+}
+
+impl PassCase {
+    /// The lifted field's own codes in the subdomain, as lines.
+    pub fn lines(&self) -> Vec<(u8, u8)> {
+        let Some(f) = self.lifted else {
+            return Vec::new();
+        };
+        let codes = (0..self.domain[f].len()).filter(|&c| self.domain[f][c]);
+        codes.map(|c| (f as u8, c as u8)).collect()
+    }
+
+    /// The marks of the case that are struck.
+    pub fn struck(&self) -> u64 {
+        self.domain.iter().flatten().filter(|&&stands| !stands).count() as u64
+    }
+}
+
+/// Nothing lifted, then each answered field lifted by itself.
+pub fn pass_cases(book: &Book, answers: &[u8], largest: Filter) -> Vec<PassCase> {
+    let answered = (0..book.counts.len()).filter(|&f| answers[f] != NO_ANSWER);
+    let lifted = answered.map(|f| PassCase { lifted: Some(f), domain: largest(book, &relaxed(answers, f)) });
+    [PassCase { lifted: None, domain: largest(book, answers) }].into_iter().chain(lifted).collect()
 }
 
 /// What the one pass answers.
@@ -74,15 +104,48 @@ pub struct Alternatives {
     pub struck: u64,
 }
 
+/// "A field's alternatives are listed only if, with it lifted, no field at all is empty. Otherwise it has none." What is struck counts
+/// in every case.
 pub fn alternatives(book: &Book, answers: &[u8], largest: Filter) -> Alternatives {
-    let mut lines = Vec::new();
-    let mut struck = outside(&largest(book, answers));
-    for f in 0..book.counts.len() {
-        if answers[f] != NO_ANSWER {
-            let domain = largest(book, &relaxed(answers, f));
-            struck += outside(&domain);
-            lines.extend((0..book.counts[f]).filter(|&c| domain[f][c as usize]).map(|c| (f as u8, c)));
-        }
+    let cases = pass_cases(book, answers, largest);
+    let listed = cases.iter().filter(|case| !has_empty(&case.domain));
+    Alternatives { lines: listed.flat_map(PassCase::lines).collect(), struck: cases.iter().map(PassCase::struck).sum() }
+}
+
+#[cfg(test)]
+mod tests {
+    use super::{alternatives, largest, NO_ANSWER};
+    use crate::book::{Book, Table};
+    use crate::examples::{e1, e4, e6, two_pairs};
+
+    /// The lines and the struck count are these.
+    fn lists(book: &Book, answers: &[u8], lines: &[(u8, u8)], struck: u64) {
+        let found = alternatives(book, answers, largest);
+        assert_eq!((&found.lines[..], found.struck), (lines, struck));
     }
-    Alternatives { lines, struck }
+
+    #[test]
+    fn examples_of_document_01() {
+        lists(&e1(), &[0, 1, NO_ANSWER], &[(0, 0), (0, 1), (1, 0), (1, 1)], 11);
+        lists(&e1(), &[1, 0, NO_ANSWER], &[(0, 0), (1, 1), (1, 2)], 17);
+        lists(&e4(), &[0, NO_ANSWER, NO_ANSWER], &[(0, 0), (0, 1)], 6);
+    }
+
+    #[test]
+    fn a_lifted_answer_that_mends_nothing() {
+        lists(&e6(), &[0, NO_ANSWER], &[], 5);
+        // E1's 11, and the code of field 3 in each of the three cases
+        let mut book = e1();
+        book.counts.push(1);
+        book.tables.push(Table { fields: vec![3], rows: Vec::new() });
+        lists(&book, &[0, 1, NO_ANSWER, NO_ANSWER], &[], 14);
+    }
+
+    /// Fields 0 and 1 contradict each other: with one of them lifted each field has one code or two, with field 2 lifted they are empty.
+    #[test]
+    fn one_part_of_two_contradicts() {
+        lists(&two_pairs(), &[0, 1, 0, NO_ANSWER], &[(0, 1), (1, 0)], 6 + 4 + 4 + 4);
+        lists(&two_pairs(), &[0, 1, 0, 1], &[], 8 + 4 * 6);
+        lists(&two_pairs(), &[0, 0, 1, 1], &[(0, 0), (1, 0), (2, 1), (3, 1)], 5 * 4);
+    }
 }

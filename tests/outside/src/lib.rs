@@ -8,13 +8,17 @@ pub mod compare;
 pub mod coverage;
 pub mod desk;
 pub mod draft;
+#[cfg(test)]
+mod examples;
 pub mod faults;
 pub mod filter;
 pub mod library;
 pub mod listing;
 pub mod listings;
 pub mod memory;
+pub mod parts;
 pub mod random;
 pub mod reader;
+pub mod shapes;
 pub mod slips;
 pub mod text;

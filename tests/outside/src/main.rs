@@ -1,8 +1,8 @@
 //! Compares the desk with an independent slow implementation on seeded books and sheets.
 //!
 //! `outside DESK CASES [SEED]`: DESK is the built program, which reads book.bin and sheet.bin in its folder. A seed repeats a run;
-//! a case that differs is left in its folder, whose name is printed. A desk that prints ends with success. The run prints how often each refusal was reached and at how
-//! many places, and fails if one was not reached at several.
+//! a case that differs is left in its folder, whose name is printed. A desk that prints ends with success. The run prints how often each
+//! refusal was reached and at how many places, and fails if one was not reached at several.
 
 use std::collections::{BTreeMap, BTreeSet};
 use std::path::{Path, PathBuf};

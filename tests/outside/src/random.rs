@@ -1,7 +1,10 @@
 //! Seeded books and sheets.
 
+use std::collections::BTreeSet;
+
 use crate::book::{Book, Table};
-use crate::filter::{largest, NO_ANSWER};
+use crate::filter::{largest, relaxed, NO_ANSWER};
+use crate::parts;
 
 /// SplitMix64.
 pub struct Random(pub u64);
@@ -23,6 +26,14 @@ impl Random {
     pub fn one_in(&mut self, n: u64) -> bool {
         self.word().is_multiple_of(n)
     }
+
+    /// Puts the elements into any order.
+    pub fn shuffle<T>(&mut self, elements: &mut [T]) {
+        for i in 1..elements.len() {
+            let k = self.from(0, i);
+            elements.swap(i, k);
+        }
+    }
 }
 
 /// That many different fields, rising.
@@ -41,7 +52,7 @@ fn row_of(r: &mut Random, counts: &[u8], fields: &[u8]) -> Vec<u8> {
     fields.iter().map(|&f| r.from(0, counts[f as usize] as usize - 1) as u8).collect()
 }
 
-fn table_of(r: &mut Random, counts: &[u8], rows: usize) -> Table {
+pub fn table_of(r: &mut Random, counts: &[u8], rows: usize) -> Table {
     let arity = r.from(1, counts.len().min(4));
     let fields = fields_of(r, counts.len(), arity);
     let mut table = Table { fields, rows: Vec::new() };
@@ -78,7 +89,7 @@ fn small(r: &mut Random) -> Book {
 }
 
 /// Gives every table that has rows one of the same reading of all fields.
-fn allow_a_reading(r: &mut Random, book: &mut Book) {
+pub fn allow_a_reading(r: &mut Random, book: &mut Book) {
     let reading: Vec<u8> = book.counts.iter().map(|&count| r.from(0, count as usize - 1) as u8).collect();
     for table in book.tables.iter_mut().filter(|table| !table.rows.is_empty()) {
         let k = r.from(0, table.rows.len() - 1);
@@ -163,36 +174,53 @@ fn long_fall(r: &mut Random) -> Book {
             Table { fields: vec![f.min(next), f.max(next)], rows: rows.into_iter().map(in_order).collect() }
         })
         .collect();
-    for i in 1..tables.len() {
-        let k = r.from(0, i);
-        tables.swap(i, k);
-    }
+    r.shuffle(&mut tables);
     Book { counts: vec![codes; fields as usize], tables }
 }
 
 pub fn book(r: &mut Random) -> Book {
-    match r.from(0, 239) {
+    match r.from(0, 299) {
         0..=11 => wide(r),
         12..=23 => many_tables(r),
         24 => many_rows(r),
         25 => long_fall(r),
         26..=61 => ring(r),
+        62..=121 => parts::book(r),
         _ => small(r),
     }
 }
 
-/// A stored sheet for the book: from none to all fields answered. In a small book most answers stand when they are chosen, so that
-/// something is left of it.
+/// A stored sheet for the book: from none to all fields answered. Where few fields have tables most answers stand when they are chosen,
+/// so that something is left of the book, and in some of these sheets one or two are then changed so that they contradict the others.
 pub fn form(r: &mut Random, book: &Book) -> Vec<u8> {
     let answered = r.from(0, 4) as u64;
-    let guided = book.counts.len() <= 6 && book.rows() < 300 && !r.one_in(4);
+    let tied: BTreeSet<u8> = book.tables.iter().flat_map(|table| table.fields.iter().copied()).collect();
+    let guided = tied.len() <= 12 && book.rows() < 300 && !r.one_in(4);
     let mut form = vec![NO_ANSWER; book.counts.len()];
     for f in 0..form.len() {
         if r.word() % 4 < answered {
+            let guided = guided && tied.contains(&(f as u8));
             form[f] = if guided { standing_code(r, book, &form, f) } else { r.from(0, book.counts[f] as usize - 1) as u8 };
         }
     }
+    if guided {
+        (0..[0, 0, 1, 2][r.from(0, 3)]).for_each(|_| contradict(r, book, &mut form));
+    }
     form
+}
+
+/// Changes some answer to a code that the other answers strike, if there is one.
+fn contradict(r: &mut Random, book: &Book, form: &mut [u8]) {
+    let answered: Vec<usize> = (0..form.len()).filter(|&f| form[f] != NO_ANSWER).collect();
+    if answered.is_empty() {
+        return;
+    }
+    let f = answered[r.from(0, answered.len() - 1)];
+    let domain = largest(book, &relaxed(form, f));
+    let struck: Vec<u8> = (0..book.counts[f]).filter(|&c| !domain[f][c as usize]).collect();
+    if !struck.is_empty() {
+        form[f] = struck[r.from(0, struck.len() - 1)];
+    }
 }
 
 /// Mostly a code of the field that stands by these answers, if one does.

@@ -35,18 +35,13 @@ pub fn report(desk: &Desk, reading: &Reading, form: &[u8]) -> String {
 #[cfg(test)]
 mod tests {
     use super::report;
-    use crate::book::{Book, Table};
     use crate::desk::Desk;
+    use crate::examples::{e4, e6, two_pairs};
 
     const E1: [u8; 35] = [
         0x02, 0x00, 0x02, 0x04, 0x00, 0x00, 0x00, 0x00, 0x01, 0x01, 0x02, 0x00, 0x01, 0x02, 0x01, 0x02, 0x04, 0x00, 0x00, 0x00,
         0x01, 0x01, 0x01, 0x02, 0x02, 0x02, 0x02, 0x03, 0x03, 0x1A, 0x00, 0x03, 0x02, 0x01, 0xE5,
     ];
-
-    fn e4() -> Vec<u8> {
-        let pair = |f, g| Table { fields: vec![f, g], rows: vec![vec![0, 1], vec![1, 0]] };
-        Book { counts: vec![2; 3], tables: vec![pair(0, 1), pair(0, 2), pair(1, 2)] }.write()
-    }
 
     fn prints(bytes: &[u8], form: &[u8], text: &str) {
         let desk = Desk::default();
@@ -57,12 +52,17 @@ mod tests {
     fn examples_of_document_01() {
         prints(&E1, &[0, 1, 255], "book 3 2 8 7\nsheet 2 4 11\nalt 0 0\nalt 0 1\nalt 1 0\nalt 1 1\nopen 2 1\n");
         prints(&E1, &[1, 0, 255], "book 3 2 8 7\nsheet 2 3 17\nalt 0 0\nalt 1 1\nalt 1 2\n");
-        prints(&e4(), &[0, 255, 255], "book 3 3 6 6\nsheet 1 2 6\nalt 0 0\nalt 0 1\n");
-        let e6 = Book { counts: vec![2; 2], tables: vec![Table { fields: vec![1], rows: vec![] }] };
-        prints(&e6.write(), &[0, 255], "book 2 1 0 0\nsheet 1 2 5\nalt 0 0\nalt 0 1\n");
+        prints(&e4().write(), &[0, 255, 255], "book 3 3 6 6\nsheet 1 2 6\nalt 0 0\nalt 0 1\n");
+        prints(&e6().write(), &[0, 255], "book 2 1 0 0\nsheet 1 0 5\n");
         let e7 = [1, 0, 0, 1, 0, 1, 0xE5];
         prints(&e7, &[0], "book 1 0 0 0\nsheet 1 1 0\nalt 0 0\n");
         prints(&e7[..6], &[0], "refused 2 5\n");
+    }
+
+    /// Field 2 has no line, since fields 0 and 1 stay empty with it lifted; what stands is open all the same.
+    #[test]
+    fn one_part_of_two_contradicts() {
+        prints(&two_pairs().write(), &[0, 1, 0, 255], "book 4 2 4 4\nsheet 3 2 18\nalt 0 1\nalt 1 0\nopen 3 0\n");
     }
 
     #[test]
@@ -72,6 +72,6 @@ mod tests {
             lines.collect::<String>()
         };
         prints(&E1, &[255; 3], &format!("book 3 2 8 7\nsheet 0 0 0\n{}", all(&[2, 3, 3])));
-        prints(&e4(), &[255; 3], &format!("book 3 3 6 6\nsheet 0 0 0\n{}", all(&[2, 2, 2])));
+        prints(&e4().write(), &[255; 3], &format!("book 3 3 6 6\nsheet 0 0 0\n{}", all(&[2, 2, 2])));
     }
 }

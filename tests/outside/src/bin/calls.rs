@@ -2,9 +2,9 @@
 //!
 //! `calls CASES [SEED]` runs the cases of a seed, 1 if none is given; `calls case INDEX SEED` repeats one of them. Each call is made
 //! bare and by the safe wrapper, with buffers one short, exact, longer, as long as the header says suffices, and of length 0, and with
-//! its memory flush against a page that nobody may touch, in front and behind; a list of calls is also made one by one, and a book that
-//! is shown or written goes the way back too. The run prints how often each refusal of each call was reached and what else the cases
-//! had, and fails if something was missed.
+//! its memory flush against a page that nobody may touch, in front and behind; a list of calls is also made one by one, alternatives are
+//! held against plain filtering with each answered field relaxed, and a book that is shown or written goes the way back too. The run
+//! prints how often each refusal of each call was reached and what else the cases had, and fails if something was missed.
 
 use std::ffi::c_int;
 use std::io::Write;
@@ -71,6 +71,18 @@ fn round_trips_agree(case: &Case, call: &Call) -> bool {
     agrees
 }
 
+/// The lines that plain filtering gives are those listed, bare and by the wrapper.
+fn filterings_agree(rooms: &Rooms, case: &Case, reading: &Reading) -> bool {
+    let ways: [(&str, &dyn Library); 2] = [("bare", &Exported), ("by the wrapper", &Wrapper)];
+    ways.iter().all(|(way, library)| {
+        let disagreement = rooms.disagreement(*library, case, reading);
+        if let Some(disagreement) = &disagreement {
+            println!("{way}: alternatives and plain filtering do not agree\n{disagreement}");
+        }
+        disagreement.is_none()
+    })
+}
+
 /// The ways to make a call.
 fn ways(call: &Call) -> &'static [(&'static str, &'static dyn Library)] {
     let ways: &[(&str, &dyn Library)] = &[("bare", &Exported), ("by the wrapper", &Wrapper), ("one by one", &OneByOne)];
@@ -96,6 +108,7 @@ fn case_agrees(rooms: &Rooms, seed: u64, index: u64, seen: &mut Coverage) -> boo
     let trials = trials(&case, &reading, seed, index);
     seen.note(&case, &reading, &trials);
     trials.iter().all(|trial| trial_agrees(rooms, &case, trial))
+        && filterings_agree(rooms, &case, &reading)
         && case.calls.iter().all(|call| list_agrees(&case, &reading, call) && round_trips_agree(&case, call))
 }
 

@@ -160,9 +160,14 @@ pub fn if_refused(left: &mut calls::Left, change: impl Fn(&mut calls::Left)) {
     }
 }
 
+pub fn refused_by_18(left: &mut calls::Left) {
+    left.number = 18;
+    left.cells.fill(0);
+}
+
 fn more_room_asked(seen: &Seen, left: &mut calls::Left) {
     if left.number == 0 && seen.answer.written.elements() == seen.lent {
-        *left = calls::Left { number: 18, cells: vec![0; left.cells.len()], ..left.clone() };
+        refused_by_18(left);
     }
 }
 

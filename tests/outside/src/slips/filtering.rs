@@ -5,7 +5,7 @@ use super::{Listed, Wrong::Part};
 use crate::book::{Book, Table};
 use crate::desk::Desk;
 use crate::filter::{
-    allowed, alternatives, largest, relaxed, remove, round, unsupported, Alternatives, Filter, Subdomain, NO_ANSWER,
+    allowed, alternatives, has_empty, largest, relaxed, remove, round, unsupported, Alternatives, Filter, Subdomain, NO_ANSWER,
 };
 
 const fn wrong_lines(what: &'static str, exchange: fn(&mut Desk)) -> Listed {
@@ -102,7 +102,7 @@ fn lines_by_code(book: &Book, answers: &[u8], largest: Filter) -> Alternatives {
 /// As a solver that ends where a field becomes empty.
 fn all_or_nothing(book: &Book, answers: &[u8]) -> Subdomain {
     let mut domain = largest(book, answers);
-    if domain.iter().any(|codes| !codes.contains(&true)) {
+    if has_empty(&domain) {
         domain.iter_mut().for_each(|codes| codes.fill(false));
     }
     domain
@@ -175,21 +175,11 @@ fn rows_only(book: &Book, answers: &[u8]) -> Subdomain {
 #[cfg(test)]
 mod tests {
     use super::SLIPS;
-    use crate::book::{Book, Table};
+    use crate::book::Book;
     use crate::calls::{Answer, Call, Sheet, FRESH};
     use crate::desk::Desk;
+    use crate::examples::{e1, e4};
     use crate::slips::Wrong;
-
-    fn e1() -> Book {
-        let first = Table { fields: vec![0, 2], rows: vec![vec![0, 0], vec![0, 1], vec![1, 2], vec![0, 1]] };
-        let second = Table { fields: vec![1, 2], rows: vec![vec![0, 0], vec![1, 1], vec![1, 2], vec![2, 2]] };
-        Book { counts: vec![2, 3, 3], tables: vec![first, second] }
-    }
-
-    fn e4() -> Book {
-        let pair = |f, g| Table { fields: vec![f, g], rows: vec![vec![0, 1], vec![1, 0]] };
-        Book { counts: vec![2; 3], tables: vec![pair(0, 1), pair(0, 2), pair(1, 2)] }
-    }
 
     fn sheet(answers: [u8; 3]) -> Sheet {
         let mut sheet = FRESH;

@@ -3,6 +3,7 @@
 
 mod calling;
 mod filtering;
+mod lifting;
 mod listing;
 mod reading;
 mod straying;
@@ -10,6 +11,7 @@ mod straying;
 use crate::calls::{Answer, Buffers, Call, Left, Sheet};
 use crate::desk::{Desk, Reading};
 use crate::library::{Lent, Library};
+pub use lifting::listed_although_empty;
 pub use straying::Stray;
 
 /// A slip in one call: in no other is it looked for.
@@ -51,7 +53,7 @@ impl Slip {
 
 /// All slips, each in each of its calls.
 pub fn all() -> Vec<Slip> {
-    let listed = [reading::SLIPS, filtering::SLIPS, calling::SLIPS, listing::SLIPS].concat();
+    let listed = [reading::SLIPS, filtering::SLIPS, lifting::SLIPS, calling::SLIPS, listing::SLIPS].concat();
     let in_each = |(what, calls, wrong): Listed| calls.iter().map(move |call| Slip::new(call, what, wrong));
     listed.into_iter().flat_map(in_each).chain(straying::slips()).collect()
 }
@@ -117,6 +119,25 @@ mod tests {
             let case = case(1, index);
             let trials = trials(&case, &desk.reader.read(&case.book), 1, index);
             assert_eq!(trials.iter().find_map(|trial| rooms.difference(&library, &case, trial)), None);
+        }
+    }
+
+    /// Whether alternatives and plain filtering do not agree in one of the first cases.
+    fn disagrees(library: &SlowLibrary) -> bool {
+        let (desk, rooms) = (Desk::default(), Rooms::default());
+        (0..200).map(|index| case(1, index)).any(|case| {
+            let reading = desk.reader.read(&case.book);
+            rooms.disagreement(library, &case, &reading).is_some()
+        })
+    }
+
+    #[test]
+    fn a_list_that_plain_filtering_does_not_give_is_seen() {
+        assert!(!disagrees(&SlowLibrary::default()));
+        let slips = all();
+        for name in ["a field listed although another is empty", "empty fields looked for with nothing lifted"] {
+            let slip = slips.iter().find(|slip| slip.name == format!("alternatives: {name}")).expect("it is listed");
+            assert!(disagrees(&SlowLibrary::with(slip)), "{name}");
         }
     }
 

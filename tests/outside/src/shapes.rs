@@ -1,0 +1,136 @@
+//! What sheets show of document 02's M-101: which fields are listed, and which are not although codes of their own stand.
+
+use std::collections::BTreeSet;
+
+use crate::book::Book;
+use crate::filter::{has_empty, largest, pass_cases, PassCase, NO_ANSWER};
+
+/// A sheet with all cases of its one pass.
+pub struct Pass<'a> {
+    book: &'a Book,
+    answers: &'a [u8],
+    cases: Vec<PassCase>,
+}
+
+/// A shape: its name, in how many cases of a run it has to be reached, and what has it.
+type Shape = (&'static str, u64, fn(&Pass) -> bool);
+
+/// A field is passed over where it has no line although codes of its own stand with it lifted.
+pub const SHAPES: [Shape; 13] = [
+    ("a field listed", 2_000, |pass| pass.some_listed()),
+    ("a field listed though the answers contradict each other", 500, |pass| pass.contradicts() && pass.some_listed()),
+    ("a field passed over", 1_000, |pass| pass.passed_over().next().is_some()),
+    ("one listed, another passed over", 200, |pass| pass.some_listed() && pass.passed_over().next().is_some()),
+    ("one mends, another does not", 300, |pass| pass.some_listed() && pass.cases[1..].iter().any(|case| has_empty(&case.domain))),
+    ("two parts contradictory, nothing listed", 100, |pass| pass.contradictory_parts() > 1 && pass.only_passed_over()),
+    ("passed over for a table without rows on a lone field", 100, |pass| pass.lone_without_rows() && pass.only_passed_over()),
+    ("passed over for unanswered fields alone", 50, |pass| pass.passed_over_for(|f, _| pass.answers[f] == NO_ANSWER)),
+    ("passed over for answered fields alone", 250, |pass| pass.passed_over_for(|f, _| pass.answers[f] != NO_ANSWER)),
+    ("passed over for the first field alone", 25, |pass| pass.passed_over_for(|f, _| f == 0)),
+    ("passed over for the last field alone", 25, |pass| pass.passed_over_for(|f, fields| f + 1 == fields)),
+    ("case 32 listed", 5, |pass| pass.cases.get(32).is_some_and(|case| !has_empty(&case.domain))),
+    ("case 32 passed over", 10, |pass| pass.cases.get(32).is_some_and(is_passed_over)),
+];
+
+/// The names of the shapes that a sheet has.
+pub fn shapes<'a>(book: &'a Book, answers: &'a [u8]) -> impl Iterator<Item = &'static str> + 'a {
+    let pass = Pass { book, answers, cases: pass_cases(book, answers, largest) };
+    SHAPES.iter().filter(move |(_, _, has)| has(&pass)).map(|(name, ..)| *name)
+}
+
+fn is_passed_over(case: &PassCase) -> bool {
+    has_empty(&case.domain) && !case.lines().is_empty()
+}
+
+fn empty_fields(case: &PassCase) -> impl Iterator<Item = usize> + '_ {
+    (0..case.domain.len()).filter(|&f| !case.domain[f].contains(&true))
+}
+
+/// For each field the lowest one that a chain of tables ties it to.
+fn lowest_tied(book: &Book) -> Vec<usize> {
+    let mut lowest: Vec<usize> = (0..book.counts.len()).collect();
+    for table in std::iter::repeat_n(&book.tables, book.counts.len()).flatten() {
+        let least = table.fields.iter().map(|&f| lowest[f as usize]).min().unwrap_or(0);
+        table.fields.iter().for_each(|&f| lowest[f as usize] = least);
+    }
+    lowest
+}
+
+impl Pass<'_> {
+    fn contradicts(&self) -> bool {
+        has_empty(&self.cases[0].domain)
+    }
+
+    fn some_listed(&self) -> bool {
+        self.cases[1..].iter().any(|case| !has_empty(&case.domain))
+    }
+
+    fn passed_over(&self) -> impl Iterator<Item = &PassCase> {
+        self.cases[1..].iter().filter(|case| is_passed_over(case))
+    }
+
+    fn only_passed_over(&self) -> bool {
+        !self.some_listed() && self.passed_over().next().is_some()
+    }
+
+    /// Some field is passed over, and these fields alone are empty then.
+    fn passed_over_for(&self, these: impl Fn(usize, usize) -> bool) -> bool {
+        self.passed_over().any(|case| empty_fields(case).all(|f| these(f, case.domain.len())))
+    }
+
+    /// The parts that have an answer, are empty with nothing lifted, and would not be without their answers.
+    fn contradictory_parts(&self) -> usize {
+        let without_answers = largest(self.book, &vec![NO_ANSWER; self.answers.len()]);
+        let lowest = lowest_tied(self.book);
+        let contradictory = empty_fields(&self.cases[0]).filter(|&f| without_answers[f].contains(&true));
+        contradictory.map(|f| lowest[f]).collect::<BTreeSet<_>>().len()
+    }
+
+    fn lone_without_rows(&self) -> bool {
+        let tables = &self.book.tables;
+        let on = |f: u8| tables.iter().filter(move |table| table.fields.contains(&f));
+        tables.iter().any(|table| table.fields.len() == 1 && table.rows.is_empty() && on(table.fields[0]).count() == 1)
+    }
+}
+
+#[cfg(test)]
+mod tests {
+    use super::{lowest_tied, shapes};
+    use crate::examples::{e1, e6, two_pairs};
+    use crate::filter::{largest, NO_ANSWER};
+    use crate::random::{book, form, Random};
+
+    #[test]
+    fn chains_of_tables() {
+        assert_eq!(lowest_tied(&e1()), [0, 0, 0]);
+        assert_eq!(lowest_tied(&e6()), [0, 1]);
+        assert_eq!(lowest_tied(&two_pairs()), [0, 0, 2, 2]);
+    }
+
+    /// So a field is passed over only for fields that no chain of tables ties to it.
+    #[test]
+    fn what_is_tied_to_an_empty_field_is_empty() {
+        let mut r = Random(1);
+        for _ in 0..500 {
+            let book = book(&mut r);
+            let domain = largest(&book, &form(&mut r, &book));
+            let is_empty = |f: usize| !domain[f].contains(&true);
+            assert!(lowest_tied(&book).iter().enumerate().all(|(f, &lowest)| is_empty(f) == is_empty(lowest)));
+        }
+    }
+
+    #[test]
+    fn shapes_of_sheets() {
+        let names = |answers: [u8; 4]| shapes(&two_pairs(), &answers).collect::<Vec<_>>();
+        assert_eq!(names([NO_ANSWER; 4]), Vec::<&str>::new());
+        assert_eq!(names([0, 0, 1, NO_ANSWER]), ["a field listed"]);
+        let two = ["a field passed over", "two parts contradictory, nothing listed", "passed over for answered fields alone"];
+        assert_eq!(names([0, 1, 0, 1]), two);
+        let both = ["a field listed", "a field listed though the answers contradict each other", "a field passed over"];
+        let mixed = ["one listed, another passed over", "one mends, another does not", "passed over for answered fields alone"];
+        assert_eq!(names([0, 1, 0, NO_ANSWER]), [both, mixed].concat());
+        let lone = "passed over for a table without rows on a lone field";
+        let last = ["passed over for unanswered fields alone", "passed over for the last field alone"];
+        assert_eq!(shapes(&e6(), &[0, NO_ANSWER]).collect::<Vec<_>>(), ["a field passed over", lone, last[0], last[1]]);
+    }
+}
