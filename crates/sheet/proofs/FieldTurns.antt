@@ -1,6 +1,6 @@
 -- One turn over the fields: what the marks of a pass show of a field, and what is counted and written for it. Assumes nothing.
-use mathlib.Core.Path.{_≡_, refl, sym, ap, _∙_, subst}
-use mathlib.Core.Bool.{Bool, true, false, not, _&&_, and-true}
+use mathlib.Core.Path.{_≡_, sym, ap, _∙_, subst}
+use mathlib.Core.Bool.{true, false, not, _&&_, and-true, Bool·not-not}
 use mathlib.Core.List.{List, _++_, map}
 use Prim.Native.Nat.{ℕ, _+_, _*_, _≤_, _<_}
 use native.Mathlib.Nat.{zero-add}
@@ -13,7 +13,7 @@ use Rattle.format.specs.Format.{codeLimit, byte, bookOf}
 use Rattle.format.proofs.Storing.{sets-append}
 use Rattle.format.proofs.Verdict.{verdict-promise}
 use Rattle.consistency.specs.Counting.{howMany}
-use Rattle.consistency.specs.Consistency.{places, codes, answer, relax}
+use Rattle.consistency.specs.Consistency.{Subdomain, places, codes, answer, relax}
 use Rattle.consistency.specs.Largest.{largest}
 use Rattle.consistency.specs.Emptiness.{noneEmpty}
 use Rattle.consistency.specs.Counts.{bit, answered, listed, total, Line, lines, lineBytes}
@@ -27,14 +27,6 @@ use Rattle.sheet.proofs.Openings.{fields-end, fields-few, fields-count,
 use Rattle.sheet.proofs.Places.{answer-at}
 use Rattle.sheet.proofs.Upward.{many-more, many-same}
 use Rattle.sheet.proofs.Fields.{alternativesOf, fieldLines, totalBelow, bytesBelow, total-is, lines-are-below, length-bytes, SameBelow, total-more, bytes-more, open-same, unmended-same, total-rises}
-
-not-out : (x : Bool) → not x ≡ true → x ≡ false
-not-out true e = sym e
-not-out false e = refl
-
-not-in : (x : Bool) → not x ≡ false → x ≡ true
-not-in true e = refl
-not-in false e = sym e
 
 module _ {s a M : List ℕ} {empty list fields : ℕ} (x : Passed s a M empty list fields) where
   -- an accepted book has few alternatives
@@ -84,17 +76,22 @@ module _ {s a M : List ℕ} {empty list fields : ℕ} (x : Passed s a M empty li
     pub open-lineless : answered a f ≡ false → SameBelow (bookOf s) a f
     open-lineless = open-same (bookOf s) a f
 
+    -- the largest subdomain with it lifted
+    abbrev lifted : Subdomain
+    lifted = largest (bookOf s) (relax a f)
+
     module _ {k : ℕ} (case-is : k ≡ ownCase a f) (e : answered a f ≡ true) where
-      -- whether some field is empty with it lifted stands in the word
-      emptied : bit empty k ≡ not (noneEmpty (bookOf s) (largest (bookOf s) (relax a f)))
-      emptied =
-          ap (bit empty) case-is ∙ x .empties f l (subst T (sym e) tt)
-          ∙ some-or-none (bookOf s) (largest (bookOf s) (relax a f))
+      -- whether that leaves no field empty stands in the word
+      none-empty : noneEmpty (bookOf s) lifted ≡ not (bit empty k)
+      none-empty =
+          sym (Bool·not-not (noneEmpty (bookOf s) lifted))
+          ∙ ap not (sym (ap (bit empty) case-is ∙ x .empties f l (subst T (sym e) tt) ∙ some-or-none (bookOf s) lifted))
 
-      -- then an answered field adds no line
+      -- where it leaves one, the field adds no line
       pub unmended-lineless : bit empty k ≡ true → SameBelow (bookOf s) a f
-      unmended-lineless d = unmended-same (bookOf s) a f e (not-out (noneEmpty (bookOf s) (largest (bookOf s) (relax a f))) (sym emptied ∙ d))
+      unmended-lineless d = unmended-same (bookOf s) a f e (none-empty ∙ ap not d)
 
+    -- a field that adds no line
     module _ (h : SameBelow (bookOf s) a f) where
       pub total-without : {sum : ℕ} → sum ≡ totalBelow (bookOf s) a f → sum ≡ totalBelow (bookOf s) a (f + 1)
       total-without d = d ∙ sym (h .total)
@@ -120,12 +117,11 @@ module _ {s a M : List ℕ} {empty list fields : ℕ} (x : Passed s a M empty li
           }
 
       module _ (e : answered a f ≡ true) (full : bit empty k ≡ false) where
-        -- a code stands there exactly when it is listed: no field is empty
+        -- no field is empty, so a code stands there exactly when it is listed
         own-listed : (c : ℕ) → c < codes (bookOf s) f → stands M k f c ≡ listed (bookOf s) a f c
         own-listed c h =
             ap (λ (i : ℕ). stands M i f c) case-is ∙ x .own f c l (subst T (sym e) tt) h
-            ∙ sym (ap (largest (bookOf s) (relax a f) f c &&_) (not-in (noneEmpty (bookOf s) (largest (bookOf s) (relax a f))) (sym (emptied case-is e) ∙ full))
-            ∙ and-true (largest (bookOf s) (relax a f) f c))
+            ∙ sym (ap (lifted f c &&_) (none-empty case-is e ∙ ap not full) ∙ and-true (lifted f c))
 
         -- in its own case its alternatives stand
         stand-count : howMany n (stands M k f) ≡ alternativesOf (bookOf s) a f

@@ -9,7 +9,7 @@ use lib.ListN.{length, length-map}
 use Rattle.format.specs.Basics.{pick}
 use Rattle.format.specs.Format.{Book}
 use Rattle.consistency.specs.Counting.{howMany, those, sumOver, joinOver}
-use Rattle.consistency.specs.Consistency.{codes, relax}
+use Rattle.consistency.specs.Consistency.{Subdomain, codes, relax}
 use Rattle.consistency.specs.Largest.{largest}
 use Rattle.consistency.specs.Emptiness.{noneEmpty}
 use Rattle.consistency.specs.Counts.{answered, listed, total, Line, linesOf, lines, lineBytes}
@@ -80,8 +80,12 @@ module _ (b : Book) (a : List ℕ) where
           bytes = ap (λ (fs : List ℕ). lineBytes (joinOver fs fieldLines)) (those-same (answered a) f e);
         }
 
-    -- nor where its answer, lifted, leaves some field empty
-    pub unmended-same : answered a f ≡ true → noneEmpty b (largest b (relax a f)) ≡ false → SameBelow f
+    -- the largest subdomain with its answer lifted
+    abbrev lifted : Subdomain
+    lifted = largest b (relax a f)
+
+    -- nor does it where some field is empty then
+    pub unmended-same : answered a f ≡ true → noneEmpty b lifted ≡ false → SameBelow f
     unmended-same e d =
         record {
           total = total-more e ∙ ap (totalBelow f +_) none ∙ add-zero (totalBelow f);
@@ -89,14 +93,12 @@ module _ (b : Book) (a : List ℕ) where
         }
       where
         none : alternativesOf f ≡ 0
-        none = many-and (codes b f) (largest b (relax a f) f) (noneEmpty b (largest b (relax a f)))
-            ∙ ap (λ (x : Bool). pick x (howMany (codes b f) (largest b (relax a f) f)) 0) d
+        none = many-and (codes b f) (lifted f) (noneEmpty b lifted) ∙ ap (λ (x : Bool). pick x (howMany (codes b f) (lifted f)) 0) d
 
         no-line : fieldLines f ≡ []
         no-line =
             ap (map (λ (c : ℕ). record { field = f; code = c }))
-            (those-and (codes b f) (largest b (relax a f) f) (noneEmpty b (largest b (relax a f)))
-            ∙ ap (λ (x : Bool). pick x (those (codes b f) (largest b (relax a f) f)) []) d)
+            (those-and (codes b f) (lifted f) (noneEmpty b lifted) ∙ ap (λ (x : Bool). pick x (those (codes b f) (lifted f)) []) d)
 
   -- the total with field n, whether or not it is answered
   total-step : (n : ℕ) → totalBelow (suc n) ≡ totalBelow n + sumOver (pick (answered a n) (n ∷ []) []) alternativesOf
