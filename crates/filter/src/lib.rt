@@ -1,8 +1,9 @@
-// The filter over an accepted book: the one pass for all cases, and plain filtering by the same engine with one case.
+// The filter over an accepted book: the one pass for all cases, plain filtering by the same engine with one case, and the cases of a pass in
+// which some field is empty.
 ghost use mathlib.Core.Path.{_≡_};
+ghost use Prim.Native.Nat.{_≤_};
 ghost use Rattle.format.specs.Format.{bookOf};
 ghost use Rattle.book.specs.View.{Viewed};
-ghost use Prim.Native.Nat.{_≤_};
 ghost use Rattle.consistency.specs.Consistency.{places};
 ghost use Rattle.consistency.specs.Counts.{struck};
 ghost use Rattle.filter.specs.Cases.{casesOf, marksOf, plainOf};

@@ -34,8 +34,8 @@ pub record Room (o : List ℕ) (at many : ℕ) : Type 0 where
   pub fits : at + 2 * many ≤ length o
   pub small : at ≤ 65536
 
--- M has the marks of a pass over the accepted book s, and empty its cases in which some field is empty: each answered field's own case has its
--- codes with it lifted, and says whether some field is empty then
+-- M has the marks of a pass over the accepted book s, and empty the cases in which some field is empty: in each answered field's own case its
+-- codes with it lifted stand, and empty says whether some field is empty then
 pub record Passed (s a M : List ℕ) (empty list fields : ℕ) : Type 0 where
   pub at : FieldsAt s list fields
   pub own : (f c : ℕ) → f < fields → T (answered a f) → c < codes (bookOf s) f → stands M (ownCase a f) f c ≡ largest (bookOf s) (relax a f) f c
