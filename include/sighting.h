@@ -123,8 +123,7 @@ uint64_t sighting_filtered(const uint8_t *sheet, const uint8_t *book, size_t boo
 
 /*
  * The alternatives of every answered field: its codes that stand with its own answer left out. A field has lines only where no field of
- * the book is then empty; where one is, the field has none. Each line is two bytes, field then code, by rising field and then rising
- * code.
+ * the book is then empty. Each line is two bytes, field then code, by rising field and then rising code.
  *   outcome[3]  place, total (the number of lines), struck (the marks removed in all cases together, with or without lines)
  * Refusals: 1 to 13, 14, 18 where out_len is below 2 * total.
  */
@@ -152,8 +151,7 @@ uint64_t sighting_store(const uint8_t *sheet, const uint8_t *book, size_t book_l
  * an incomplete last one; withdraw reads no code, and clear neither field nor code. A call that is refused changes nothing and the
  * list goes on. What the sheet held before plays no part; it ends as the one that the list reached, also where the replay is refused.
  * By a refused book every enter and withdraw is refused, so the list then reaches a fresh sheet.
- * A field has lines only where, with its answer left out, no field of the book is empty.
- *   outcome[3]  place, total (the number of lines), struck, as sighting_alternatives
+ *   outcome[3]  place, total, struck, as sighting_alternatives
  * Refusals: 1 to 13, 18 where out_len is below 2 * total.
  */
 uint64_t sighting_replay(uint8_t *sheet, const uint8_t *book, size_t book_len, const uint8_t *calls, size_t calls_len, uint8_t *out,

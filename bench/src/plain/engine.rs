@@ -137,7 +137,7 @@ fn check_sheet(book: &Checked, sheet: &[u8; 32]) -> Result<(), Refused> {
     Ok(())
 }
 
-/// Total and struck; the pairs go to `out`. A field with whose answer left out some field is empty has none.
+/// Total and struck; the pairs go to `out`. A field has none where, with its answer left out, some field is empty.
 pub fn alternatives(sheet: &[u8; 32], bytes: &[u8], out: &mut [u8]) -> Result<(u64, u64), Refused> {
     let book = check(bytes)?;
     check_sheet(&book, sheet)?;

@@ -1,4 +1,4 @@
--- Document 01, "Examples to hold": E1 to E8 as one table, and two of fields that stay empty in it. Assumes nothing.
+-- Document 01, "Examples to hold": E1 to E8 as one table, and two of document 02's M-101, in which fields stay empty. Assumes nothing.
 use Prim.Native.Nat.{ℕ}
 use mathlib.Core.Path.{_≡_}
 use mathlib.Core.List.{List, [], _∷_, _++_, map}

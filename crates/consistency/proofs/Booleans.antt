@@ -102,11 +102,11 @@ any-out (suc n) p t =
     (λ (u : T (anyBelow n p)). let r = any-out n p u in (r .0, le-trans (r .1) (le-suc n), r .2))
     (λ (u : T (p n)). (n, lt-suc-self n, u)) (or-out (anyBelow n p) (p n) t)
 
--- a test fails somewhere below n exactly when it does not hold at each number
 not-all : (x y z : Bool) → x ≡ not y → (x || not z) ≡ not (y && z)
 not-all x true z e = ap (_|| not z) e
 not-all x false z e = ap (_|| not z) e
 
+-- a test fails somewhere below n exactly when it does not hold at each number
 pub any-not : (n : ℕ) (p : ℕ → Bool) → anyBelow n (λ k. not (p k)) ≡ not (allBelow n p)
 any-not zero p = refl
 any-not (suc n) p = not-all (anyBelow n (λ k. not (p k))) (allBelow n p) (p n) (any-not n p)

@@ -13,8 +13,7 @@ use Rattle.format.specs.Format.{codeLimit, byte, bookOf}
 use Rattle.format.proofs.Storing.{sets-append}
 use Rattle.format.proofs.Verdict.{verdict-promise}
 use Rattle.consistency.specs.Counting.{howMany}
-use Rattle.consistency.specs.Consistency.{Subdomain, places, codes, answer, relax}
-use Rattle.consistency.specs.Largest.{largest}
+use Rattle.consistency.specs.Consistency.{places, codes, answer}
 use Rattle.consistency.specs.Emptiness.{noneEmpty}
 use Rattle.consistency.specs.Counts.{bit, answered, listed, total, Line, lines, lineBytes}
 use Rattle.consistency.proofs.Sums.{many-ext, those-ext}
@@ -26,7 +25,7 @@ use Rattle.sheet.specs.Lists.{stands, linesBelow, InMarks, Room, Passed}
 use Rattle.sheet.proofs.Openings.{fields-end, fields-few, fields-count, codes-at}
 use Rattle.sheet.proofs.Places.{answer-at}
 use Rattle.sheet.proofs.Upward.{many-more, many-same}
-use Rattle.sheet.proofs.Fields.{alternativesOf, fieldLines, totalBelow, bytesBelow, total-is, lines-are-below, length-bytes, SameBelow, total-more, bytes-more, open-same, unmended-same, total-rises}
+use Rattle.sheet.proofs.Fields.{alternativesOf, fieldLines, totalBelow, bytesBelow, lifted, total-is, lines-are-below, length-bytes, SameBelow, total-more, bytes-more, open-same, unmended-same, total-rises}
 
 module _ {s a M : List ℕ} {empty list fields : ℕ} (x : Passed s a M empty list fields) where
   -- an accepted book has few alternatives
@@ -76,16 +75,12 @@ module _ {s a M : List ℕ} {empty list fields : ℕ} (x : Passed s a M empty li
     pub open-lineless : answered a f ≡ false → SameBelow (bookOf s) a f
     open-lineless = open-same (bookOf s) a f
 
-    -- the largest subdomain with it lifted
-    abbrev lifted : Subdomain
-    lifted = largest (bookOf s) (relax a f)
-
     module _ {k : ℕ} (case-is : k ≡ ownCase a f) (e : answered a f ≡ true) where
       -- whether that leaves no field empty stands in the word
-      none-empty : noneEmpty (bookOf s) lifted ≡ not (bit empty k)
+      none-empty : noneEmpty (bookOf s) (lifted (bookOf s) a f) ≡ not (bit empty k)
       none-empty =
-          sym (Bool·not-not (noneEmpty (bookOf s) lifted))
-          ∙ ap not (sym (ap (bit empty) case-is ∙ x .empties f l (subst T (sym e) tt) ∙ some-or-none (bookOf s) lifted))
+          sym (Bool·not-not (noneEmpty (bookOf s) (lifted (bookOf s) a f)))
+          ∙ ap not (sym (ap (bit empty) case-is ∙ x .empties f l (subst T (sym e) tt) ∙ some-or-none (bookOf s) (lifted (bookOf s) a f)))
 
       -- where it leaves one, the field adds no line
       pub unmended-lineless : bit empty k ≡ true → SameBelow (bookOf s) a f
@@ -121,7 +116,7 @@ module _ {s a M : List ℕ} {empty list fields : ℕ} (x : Passed s a M empty li
         own-listed : (c : ℕ) → c < codes (bookOf s) f → stands M k f c ≡ listed (bookOf s) a f c
         own-listed c h =
             ap (λ (i : ℕ). stands M i f c) case-is ∙ x .own f c l (subst T (sym e) tt) h
-            ∙ sym (ap (lifted f c &&_) (none-empty case-is e ∙ ap not full) ∙ and-true (lifted f c))
+            ∙ sym (ap (lifted (bookOf s) a f f c &&_) (none-empty case-is e ∙ ap not full) ∙ and-true (lifted (bookOf s) a f f c))
 
         -- in its own case its alternatives stand
         stand-count : howMany n (stands M k f) ≡ alternativesOf (bookOf s) a f

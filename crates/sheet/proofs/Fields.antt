@@ -81,7 +81,7 @@ module _ (b : Book) (a : List ℕ) where
         }
 
     -- the largest subdomain with its answer lifted
-    abbrev lifted : Subdomain
+    abbrev pub lifted : Subdomain
     lifted = largest b (relax a f)
 
     -- nor does it where some field is empty then

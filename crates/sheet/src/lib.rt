@@ -224,8 +224,7 @@ impl Sheet {
                 );
                 let empty = filter::empty_cases(&marks, fields);
                 let total = lists::count_lines(book, places, &marks, empty, list, fields);
-                let needed = 2 * total;
-                if out.len() < needed {
+                if out.len() < 2 * total {
                     return refuse_list(self, Reason::Room, 0);
                 }
                 lists::write_lines(book, places, &marks, empty, list, fields, out);
