@@ -25,6 +25,9 @@ pub enum Call {
     Write { listing: Vec<u16> },
 }
 
+/// The calls that list alternatives.
+pub const LISTING: &[&str] = &["alternatives", "replay", "report"];
+
 impl Call {
     pub fn name(&self) -> &'static str {
         match self {
@@ -79,7 +82,7 @@ impl Call {
 
     /// Whether the call lists alternatives.
     pub fn lists(&self) -> bool {
-        matches!(self, Call::Alternatives | Call::Replay { .. } | Call::Report { .. })
+        LISTING.contains(&self.name())
     }
 
     /// How many elements of a lent buffer suffice by the header; none where the call writes no buffer.

@@ -155,16 +155,20 @@ impl Rooms {
         Some(pairs)
     }
 
-    /// Where the library's alternatives are not what its own plain filtering says. A sheet or a book that is refused has none.
+    /// The pairs that the library lists; none where it refuses.
+    fn pairs(&self, library: &dyn Library, case: &Case) -> Option<Vec<u8>> {
+        let lent = vec![0u8; sighting::PAIRS_BYTES].into();
+        let left = self.left(library, case, &Call::Alternatives, &lent, End::Back)?;
+        let written = left.out.bytes.get(..2 * left.cells[1] as usize)?;
+        (left.number == 0).then(|| written.to_vec())
+    }
+
+    /// Where the library's alternatives are not what its own plain filtering says. A book or a sheet that has to be refused has none.
     pub fn disagreement(&self, library: &dyn Library, case: &Case, reading: &Reading) -> Option<String> {
         let book = reading.as_ref().ok()?;
-        let lent = vec![0u8; sighting::PAIRS_BYTES].into();
-        let left = self.left(library, case, &Call::Alternatives, &lent, End::Back);
-        if left.as_ref().is_some_and(|left| left.number == 14) {
-            return None;
-        }
+        Desk::default().answer(&Call::Alternatives, reading, &case.sheet).result.ok()?;
         let expected = self.by_filtering(library, case, book);
-        let listed = left.and_then(|left| left.out.bytes.get(..2 * left.cells[1] as usize).map(<[u8]>::to_vec));
+        let listed = self.pairs(library, case);
         (listed.is_none() || listed != expected).then(|| {
             let (book, sheet) = (hex(&case.book), hex(&case.sheet));
             format!("book {book}\nsheet {sheet}\nby plain filtering {expected:?}\nlisted             {listed:?}")

@@ -2,7 +2,7 @@
 
 use std::collections::{BTreeMap, BTreeSet};
 
-use crate::calls::{Call, Sheet};
+use crate::calls::{Call, Sheet, LISTING};
 use crate::cases::{Case, BOUNDARIES};
 use crate::compare::{Asked, Trial};
 use crate::desk::{after, Desk, Reading};
@@ -83,11 +83,8 @@ const LENGTHS: [Length; 5] = [
     ("the wider list's", |lent, asked| lent == asked.wider),
 ];
 
-/// How often each of them has to be lent.
+/// How often each of them has to be lent in a run of 25,000 cases.
 const LENGTHS_ASKED: u64 = 200;
-
-/// The calls that list alternatives.
-const LISTING: [&str; 3] = ["alternatives", "replay", "report"];
 
 /// The sheet whose alternatives the call lists; none where it is refused.
 fn listed_sheet(case: &Case, reading: &Reading, call: &Call) -> Option<Sheet> {

@@ -1,4 +1,4 @@
-//! Document 01's examples, and books like them, for tests.
+//! Document 01's examples, and books like them.
 
 use crate::book::{Book, Table};
 
@@ -8,11 +8,13 @@ pub fn e1() -> Book {
     Book { counts: vec![2, 3, 3], tables: vec![first, second] }
 }
 
+/// Three fields of two codes, and each pair of fields differs.
 pub fn e4() -> Book {
     let pair = |f, g| Table { fields: vec![f, g], rows: vec![vec![0, 1], vec![1, 0]] };
     Book { counts: vec![2; 3], tables: vec![pair(0, 1), pair(0, 2), pair(1, 2)] }
 }
 
+/// Two fields of two codes, and a table on field 1 alone that has no rows.
 pub fn e6() -> Book {
     Book { counts: vec![2; 2], tables: vec![Table { fields: vec![1], rows: Vec::new() }] }
 }

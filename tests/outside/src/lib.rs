@@ -8,8 +8,7 @@ pub mod compare;
 pub mod coverage;
 pub mod desk;
 pub mod draft;
-#[cfg(test)]
-mod examples;
+pub mod examples;
 pub mod faults;
 pub mod filter;
 pub mod library;

@@ -1,6 +1,7 @@
 //! Seeded books in parts that no table ties to each other: what is empty in one part leaves the codes of the others.
 
 use crate::book::{Book, Table};
+use crate::examples::e4;
 use crate::random::{allow_a_reading, table_of, Random};
 
 /// Two to four parts, in some books with fields of no table beside them, up to 32 fields.
@@ -17,7 +18,7 @@ fn part(r: &mut Random) -> Book {
     match r.from(0, 7) {
         0..=2 => equal(r),
         3..=4 => related(r),
-        5 => differing(),
+        5 => e4(),
         6 => lone(r),
         _ => limited(r),
     }
@@ -41,12 +42,6 @@ fn related(r: &mut Random) -> Book {
     let mut book = Book { counts, tables };
     allow_a_reading(r, &mut book);
     book
-}
-
-/// Three fields of two codes, and each pair of fields differs: document 01's E4.
-fn differing() -> Book {
-    let pair = |f, g| Table { fields: vec![f, g], rows: vec![vec![0, 1], vec![1, 0]] };
-    Book { counts: vec![2; 3], tables: vec![pair(0, 1), pair(0, 2), pair(1, 2)] }
 }
 
 /// One field, and no table.

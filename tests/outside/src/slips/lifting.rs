@@ -9,12 +9,9 @@ use super::{
     Wrong::{Left, Part},
 };
 use crate::book::Book;
-use crate::calls::{self, Answer, Call};
+use crate::calls::{self, Answer, Call, LISTING};
 use crate::desk::Desk;
 use crate::filter::{alternatives, has_empty, largest, pass_cases, Alternatives, Filter, PassCase, Subdomain, NO_ANSWER};
-
-/// The calls that list alternatives.
-const LISTING: &[&str] = &["alternatives", "replay", "report"];
 
 const fn listing(what: &'static str, exchange: fn(&mut Desk)) -> Listed {
     (what, LISTING, Part(exchange))
