@@ -46,18 +46,17 @@ module _ (bytes s : List ℕ) (f : ℕ) (o : List ℕ) (n : f ≢ 255) (e : filt
       (condition2-filter bytes s f o e .bits (largest b (filterAnswers s f)) (largest-is b (filterAnswers s f)) g c l)
 
   -- where it is not 0, the field has one
-  number-some : (g : ℕ) → g < length (b .counts) → getD (filtered bytes s f o .buffer) g 0 ≢ 0 → (c : ℕ) × T (S g c)
+  number-some : (g : ℕ) → g < length (b .counts) → getD (filtered bytes s f o .buffer) g 0 ≢ 0 → (c : ℕ) × (c < codes b g) × T (S g c)
   number-some g l h =
       let m : getD (filtered bytes s f o .buffer) g 0 ≡ mask (codes b g) (S g) =
       filter-number bytes s f o e g l ∙ ap (λ (x : List ℕ). mask (codes b g) (largest b x g)) answers in
-      let r = any-out (codes b g) (S g) (mask-some (codes b g) (S g) (λ z. h (m ∙ z))) in
-      (r .0, r .2)
+      any-out (codes b g) (S g) (mask-some (codes b g) (S g) (λ z. h (m ∙ z)))
 
   -- where it is 0, it has none
   number-none : (g : ℕ) → g < length (b .counts) → getD (filtered bytes s f o .buffer) g 0 ≡ 0 → NoneEmpty b S → ⊥
   number-none g l z h =
       let r = h g l in
-      false-T (ap (λ (x : ℕ). bit x (r .0)) z ∙ zero-bit (r .0)) (shows g (r .0) l .1 (r .1))
+      false-T (ap (λ (x : ℕ). bit x (r .0)) z ∙ zero-bit (r .0)) (shows g (r .0) l .1 (r .2))
 
 -- ---- it agrees with the list
 
@@ -78,7 +77,7 @@ agreement bytes s o o′ e enough f l t =
       same = λ full c.
           let r = lines-are b s (record { field = f; code = c }) in
           let none : T (noneEmpty b S) =
-          none-in b S (largest-is b (relax s f) .fits .of-book) (λ g m. number-some bytes s f o′ n k g m (full g m)) in (
+          none-in b S (λ g m. number-some bytes s f o′ n k g m (full g m)) in (
             λ m. shows bytes s f o′ n k f c l .1 (and-left (S f c) (noneEmpty b S) (r .0 m .1)),
             λ d. r .1 (relaxable-are b s f .1 (l, t), and-in (S f c) (noneEmpty b S) (shows bytes s f o′ n k f c l .0 d) none),
           );

@@ -87,11 +87,10 @@ module _ (b : Book) (w : Within b) (a : Answers) (s : Sound b a) where
             mended = none-out b R (and-right (R f c) (noneEmpty b R) d);
           },
       λ h.
-          let x = cases .alone f (h .answered) in
-          let d = and-in (R f c) (noneEmpty b R) (h .has) (none-in b R (x .fits .of-book) (h .mended)) in
+          let d = and-in (R f c) (noneEmpty b R) (h .has) (none-in b R (h .mended)) in
           lines-are b (sheetOf a) l .1 (
             relaxable-are b (sheetOf a) f .1 (h .known, T-iff (answered-given b w a s f) .1 (h .answered)),
-            T-iff (listed-are b (sheetOf a) f x c) .1 d,
+            T-iff (listed-are b (sheetOf a) f (cases .alone f (h .answered)) c) .1 d,
           ),
     )
       where

@@ -7,7 +7,7 @@ use lib.Dec.{T}
 use Rattle.format.specs.Basics.{pick}
 use Rattle.format.specs.Format.{Book}
 use Rattle.consistency.specs.Counting.{anyBelow, howMany}
-use Rattle.consistency.specs.Consistency.{Subdomain, OfBook, codes}
+use Rattle.consistency.specs.Consistency.{Subdomain, codes}
 use Rattle.consistency.specs.Emptiness.{NoneEmpty, noneEmpty, someEmpty}
 use Rattle.consistency.specs.Counts.{codesIn, listedIn}
 use Rattle.consistency.proofs.Booleans.{all-in, all-out, any-in, any-out, any-not, all-ext, any-ext}
@@ -22,16 +22,14 @@ module _ (b : Book) (S : Subdomain) where
   -- what the test says
   pub none-out : T (noneEmpty b S) → NoneEmpty b S
   unfolding noneEmpty
-  none-out t f l =
-      let r = any-out (codes b f) (S f) (all-out (length (b .counts)) (λ f. anyBelow (codes b f) (S f)) t f l) in
-      (r .0, r .2)
+  none-out t f l = any-out (codes b f) (S f) (all-out (length (b .counts)) (λ f. anyBelow (codes b f) (S f)) t f l)
 
   -- and back
-  pub none-in : OfBook b S → NoneEmpty b S → T (noneEmpty b S)
+  pub none-in : NoneEmpty b S → T (noneEmpty b S)
   unfolding noneEmpty
-  none-in o h =
+  none-in h =
       all-in (length (b .counts)) (λ f. anyBelow (codes b f) (S f))
-      (λ f l. let r = h f l in any-in (codes b f) (S f) (r .0) (o f (r .0) (r .1)) (r .1))
+      (λ f l. let r = h f l in any-in (codes b f) (S f) (r .0) (r .1) (r .2))
 
   -- the field's codes in S, "Otherwise it has none"
   pub listed-many : (f : ℕ) → howMany (codes b f) (listedIn b S f) ≡ pick (noneEmpty b S) (codesIn b S f) 0

@@ -9,12 +9,12 @@ use Rattle.consistency.specs.Consistency.{Subdomain, codes}
 
 -- "no field at all is empty": S has a code of each field of the book
 abbrev pub NoneEmpty : Book → Subdomain → Type 0
-NoneEmpty b S = (f : ℕ) → f < length (b .counts) → (c : ℕ) × T (S f c)
+NoneEmpty b S = (f : ℕ) → f < length (b .counts) → (c : ℕ) × (c < codes b f) × T (S f c)
 
 -- the same as a test
 unfoldable pub noneEmpty : Book → Subdomain → Bool
 noneEmpty b S = allBelow (length (b .counts)) (λ f. anyBelow (codes b f) (S f))
 
--- "another field still empty": S has no code of some field of the book
+-- a field is "still empty": S has no code of some field of the book
 unfoldable pub someEmpty : Book → Subdomain → Bool
 someEmpty b S = anyBelow (length (b .counts)) (λ f. not (anyBelow (codes b f) (S f)))

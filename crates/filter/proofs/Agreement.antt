@@ -23,6 +23,7 @@ use Rattle.consistency.specs.Counts.{bit, outside, answered, relaxable, mask, s
 use Rattle.consistency.proofs.Booleans.{T-true, T-false, below-suc}
 use Rattle.consistency.proofs.Sums.{sum-ext, length-those, length-tabulate, tabulate-at}
 use Rattle.consistency.proofs.CodeCounts.{field-in, outside-ext}
+use Rattle.consistency.proofs.Limits.{many-few}
 use Rattle.consistency.proofs.Masks.{mask-bit, zero-bit}
 use Rattle.consistency.proofs.Largest.{largest-is}
 use Rattle.filter.specs.Words.{wordAt, domainOf}
@@ -53,6 +54,10 @@ those-at (suc n) p f l t = last (below-suc l) (λ m. those-at n p f m t)
           omega (arith, r .0, length-append (those n p) (pick (p n) (n ∷ []) [])),
           List·getD-append (those n p) (pick (p n) (n ∷ []) []) 0 (howMany f p) (r .0) ∙ r .1,
         )
+
+-- a word has a bit for each own case
+pub own-few : (a : List ℕ) (f : ℕ) → f < places → ownCase a f < 64
+own-few a f l = omega (arith, many-few f (answered a))
 
 module _ (b : Book) (a : List ℕ) (f : ℕ) (l : f < length (b .counts)) (t : T (answered a f)) where
   -- f's place among the answered fields

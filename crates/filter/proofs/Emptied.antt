@@ -20,7 +20,6 @@ use Rattle.consistency.specs.Emptiness.{someEmpty}
 use Rattle.consistency.specs.Counts.{bit, answered, mask}
 use Rattle.consistency.proofs.Booleans.{T-ext, and-left, any-in, any-out, any-not, any-ext}
 use Rattle.consistency.proofs.Masks.{mask-bit, zero-bit}
-use Rattle.consistency.proofs.Limits.{many-few}
 use Rattle.consistency.proofs.Largest.{largest-is}
 use Rattle.filter.specs.Words.{wordAt, domainOf}
 use Rattle.filter.specs.Cases.{casesOf, ownCase, marksOf}
@@ -28,7 +27,7 @@ use Rattle.filter.specs.Summaries.{marked, emptied, emptyCases}
 use Rattle.filter.proofs.Bits.{bit-and, bit-or, bit-without, low-bits, same-bits}
 use Rattle.filter.proofs.Words.{domain-bit}
 use Rattle.filter.proofs.Limits.{fields-few, codes-few}
-use Rattle.filter.proofs.Agreement.{case-in, case-relaxes, marks-domain}
+use Rattle.filter.proofs.Agreement.{own-few, case-in, case-relaxes, marks-domain}
 
 -- ---- the or of a field's words
 
@@ -123,6 +122,5 @@ module _ (s : List ℕ) (p : Promise s) where
       ≡ someEmpty (bookOf s) (largest (bookOf s) (relax a f))
   relaxed-empty a f l t =
       let known : f < length (bookOf s .counts) = omega (arith, counts-count s (p .whole)) in
-      let few : ownCase a f < 64 = omega (arith, many-few f (answered a), fields-few s p) in
-      case-empty (casesOf (bookOf s) a) (ownCase a f) few (case-in (bookOf s) a f known t)
+      case-empty (casesOf (bookOf s) a) (ownCase a f) (own-few a f (omega (arith, fields-few s p))) (case-in (bookOf s) a f known t)
       ∙ ap (λ (e : List ℕ). someEmpty (bookOf s) (largest (bookOf s) e)) (case-relaxes (bookOf s) a f known t)

@@ -21,6 +21,7 @@ use Rattle.consistency.proofs.Limits.{many-few, picked-few}
 use Rattle.consistency.proofs.EmptyFields.{some-or-none}
 use Rattle.filter.specs.Cases.{ownCase}
 use Rattle.filter.proofs.Limits.{codes-few}
+use Rattle.filter.proofs.Agreement.{own-few}
 use Rattle.sheet.specs.Lists.{stands, linesBelow, InMarks, Room, Passed}
 use Rattle.sheet.proofs.Openings.{fields-end, fields-few, fields-count, codes-at}
 use Rattle.sheet.proofs.Places.{answer-at}
@@ -67,9 +68,9 @@ module _ {s a M : List ℕ} {empty list fields : ℕ} (x : Passed s a M empty li
     pub same-case : {k : ℕ} → answered a f ≡ false → k ≡ ownCase a f → k ≡ ownCase a (f + 1)
     same-case e d = omega (arith, many-same (answered a) f e)
 
-    -- a word has a bit for each case
+    -- its own case has a bit
     pub case-few : {k : ℕ} → k ≡ ownCase a f → k < 64
-    case-few d = omega (arith, many-few f (answered a), fields-few s list fields (x .at))
+    case-few d = omega (arith, own-few a f (omega (arith, fields-few s list fields (x .at))))
 
     -- a field without an answer adds no line
     pub open-lineless : answered a f ≡ false → SameBelow (bookOf s) a f

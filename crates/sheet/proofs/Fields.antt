@@ -12,9 +12,10 @@ use Rattle.consistency.specs.Counting.{howMany, those, sumOver, joinOver}
 use Rattle.consistency.specs.Consistency.{Subdomain, codes, relax}
 use Rattle.consistency.specs.Largest.{largest}
 use Rattle.consistency.specs.Emptiness.{noneEmpty}
-use Rattle.consistency.specs.Counts.{answered, listed, total, Line, linesOf, lines, lineBytes}
-use Rattle.consistency.proofs.Sums.{length-those, length-join, sum-over-ext, those-and, many-and}
+use Rattle.consistency.specs.Counts.{codesIn, answered, listed, total, Line, linesOf, lines, lineBytes}
+use Rattle.consistency.proofs.Sums.{length-those, length-join, sum-over-ext, those-and}
 use Rattle.consistency.proofs.Lines.{length-line-bytes}
+use Rattle.consistency.proofs.EmptyFields.{listed-many}
 use Rattle.sheet.proofs.Upward.{those-more, those-same, rises, sum-append, join-append, line-bytes-append}
 
 -- ---- the answered fields below n
@@ -93,7 +94,7 @@ module _ (b : Book) (a : List ℕ) where
         }
       where
         none : alternativesOf f ≡ 0
-        none = many-and (codes b f) (lifted f) (noneEmpty b lifted) ∙ ap (λ (x : Bool). pick x (howMany (codes b f) (lifted f)) 0) d
+        none = listed-many b lifted f ∙ ap (λ (x : Bool). pick x (codesIn b lifted f) 0) d
 
         no-line : fieldLines f ≡ []
         no-line =
