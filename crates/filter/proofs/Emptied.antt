@@ -6,7 +6,7 @@ use Prim.Native.Nat.{ℕ, _+_, _≤_, _<_}
 use native.Mathlib.Nat.{le-trans}
 use native.Mathlib.Numerals.{add-one}
 use native.Mathlib.Omega.{arith}
-use borrow.Author.Tests.{lt-ltb}
+use borrow.Author.Tests.{lt-ltb, le-ltb}
 use lib.ListN.{length, getD}
 use lib.Bits.{bitAnd, bitOr, bitXor}
 use lib.Dec.{T, ltb}
@@ -14,7 +14,7 @@ use Rattle.format.specs.Format.{codeLimit, fieldCount, bookOf}
 use Rattle.format.specs.Promise.{Promise}
 use Rattle.format.proofs.Views.{counts-count}
 use Rattle.consistency.specs.Counting.{allBelow, anyBelow}
-use Rattle.consistency.specs.Consistency.{Subdomain, codes, relax}
+use Rattle.consistency.specs.Consistency.{Subdomain, places, codes, relax}
 use Rattle.consistency.specs.Largest.{largest}
 use Rattle.consistency.specs.Emptiness.{someEmpty}
 use Rattle.consistency.specs.Counts.{bit, answered, mask}
@@ -43,8 +43,13 @@ module _ (M : List ℕ) (f : ℕ) where
   marked-more w c l h k =
       bit-or w (wordAt M f c) k ∙ ap₂ _||_ (h k) (sym (domain-bit M k f c l)) ∙ ap (λ (n : ℕ). anyBelow n (domainOf M k f)) (sym (add-one c))
 
-  pub marked-all : (w c : ℕ) → MarkedBelow c w → c ≡ codeLimit → (k : ℕ) → bit w k ≡ marked M f k
-  marked-all w c h e k = h k ∙ ap (λ (n : ℕ). anyBelow n (domainOf M k f)) e
+  pub marked-all : (w c : ℕ) → f < places → MarkedBelow c w → c ≡ codeLimit → (k : ℕ) → bit w k ≡ marked M f k
+  marked-all w c l h e k =
+      h k ∙ ap (λ (n : ℕ). anyBelow n (domainOf M k f)) e ∙ sym (ap (_&& anyBelow codeLimit (domainOf M k f)) (lt-ltb f places l))
+
+  -- a field without a place
+  pub marked-nowhere : places ≤ f → (k : ℕ) → bit 0 k ≡ marked M f k
+  marked-nowhere l k = zero-bit k ∙ sym (ap (_&& anyBelow codeLimit (domainOf M k f)) (le-ltb f places l))
 
 -- ---- the and of these over the fields
 
@@ -103,7 +108,7 @@ module _ (s : List ℕ) (p : Promise s) where
   unfolding someEmpty
   case-empty cs k few l =
       empty-bit M (fieldCount s) k few ∙ ap (λ (n : ℕ). emptied M n k) (sym (counts-count s (p .whole)))
-      ∙ any-ext (length (bookOf s .counts)) (λ f. not (marked M f k)) (λ f. not (anyBelow (codes (bookOf s) f) (S f))) (λ f h. ap not (field f))
+      ∙ any-ext (length (bookOf s .counts)) (λ f. not (marked M f k)) (λ f. not (anyBelow (codes (bookOf s) f) (S f))) (λ f h. ap not (field f h))
     where
       M : List ℕ
       M = marksOf (bookOf s) cs
@@ -111,9 +116,11 @@ module _ (s : List ℕ) (p : Promise s) where
       S : Subdomain
       S = largest (bookOf s) (getD cs k [])
 
-      field : (f : ℕ) → marked (marksOf (bookOf s) cs) f k ≡ anyBelow (codes (bookOf s) f) (largest (bookOf s) (getD cs k []) f)
-      field f =
-          any-ext codeLimit (domainOf M k f) (S f) (λ c h. marks-domain s p cs k l f c)
+      field : (f : ℕ) → f < length (bookOf s .counts)
+          → marked (marksOf (bookOf s) cs) f k ≡ anyBelow (codes (bookOf s) f) (largest (bookOf s) (getD cs k []) f)
+      field f l′ =
+          ap (_&& anyBelow codeLimit (domainOf M k f)) (lt-ltb f places (omega (arith, counts-count s (p .whole), fields-few s p)))
+          ∙ any-ext codeLimit (domainOf M k f) (S f) (λ c h. marks-domain s p cs k l f c)
           ∙ any-below codeLimit (codes (bookOf s) f) (S f) (codes-few s p f) (λ c t. largest-is (bookOf s) (getD cs k []) .fits .of-book f c t)
 
   -- in the own case of an answered field: with it lifted

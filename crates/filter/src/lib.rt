@@ -1,10 +1,8 @@
 // The filter over an accepted book: the one pass for all cases, plain filtering by the same engine with one case, and the cases of a pass in
 // which some field is empty.
 ghost use mathlib.Core.Path.{_≡_};
-ghost use Prim.Native.Nat.{_≤_};
 ghost use Rattle.format.specs.Format.{bookOf};
 ghost use Rattle.book.specs.View.{Viewed};
-ghost use Rattle.consistency.specs.Consistency.{places};
 ghost use Rattle.consistency.specs.Counts.{struck};
 ghost use Rattle.filter.specs.Cases.{casesOf, marksOf, plainOf};
 ghost use Rattle.filter.specs.Summaries.{emptyCases};
@@ -83,7 +81,6 @@ pub fn plain(
 
 // The cases in which some field of the book is empty, as a word: bit k for case k.
 pub fn empty_cases(marks: &[u64; 1024], fields: usize) -> u64
-    requires { ⌜ fields ≤ places ⌝ }
     ensures { λ r. ⌜ r ≡ emptyCases (now (marks .entry)) fields ⌝ }
 {
     let mut full = EVERY_CASE;

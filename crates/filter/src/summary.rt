@@ -1,15 +1,16 @@
 // What the marks of a pass say of each case as a whole.
 ghost use mathlib.Core.Path.{_≡_};
-ghost use Prim.Native.Nat.{ℕ, _<_};
-ghost use Rattle.consistency.specs.Consistency.{places};
+ghost use Prim.Native.Nat.{ℕ};
 ghost use Rattle.consistency.specs.Counts.{bit};
 ghost use Rattle.filter.specs.Summaries.{marked};
 
-// The cases in which field f has a mark.
+// The cases in which field f has a mark. A field that has no place on a sheet has none.
 pub(crate) fn marked_cases(marks: &[u64; 1024], f: usize) -> u64
-    requires { ⌜ f < places ⌝ }
     ensures { λ r. ⌜ ((k : ℕ) → bit r k ≡ marked (now (marks .entry)) f k) ⌝ }
 {
+    if 32 <= f {
+        return 0;
+    }
     let mut cases: u64 = 0;
     for c in 0..32 {
         cases = cases | marks[f * 32 + c];

@@ -1,6 +1,7 @@
 -- `empty_cases` meets its contract. The invariant: the cases in which each field below f has a mark. Assumes nothing.
 use Prim.Native.Nat.{_≤_, _-_}
 use Rattle.filter.proofs.Emptied.{FullBelow, full-none, full-more, full-done}
+use borrow.Author.Needs.{needs}
 use native.Mathlib.Omega.{arith}
 use Rattle.filter.proofs.empty_cases.Statement.{statement}
 use Rattle.filter.proofs.empty_cases.Tie as tie
@@ -15,10 +16,10 @@ loop-holds : tie.Need-loop-holds Inv-loop μ-loop
 loop-holds c = (omega arith, full-none (c .args .marks .now))
 
 marked-cases-requires : tie.Need-marked-cases-requires Inv-loop μ-loop
-marked-cases-requires c κs = omega (arith, (c .before .before .pre))
+marked-cases-requires c κs = search needs
 
 add-f : tie.Need-add-f Inv-loop μ-loop
-add-f c = omega (arith, (c .before .before .before .pre))
+add-f c = omega arith
 
 loop-less : tie.Need-loop-less Inv-loop μ-loop
 loop-less c = omega arith

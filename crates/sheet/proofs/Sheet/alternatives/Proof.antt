@@ -1,6 +1,6 @@
 -- `Sheet::alternatives` meets its contract: each way through its tests. Assumes nothing.
 use mathlib.Core.Path.{_∙_}
-use Rattle.sheet.proofs.Openings.{fields-few, opens-viewed, opens-ready, opens-turned}
+use Rattle.sheet.proofs.Openings.{opens-viewed, opens-ready, opens-turned}
 use Rattle.sheet.proofs.OwnCases.{passed}
 use Rattle.sheet.proofs.ListCases.{alternatives-turned, alternatives-18, alternatives-done}
 use borrow.Author.Needs.{needs}
@@ -24,9 +24,7 @@ one-pass-requires : tie.Need-one-pass-requires
 one-pass-requires c κs = opens-viewed _ _ _ (c .before .before .before .before .before .«open» .ensures) _ _ _ _ (c .before .before .before .opened2 .given .1)
 
 empty-cases-requires : tie.Need-empty-cases-requires
-empty-cases-requires c κs =
-    let o = opens-ready _ _ _ (c .before .before .before .before .before .before .before .«open» .ensures) _ _ _ _ (c .before .before .before .before .before .opened2 .given .1) in
-    fields-few _ _ _ (o .at)
+empty-cases-requires c κs = search needs
 
 count-lines-requires : tie.Need-count-lines-requires
 count-lines-requires c κs =
