@@ -4,7 +4,7 @@ use mathlib.Core.List.{List, [], _∷_}
 use Prim.Native.Nat.{ℕ, _≤_, _<_}
 use native.Mathlib.Omega.{arith}
 use lib.ListN.{length}
-use Rattle.format.specs.Format.{rowLimit, tableLimit, listPlace, fieldCount, tableCount, rowTotal, differentTotal, tablesAt, bookOf}
+use Rattle.format.specs.Format.{rowLimit, listPlace, fieldCount, tableCount, rowTotal, differentTotal, tablesAt, bookOf}
 use Rattle.format.specs.Promise.{place}
 use Rattle.format.specs.Reading.{Outcome, accepted, refused, Verdict, pass, fail, next, stop, trailerVerdict, listTest, tableStep, tablesStep, lastTest, verdict, outcome, reading, checking}
 use Rattle.format.proofs.Views.{counts-count, tables-count}
@@ -14,7 +14,8 @@ use Rattle.format.proofs.TableTests.{table-good}
 use Rattle.format.proofs.AllTables.{tables-good}
 use Rattle.format.proofs.Verdict.{verdict-promise}
 use Rattle.format.proofs.Accepted.{checked-verdict}
-use Rattle.book.specs.Bounds.{BodyFits}
+use Rattle.book.specs.Bounds.{BodyFits, TablesFit}
+use Rattle.book.proofs.TablesFit.{tables-fit}
 use Rattle.book.specs.View.{Viewed}
 
 module _ (s : List ℕ) where
@@ -104,12 +105,12 @@ module _ (s : List ℕ) where
           rows-is = cc counts-are;
         }
 
-    -- the tables of an accepted book end within the bytes
-    pub read-fits : (tables ≤ tableLimit) × (place s tables ≤ length s)
+    -- the tables of an accepted book lie within the bytes and have few rows
+    pub read-fits : TablesFit s tables
     read-fits =
         let p = verdict-promise s passed in
         let et : tables ≡ tableCount s = cc counts-are in
-        rw et (p .tables-few, omega (arith, p .last, p .whole))
+        rw et (tables-fit s p)
 
     -- its counts, with the different rows of its tables
     pub read-good : (different : ℕ) → different ≡ differentTotal (tablesAt s 0 tables)

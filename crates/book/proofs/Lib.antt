@@ -1,5 +1,9 @@
 pub mod Turns
+pub mod Gathered
+pub mod Pairs
+pub mod Following
 pub mod Rows
+pub mod TablesFit
 pub mod Answers
 pub mod Injective
 pub mod Walking

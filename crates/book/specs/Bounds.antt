@@ -1,9 +1,12 @@
 -- Where the reader's inner functions may look: bounds of places in the bytes. Assumes nothing.
-use Prim.Native.Nat.{ℕ, _+_, _≤_, _<_}
+use Prim.Native.Nat.{ℕ, _+_, _*_, _≤_, _<_}
 use mathlib.Core.List.{List}
 use lib.ListN.{length}
+use lib.Dec.{ltb}
+use Rattle.format.specs.Basics.{pick}
 use mathlib.Core.Path.{_≡_}
-use Rattle.format.specs.Format.{byte, listPlace, fieldCount, arityAt, firstRow, arityLimit, rowLimit, lengthLimit}
+use Rattle.format.specs.Format.{byte, listPlace, fieldCount, arityAt, rowsOf, firstRow, arityLimit, tableLimit, rowLimit, lengthLimit}
+use Rattle.format.specs.Promise.{place}
 
 -- the trailer's place of the field list and number of fields, which lie within the bytes, and few bytes
 pub record BodyFits (s : List ℕ) (list fields : ℕ) : Type 0 where
@@ -29,3 +32,27 @@ pub record CodesFit (s : List ℕ) (list first a start end : ℕ) : Type 0 where
   pub known : (j : ℕ) → j < a → list + byte s (first + j) < length s
   pub ordered : start ≤ end
   pub within : end ≤ length s
+
+-- the bits of a word that a codes take, from the highest byte on
+abbrev pub mask : ℕ → ℕ
+mask a = pick (ltb a 2) 4278190080 (pick (ltb a 3) 4294901760 (pick (ltb a 4) 4294967040 4294967295))
+
+-- the row of a codes at p and what fills up its four bytes lie within the bytes
+pub record RowFits (s : List ℕ) (a p : ℕ) : Type 0 where
+  pub some : 1 ≤ a
+  pub few : a ≤ arityLimit
+  pub within : p + arityLimit ≤ length s
+
+-- n rows of a codes from p on lie within the bytes, as does what fills up the last, and each code is a byte
+pub record RowsFit (s : List ℕ) (a p n : ℕ) : Type 0 where
+  pub some : 1 ≤ a
+  pub few : a ≤ arityLimit
+  pub within : p + n * a + arityLimit ≤ length s
+  pub codes : (r j : ℕ) → r < n → j < a → byte s (p + r * a + j) < 256
+
+-- the tables end within the bytes, and each has few rows
+pub record TablesFit (s : List ℕ) (tables : ℕ) : Type 0 where
+  pub few : tables ≤ tableLimit
+  pub within : place s tables ≤ length s
+  pub rows : (i : ℕ) → i < tables → RowsFit s (arityAt s (place s i)) (firstRow s (place s i)) (rowsOf s (place s i))
+  pub rows-few : (i : ℕ) → i < tables → rowsOf s (place s i) ≤ rowLimit

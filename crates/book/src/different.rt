@@ -1,40 +1,57 @@
-// How many different rows a book has, each counted within its table.
+// How many different rows a book has, each counted within its table. Rows are compared as words, a word at a time.
 ghost use mathlib.Core.Path.{_≡_};
-ghost use Prim.Native.Nat.{_+_, _*_, _≤_};
+ghost use mathlib.Core.List.{map};
+ghost use Prim.Native.Nat.{_≤_};
 ghost use lib.ListN.{length};
-ghost use Rattle.format.specs.Format.{tableLimit, sameCodes, isIn, different, differentTotal, part, rowsAt, tablesAt};
-ghost use Rattle.format.specs.Promise.{place};
+ghost use Rattle.format.specs.Format.{rowLimit, different, differentTotal, part, rowsAt, tablesAt};
+ghost use Rattle.words.specs.Sorting.{isAmong};
+ghost use Rattle.words.specs.RowWord.{rowWord};
+ghost use Rattle.book.specs.Bounds.{mask, RowFits, RowsFit, TablesFit};
+ghost use Rattle.book.specs.Ordering.{OrderOf};
 use super::bytes::byte;
 use super::bytes::pair;
 
-// Whether the rows of arity codes at p and at q are the same. Rows are compared nowhere else.
-fn same_row(book: &[u8], p: usize, q: usize, arity: usize) -> bool
-    requires { ⌜ (p + arity ≤ length (now book)) × (q + arity ≤ length (now book)) ⌝ }
-    ensures { λ r. ⌜ r ≡ sameCodes (part (now (book .entry)) p arity) (part (now (book .entry)) q arity) ⌝ }
+// The words of up to so many rows are held against each other: sorting them takes longer. Measured.
+const FEW: usize = 64;
+
+// Up to so many rows are compared where they stand: gathering them takes longer. Measured.
+const SMALL: usize = 16;
+
+// The bits of a word that arity codes take.
+fn row_mask(arity: usize) -> usize
+    ensures { λ r. ⌜ r ≡ mask arity ⌝ }
 {
-    let mut x = p;
-    let mut y = q;
-    let mut left = arity;
-    while 0 < left {
-        if book[x] != book[y] {
-            return false;
-        }
-        x += 1;
-        y += 1;
-        left -= 1;
+    if arity < 2 {
+        return 0xFF000000;
     }
-    true
+    if arity < 3 {
+        return 0xFFFF0000;
+    }
+    if arity < 4 {
+        return 0xFFFFFF00;
+    }
+    0xFFFFFFFF
 }
 
-// Whether the row of arity codes at p is one of the count rows from q on.
-fn is_repeated(book: &[u8], p: usize, q: usize, arity: usize, count: usize) -> bool
-    requires { ⌜ (p + arity ≤ length (now book)) × (q + count * arity ≤ length (now book)) ⌝ }
-    ensures { λ r. ⌜ r ≡ isIn (part (now (book .entry)) p arity) (rowsAt (now (book .entry)) arity q count) ⌝ }
+// The row of arity codes at p as a word: the first code in the highest byte, zeros behind the last. Four bytes are read in any case,
+// at once, and those behind the row cleared: a book goes on behind its tables.
+fn row_word(book: &[u8], p: usize, arity: usize) -> u32
+    requires { ⌜ RowFits (now book) arity p ⌝ }
+    ensures { λ r. ⌜ r ≡ rowWord (part (now (book .entry)) p arity) ⌝ }
+{
+    let word = byte(book, p) * 16777216 + byte(book, p + 1) * 65536 + byte(book, p + 2) * 256 + byte(book, p + 3);
+    (word & row_mask(arity)) as u32
+}
+
+// Whether a word is that of one of the count rows of arity codes from q on.
+fn is_among(book: &[u8], word: u32, q: usize, arity: usize, count: usize) -> bool
+    requires { ⌜ RowsFit (now book) arity q count ⌝ }
+    ensures { λ r. ⌜ r ≡ isAmong word (map rowWord (rowsAt (now (book .entry)) arity q count)) ⌝ }
 {
     let mut y = q;
     let mut left = count;
     while 0 < left {
-        if same_row(book, p, y, arity) {
+        if word == row_word(book, y, arity) {
             return true;
         }
         y += arity;
@@ -45,27 +62,138 @@ fn is_repeated(book: &[u8], p: usize, q: usize, arity: usize, count: usize) -> b
 
 // The number of different rows among the count rows of arity codes from start on. A repeated row counts where it stands last, so
 // that each row is held against the later ones alone.
-fn different_rows(book: &[u8], start: usize, arity: usize, count: usize) -> usize
-    requires { ⌜ start + count * arity ≤ length (now book) ⌝ }
+fn different_pairs(book: &[u8], start: usize, arity: usize, count: usize) -> usize
+    requires { ⌜ RowsFit (now book) arity start count ⌝ }
     ensures { λ r. ⌜ (r ≡ different (rowsAt (now (book .entry)) arity start count)) × (r ≤ count) ⌝ }
 {
     let mut found = 0;
     let mut next = start;
     let mut left = count;
     while 0 < left {
-        let row = next;
+        let word = row_word(book, next, arity);
         next += arity;
         left -= 1;
-        if !is_repeated(book, row, next, arity, left) {
+        if !is_among(book, word, next, arity, left) {
             found += 1;
         }
     }
     found
 }
 
-// The number of different rows of all tables, which end within the bytes.
+// Fills the list with the words of the rows of arity codes from start on.
+fn gather(book: &[u8], start: usize, arity: usize, list: &mut [u32])
+    requires { ⌜ RowsFit (now book) arity start (length (now list)) ⌝ }
+    ensures { λ _. ⌜ now (list .exit) ≡ map rowWord (rowsAt (now (book .entry)) arity start (length (now (list .entry)))) ⌝ }
+{
+    let mut at = start;
+    let mut i = 0;
+    while i < list.len() {
+        list[i] = row_word(book, at, arity);
+        at += arity;
+        i += 1;
+    }
+}
+
+// How the rows of a table stand: with so many different ones where no word is less than the one before it, or with one that is.
+pub(crate) enum Order {
+    Rises(usize),
+    Falls,
+}
+
+// How the count rows of arity codes from start on stand. Rows that were written in order are counted on the way, without an array.
+fn in_order(book: &[u8], start: usize, arity: usize, count: usize) -> Order
+    requires { ⌜ RowsFit (now book) arity start count ⌝ }
+    ensures { λ r. ⌜ OrderOf r (map rowWord (rowsAt (now (book .entry)) arity start count)) ⌝ }
+{
+    if count < 1 {
+        return Order::Rises(0);
+    }
+    let mut before = row_word(book, start, arity);
+    let mut at = start + arity;
+    let mut found = 1;
+    let mut i = 1;
+    while i < count {
+        let word = row_word(book, at, arity);
+        if word < before {
+            return Order::Falls;
+        }
+        if before < word {
+            found += 1;
+            before = word;
+            at += arity;
+            i += 1;
+        } else {
+            at += arity;
+            i += 1;
+        }
+    }
+    Order::Rises(found)
+}
+
+// The number of different rows of arity codes from start on, as many as the list is long: it is lent for their words, which are held
+// against each other.
+fn compared(book: &[u8], start: usize, arity: usize, list: &mut [u32]) -> usize
+    requires { ⌜ RowsFit (now book) arity start (length (now list)) ⌝ }
+    ensures { λ r. ⌜ (r ≡ different (rowsAt (now (book .entry)) arity start (length (now (list .entry)))))
+        × (r ≤ length (now (list .entry))) ⌝ }
+{
+    gather(book, start, arity, list);
+    words::count_distinct(list)
+}
+
+// The same, by sorting: equal words then stand side by side.
+fn sorted(book: &[u8], start: usize, arity: usize, list: &mut [u32]) -> usize
+    requires { ⌜ RowsFit (now book) arity start (length (now list)) × (length (now list) ≤ rowLimit) ⌝ }
+    ensures { λ r. ⌜ (r ≡ different (rowsAt (now (book .entry)) arity start (length (now (list .entry)))))
+        × (r ≤ length (now (list .entry))) ⌝ }
+{
+    gather(book, start, arity, list);
+    words::sort(list);
+    words::count_runs(list)
+}
+
+// The number of different rows among the count rows of arity codes from start on, at most FEW. Its array is small, and soon cleared.
+fn different_few(book: &[u8], start: usize, arity: usize, count: usize) -> usize
+    requires { ⌜ RowsFit (now book) arity start count × (count ≤ 64) ⌝ }
+    ensures { λ r. ⌜ (r ≡ different (rowsAt (now (book .entry)) arity start count)) × (r ≤ count) ⌝ }
+{
+    let mut list = [0u32; FEW];
+    compared(book, start, arity, &mut list[..count])
+}
+
+// The same of count rows.
+fn different_many(book: &[u8], start: usize, arity: usize, count: usize) -> usize
+    requires { ⌜ RowsFit (now book) arity start count × (count ≤ rowLimit) ⌝ }
+    ensures { λ r. ⌜ (r ≡ different (rowsAt (now (book .entry)) arity start count)) × (r ≤ count) ⌝ }
+{
+    let mut list = [0u32; words::MOST];
+    sorted(book, start, arity, &mut list[..count])
+}
+
+// The same, by what is fastest for such rows.
+fn different_rows(book: &[u8], start: usize, arity: usize, count: usize) -> usize
+    requires { ⌜ RowsFit (now book) arity start count × (count ≤ rowLimit) ⌝ }
+    ensures { λ r. ⌜ (r ≡ different (rowsAt (now (book .entry)) arity start count)) × (r ≤ count) ⌝ }
+{
+    if count <= SMALL {
+        return different_pairs(book, start, arity, count);
+    }
+    let order = in_order(book, start, arity, count);
+    match order {
+        Order::Rises(found) => found,
+        Order::Falls => {
+            if count <= FEW {
+                different_few(book, start, arity, count)
+            } else {
+                different_many(book, start, arity, count)
+            }
+        }
+    }
+}
+
+// The number of different rows of all tables.
 pub(crate) fn different_total(book: &[u8], tables: usize) -> usize
-    requires { ⌜ (tables ≤ tableLimit) × (place (now book) tables ≤ length (now book)) ⌝ }
+    requires { ⌜ TablesFit (now book) tables ⌝ }
     ensures { λ r. ⌜ r ≡ differentTotal (tablesAt (now (book .entry)) 0 tables) ⌝ }
 {
     let mut at = 0;

@@ -1,0 +1,64 @@
+-- Rows held against those behind them: n rows from p on, the first and those behind it. Assumes nothing.
+use mathlib.Core.Path.{_≡_, refl, sym, ap, _∙_}
+use mathlib.Core.Bool.{Bool, true, false}
+use mathlib.Core.List.{List, [], _∷_, map}
+use Prim.Native.Nat.{ℕ, zero, suc, _+_, _-_, _*_, _≤_, _<_}
+use native.Mathlib.Nat.{suc-mul, zero-mul}
+use native.Mathlib.Omega.{arith}
+use borrow.Author.Tests.{eq-eqb, ne-eqb}
+use Rattle.format.specs.Format.{part, rowsAt}
+use Rattle.words.specs.Sorting.{isAmong, distinct}
+use Rattle.words.specs.RowWord.{rowWord}
+use Rattle.book.specs.Bounds.{RowFits, RowsFit}
+use Rattle.book.proofs.Gathered.{row-fits}
+
+-- the codes of n rows are those of one row less, and of a row
+one-less : (n a : ℕ) → 0 < n → n * a ≡ (n - 1) * a + a
+one-less zero a h = absurd (omega arith)
+one-less (suc n) a h = let d : suc n - 1 ≡ n = omega arith in rw d (suc-mul n a)
+
+module _ (s : List ℕ) where
+  module _ (a p n : ℕ) (f : RowsFit s a p n) where
+    pub row-first : 0 < n → RowFits s a p
+    row-first h = row-fits s a p n f 0 p h (omega (arith, zero-mul a))
+
+    -- the rows behind the first
+    pub rest-fits : 0 < n → RowsFit s a (p + a) (n - 1)
+    rest-fits h =
+        record {
+          some = f .some;
+          few = f .few;
+          within = omega (arith, f .within, one-less n a h);
+          codes = λ r j k l. let d : p + a + r * a + j ≡ p + suc r * a + j = omega (arith, suc-mul r a) in rw d (f .codes (suc r) j (omega arith) l);
+        }
+
+  module _ (a p n : ℕ) where
+    words-cons : 0 < n → map rowWord (rowsAt s a p n) ≡ rowWord (part s p a) ∷ map rowWord (rowsAt s a (p + a) (n - 1))
+    unfolding rowsAt
+    words-cons h = let e : n ≡ suc (n - 1) = omega arith in ap (λ (k : ℕ). map rowWord (rowsAt s a p k)) e
+
+    words-none : n ≤ 0 → map rowWord (rowsAt s a p n) ≡ []
+    unfolding rowsAt
+    words-none h = let e : n ≡ 0 = omega arith in ap (λ (k : ℕ). map rowWord (rowsAt s a p k)) e
+
+    module _ (w x : ℕ) (h : 0 < n) (e : x ≡ rowWord (part s p a)) where
+      pub among-on : (w ≡ x → ⊥) → isAmong w (map rowWord (rowsAt s a (p + a) (n - 1))) ≡ isAmong w (map rowWord (rowsAt s a p n))
+      among-on d = rw (words-cons h, sym e, ne-eqb w x d)
+
+      pub among-yes : w ≡ x → true ≡ isAmong w (map rowWord (rowsAt s a p n))
+      among-yes d = rw (words-cons h, sym e, eq-eqb w x d)
+
+    pub among-end : (w : ℕ) → n ≤ 0 → false ≡ isAmong w (map rowWord (rowsAt s a p n))
+    among-end w h = rw (words-none h)
+
+    module _ (w : ℕ) (h : 0 < n) (e : w ≡ rowWord (part s p a)) (b : Bool) (g : b ≡ isAmong w (map rowWord (rowsAt s a (p + a) (n - 1)))) where
+      -- the first stands again behind it, and counts there; or it does not
+      pub distinct-old : b ≡ true → distinct (map rowWord (rowsAt s a p n)) ≡ distinct (map rowWord (rowsAt s a (p + a) (n - 1)))
+      distinct-old d = rw (words-cons h, sym e, sym g ∙ d) (omega arith)
+
+      pub distinct-new : b ≡ false → distinct (map rowWord (rowsAt s a p n)) ≡ 1 + distinct (map rowWord (rowsAt s a (p + a) (n - 1)))
+      distinct-new d = rw (words-cons h, sym e, sym g ∙ d)
+
+    pub distinct-end : n ≤ 0 → distinct (map rowWord (rowsAt s a p n)) ≡ 0
+    distinct-end h = rw (words-none h)
+

@@ -1,0 +1,115 @@
+-- Two rows of one table are equal exactly when their words are, and different rows are different words. Assumes nothing.
+use mathlib.Core.Path.{_≡_, refl, sym, ap, _∙_}
+use mathlib.Core.Logic.{_⊎_, inl, inr, ⊎-elim, _↔_}
+use mathlib.Core.Bool.{Bool, true, false}
+use mathlib.Core.List.{List, [], _∷_, map}
+use Prim.Native.Nat.{ℕ, zero, suc, _+_, _*_, _/_, _%_, _≤_, _<_}
+use native.Mathlib.Omega.{arith}
+use lib.ListN.{length, getD, List·getD-eq-default}
+use lib.Seq.{ext-getD, getD-take, length-take-le}
+use lib.Dec.{eqb}
+use borrow.Author.Tests.{eq-eqb, ne-eqb, eqb-true}
+use Rattle.format.specs.Basics.{All}
+use Rattle.format.specs.Format.{Table, TableOk, RowOk, codeLimit, sameCodes, isIn, different}
+use Rattle.format.proofs.Elements.{all-at, all-or}
+use Rattle.format.proofs.Picks.{both-true}
+use Rattle.words.specs.Sorting.{isAmong, distinct}
+use Rattle.words.specs.RowWord.{rowWord, RowOf}
+use Rattle.words.proofs.Counting.{either-eq}
+
+-- ---- equal rows
+
+-- the four bytes of a word
+digits : (a b c d a′ b′ c′ d′ : ℕ) → b < 256 → c < 256 → d < 256 → b′ < 256 → c′ < 256 → d′ < 256
+    → a * 16777216 + b * 65536 + c * 256 + d ≡ a′ * 16777216 + b′ * 65536 + c′ * 256 + d′
+    → (a ≡ a′) × (b ≡ b′) × (c ≡ c′) × (d ≡ d′)
+digits a b c d a′ b′ c′ d′ hb hc hd hb′ hc′ hd′ e =
+    let p : a ≡ a′ = omega arith in
+    let q : b ≡ b′ = omega arith in
+    let r : c ≡ c′ = omega arith in
+    (p, q, r, omega arith)
+
+-- a code, or the zero behind the last
+code-small : (n : ℕ) (r : List ℕ) → RowOf n r → (k : ℕ) → getD r k 0 < 256
+code-small n r w k = all-or (λ c. c < 256) r 0 (omega arith) (w .bytes) k
+
+module _ (n : ℕ) (few : n ≤ 4) (r q : List ℕ) (w : RowOf n r) (v : RowOf n q) where
+  words-rows : rowWord r ≡ rowWord q → r ≡ q
+  words-rows e = ext-getD 0 r q (w .long ∙ sym (v .long)) (λ k h. at k h)
+    where
+      d : (getD r 0 0 ≡ getD q 0 0) × (getD r 1 0 ≡ getD q 1 0) × (getD r 2 0 ≡ getD q 2 0) × (getD r 3 0 ≡ getD q 3 0)
+      d = digits (getD r 0 0) (getD r 1 0) (getD r 2 0) (getD r 3 0) (getD q 0 0) (getD q 1 0) (getD q 2 0) (getD q 3 0)
+          (code-small n r w 1) (code-small n r w 2) (code-small n r w 3) (code-small n q v 1) (code-small n q v 2) (code-small n q v 3) e
+
+      at : (k : ℕ) → k < length r → getD r k 0 ≡ getD q k 0
+      at zero h = d .0
+      at (suc zero) h = d .1
+      at (suc (suc zero)) h = d .2
+      at (suc (suc (suc zero))) h = d .3
+      at (suc (suc (suc (suc k)))) h = absurd (omega (arith, w .long))
+
+  -- "two rows of one table are equal exactly when their words are"
+  pub equal-rows : (r ≡ q) ↔ (rowWord r ≡ rowWord q)
+  equal-rows = (λ e. ap rowWord e, words-rows)
+
+same-codes : (r q : List ℕ) → sameCodes r q ≡ true → r ≡ q
+same-codes [] [] e = refl
+same-codes [] (d ∷ q) e = cc
+same-codes (c ∷ r) [] e = cc
+same-codes (c ∷ r) (d ∷ q) e =
+    let b = both-true (eqb c d) (sameCodes r q) e in
+    let x = eqb-true c d (b .0) in
+    let y = same-codes r q (b .1) in
+    cc
+
+codes-same : (r : List ℕ) → sameCodes r r ≡ true
+codes-same [] = refl
+codes-same (c ∷ r) = rw (eq-eqb c c refl) (codes-same r)
+
+module _ (n : ℕ) (few : n ≤ 4) where
+  -- comparing rows is comparing words
+  pub compare-words : (r q : List ℕ) → RowOf n r → RowOf n q → sameCodes r q ≡ eqb (rowWord r) (rowWord q)
+  compare-words r q w v =
+      either-eq (rowWord r) (rowWord q)
+      (λ e. rw (words-rows n few r q w v e, eq-eqb (rowWord q) (rowWord q) refl) (codes-same q))
+      (λ d. other d (sameCodes r q) refl ∙ sym (ne-eqb (rowWord r) (rowWord q) d))
+    where
+      other : (rowWord r ≡ rowWord q → ⊥) → (b : Bool) → sameCodes r q ≡ b → b ≡ false
+      other d true e = absurd (d (ap rowWord (same-codes r q e)))
+      other d false e = refl
+
+  -- ---- different rows
+
+  among-words : (r : List ℕ) (rows : List (List ℕ)) → RowOf n r → All (RowOf n) rows → isIn r rows ≡ isAmong (rowWord r) (map rowWord rows)
+  among-words r [] w v = refl
+  among-words r (q ∷ rows) w v = rw (compare-words r q w (v .0), among-words r rows w (v .1))
+
+  -- a table has as many different rows as different words
+  pub different-words : (rows : List (List ℕ)) → All (RowOf n) rows → different rows ≡ distinct (map rowWord rows)
+  different-words [] v = refl
+  different-words (r ∷ rows) v = rw (among-words r rows (v .0) (v .1), different-words rows (v .1))
+
+-- ---- in document 01's terms: the rows of a table of a book
+
+-- a row of a table whose fields have at most 256 codes
+table-row : (counts fields r : List ℕ) → All (λ c. (1 ≤ c) × (c ≤ codeLimit)) counts → RowOk counts fields r → RowOf (length fields) r
+table-row counts [] [] h w = record { long = refl; bytes = tt }
+table-row counts [] (c ∷ r) h w = absurd w
+table-row counts (f ∷ fs) [] h w = absurd w
+table-row counts (f ∷ fs) (c ∷ r) h w =
+    let v = table-row counts fs r h (w .1) in
+    record { long = ap suc (v .long); bytes = (omega (arith, w .0, count-small counts h f), v .bytes) }
+  where
+    count-small : (counts : List ℕ) → All (λ c. (1 ≤ c) × (c ≤ codeLimit)) counts → (f : ℕ) → getD counts f 0 ≤ codeLimit
+    count-small [] h f = omega arith
+    count-small (c ∷ cs) h zero = h .0 .1
+    count-small (c ∷ cs) h (suc f) = count-small cs (h .1) f
+
+module _ (counts : List ℕ) (sized : All (λ c. (1 ≤ c) × (c ≤ codeLimit)) counts) (t : Table) (ok : TableOk counts t) (i k : ℕ)
+    (hi : i < length (t .rows)) (hk : k < length (t .rows)) where
+  of-table : (i : ℕ) → i < length (t .rows) → RowOf (length (t .fields)) (getD (t .rows) i [])
+  of-table i h = table-row counts (t .fields) (getD (t .rows) i []) sized (all-at (RowOk counts (t .fields)) (t .rows) [] (ok .codes) i h)
+
+  -- "two rows of one table are equal exactly when their words are"
+  pub table-words : (getD (t .rows) i [] ≡ getD (t .rows) k []) ↔ (rowWord (getD (t .rows) i []) ≡ rowWord (getD (t .rows) k []))
+  table-words = equal-rows (length (t .fields)) (ok .few) (getD (t .rows) i []) (getD (t .rows) k []) (of-table i hi) (of-table k hk)
