@@ -18,6 +18,7 @@ pub mod memory;
 pub mod parts;
 pub mod random;
 pub mod reader;
+pub mod repeats;
 pub mod shapes;
 pub mod slips;
 pub mod text;
