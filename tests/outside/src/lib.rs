@@ -21,4 +21,5 @@ pub mod reader;
 pub mod repeats;
 pub mod shapes;
 pub mod slips;
+pub mod tables;
 pub mod text;
