@@ -1,5 +1,7 @@
 //! A book and its bytes.
 
+use std::collections::HashSet;
+
 use crate::draft::Draft;
 
 #[derive(Clone, Debug, PartialEq)]
@@ -35,14 +37,8 @@ impl Book {
         self.tables.iter().map(|t| t.rows.len()).sum()
     }
 
+    /// The different rows of each table, for all tables: as many as the set of its rows has.
     pub fn different_rows(&self) -> usize {
-        let mut different = 0;
-        for table in &self.tables {
-            let mut rows = table.rows.clone();
-            rows.sort();
-            rows.dedup();
-            different += rows.len();
-        }
-        different
+        self.tables.iter().map(|table| table.rows.iter().collect::<HashSet<_>>().len()).sum()
     }
 }

@@ -28,6 +28,9 @@ pub enum Call {
 /// The calls that list alternatives.
 pub const LISTING: &[&str] = &["alternatives", "replay", "report"];
 
+/// The calls that count different rows.
+pub const COUNTING: &[&str] = &["read", "report"];
+
 impl Call {
     pub fn name(&self) -> &'static str {
         match self {

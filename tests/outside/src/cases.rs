@@ -8,6 +8,7 @@ use crate::filter::NO_ANSWER;
 use crate::listing::Listing;
 use crate::listings;
 use crate::random::{self, Random};
+use crate::repeats;
 
 pub struct Case {
     pub book: Vec<u8>,
@@ -45,7 +46,7 @@ struct BookCase {
 }
 
 fn book(r: &mut Random) -> BookCase {
-    if r.one_in(80) {
+    if r.one_in(60) {
         let (name, at_boundary) = BOUNDARIES[r.from(0, BOUNDARIES.len() - 1)];
         let (model, bytes) = at_boundary(r);
         return BookCase { model, bytes, boundary: Some(name), faults: Vec::new() };
@@ -67,7 +68,7 @@ fn book(r: &mut Random) -> BookCase {
 type Boundary = (&'static str, fn(&mut Random) -> (Book, Vec<u8>));
 
 /// The most that is accepted and one more, the shortest and the longest book, and the lengths at which 1 begins.
-pub const BOUNDARIES: [Boundary; 15] = [
+pub const BOUNDARIES: [Boundary; 21] = [
     ("32 fields", |_| written(Book { counts: vec![2; 32], tables: vec![unary(2)] })),
     ("33 fields", |_| written(Book { counts: vec![2; 33], tables: vec![unary(2)] })),
     ("32 codes", |_| written(Book { counts: vec![3, 32], tables: vec![unary(2)] })),
@@ -78,6 +79,12 @@ pub const BOUNDARIES: [Boundary; 15] = [
     ("4097 rows", |r| written(two_tables(r, 4_097))),
     ("4096 rows in one table", |_| written(one_table(2))),
     ("a fault in row 4096", |_| written(one_table(3))),
+    ("4095 rows of one kind", |r| written(repeats::with_tables(r, &[4_095]))),
+    ("4096 rows of one kind", |r| written(repeats::with_tables(r, &[4_096]))),
+    ("every row of four fields", |r| written(repeats::every_row(r))),
+    ("4096 rows in three large tables", |r| written(repeats::three_large(r, 4_096))),
+    ("4097 rows in three large tables", |r| written(repeats::three_large(r, 4_097))),
+    ("64 tables of 64 rows", |r| written(repeats::with_tables(r, &[64; 64]))),
     ("16870 bytes", |r| written(longest(r))),
     ("6 bytes", |r| brought_to(6, random::book(r))),
     ("7 bytes", |r| written(Book { counts: vec![r.from(1, 32) as u8], tables: Vec::new() })),

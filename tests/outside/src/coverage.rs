@@ -2,7 +2,8 @@
 
 use std::collections::{BTreeMap, BTreeSet};
 
-use crate::calls::{Call, Sheet, LISTING};
+use crate::book::Book;
+use crate::calls::{Call, Sheet, COUNTING, LISTING};
 use crate::cases::{Case, BOUNDARIES};
 use crate::compare::{Asked, Trial};
 use crate::desk::{after, Desk, Reading};
@@ -11,6 +12,7 @@ use crate::listing::book_bytes;
 use crate::listings::{reason, ways, REASONS};
 use crate::reader::Reader;
 use crate::shapes::{shapes, SHAPES};
+use crate::tables;
 
 /// A refusal as counted: its number, and for 14 whether the place lies behind the book's fields.
 type Kind = (u64, bool);
@@ -21,8 +23,8 @@ pub struct Coverage {
     accepted: BTreeMap<&'static str, u64>,
     /// What the cases had beside that, by its name.
     had: BTreeMap<String, u64>,
-    /// What the calls that list had to list, and the lengths lent for it, by call and name.
-    listed: BTreeMap<(&'static str, &'static str), u64>,
+    /// What the calls that list had to list, the lengths lent for it, and what the calls that count had to count, by call and name.
+    by_call: BTreeMap<(&'static str, &'static str), u64>,
 }
 
 /// The refusals that each call has beside 1 to 13; `true` for a place behind the book's fields.
@@ -83,7 +85,7 @@ const LENGTHS: [Length; 5] = [
     ("the wider list's", |lent, asked| lent == asked.wider),
 ];
 
-/// How often each of them has to be lent in a run of 25,000 cases.
+/// How often each of them has to be lent in a run of 27,500 cases.
 const LENGTHS_ASKED: u64 = 200;
 
 /// The sheet whose alternatives the call lists; none where it is refused.
@@ -95,6 +97,16 @@ fn listed_sheet(case: &Case, reading: &Reading, call: &Call) -> Option<Sheet> {
         Call::Report { form } => desk.loaded(reading, form).ok(),
         _ => None,
     }
+}
+
+/// The book whose different rows the call counts; none where it is refused.
+fn counted_book<'a>(reading: &'a Reading, call: &Call) -> Option<&'a Book> {
+    let counts = match call {
+        Call::Read => true,
+        Call::Report { form } => Desk::default().loaded(reading, form).is_ok(),
+        _ => false,
+    };
+    reading.as_ref().ok().filter(|_| counts)
 }
 
 /// The name of a pair of faults, by their places in the order.
@@ -122,12 +134,15 @@ impl Coverage {
             if let (Ok(book), Some(sheet)) = (reading, listed_sheet(case, reading, call)) {
                 shapes(book, &sheet).for_each(|shape| self.count(call, shape));
             }
+            if let Some(book) = counted_book(reading, call) {
+                tables::shapes(book).for_each(|shape| self.count(call, shape));
+            }
         }
         trials.iter().for_each(|trial| self.note_trial(reading, trial));
     }
 
     fn count(&mut self, call: &Call, what: &'static str) {
-        *self.listed.entry((call.name(), what)).or_default() += 1;
+        *self.by_call.entry((call.name(), what)).or_default() += 1;
     }
 
     fn note_trial(&mut self, reading: &Reading, trial: &Trial) {
@@ -185,18 +200,28 @@ impl Coverage {
         complete &= print_had("two faults at once", (1..FAULTS.len()).map(|place| once(pair(place - 1, place))));
         complete &= print_had("listings", ways().map(|way| once(way.name.to_string())));
         complete &= print_had("reasons for 20", REASONS.iter().map(|name| once(name.to_string())));
-        LISTING.iter().fold(complete, |complete, call| complete & self.print_listed(call))
+        complete = LISTING.iter().fold(complete, |complete, call| complete & self.print_listed(call));
+        COUNTING.iter().fold(complete, |complete, call| complete & self.print_counted(call))
+    }
+
+    /// How often the call had this.
+    fn had_by(&self, call: &'static str, name: &'static str, least: u64) -> Had {
+        let times = self.by_call.get(&(call, name)).copied().unwrap_or(0);
+        Had { name: name.to_string(), times, least }
     }
 
     /// Prints what the call had to list and the lengths lent for it, and answers whether each was had often enough.
     fn print_listed(&self, call: &'static str) -> bool {
-        let had = |name: &'static str, least: u64| {
-            let times = self.listed.get(&(call, name)).copied().unwrap_or(0);
-            Had { name: name.to_string(), times, least }
-        };
-        let shapes = print_had(&format!("sheets for {call}"), SHAPES.iter().map(|&(name, least, _)| had(name, least)));
-        let lengths = LENGTHS.iter().map(|&(name, _)| had(name, LENGTHS_ASKED));
+        let shapes = SHAPES.iter().map(|&(name, least, _)| self.had_by(call, name, least));
+        let shapes = print_had(&format!("sheets for {call}"), shapes);
+        let lengths = LENGTHS.iter().map(|&(name, _)| self.had_by(call, name, LENGTHS_ASKED));
         shapes & print_had(&format!("lengths for {call} where a field is passed over"), lengths)
+    }
+
+    /// Prints which tables the call had to count, and answers whether each shape was had often enough.
+    fn print_counted(&self, call: &'static str) -> bool {
+        let tables = tables::asked().map(|(name, least)| self.had_by(call, name, least));
+        print_had(&format!("tables for {call}"), tables)
     }
 
     /// Prints how often and at how many places the call was refused in each way, and answers whether all were reached.

@@ -18,6 +18,8 @@ pub mod memory;
 pub mod parts;
 pub mod random;
 pub mod reader;
+pub mod repeats;
 pub mod shapes;
 pub mod slips;
+pub mod tables;
 pub mod text;

@@ -188,3 +188,74 @@ pub fn written(listing: &[u16]) -> Result<Vec<u8>, Refusal> {
     out.truncate(written as usize);
     Ok(out)
 }
+
+#[cfg(test)]
+mod tests {
+    use super::{Exported, Library, Wrapper};
+    use crate::book::{Book, Table};
+    use crate::calls::{Call, FRESH};
+    use crate::cases::Case;
+    use crate::compare::{trials, Rooms};
+    use crate::filter::NO_ANSWER;
+    use crate::random::Random;
+    use crate::reader::Reader;
+
+    /// Different rows of four codes from 0 to 31, rising.
+    fn rows(how_many: usize) -> Vec<Vec<u8>> {
+        let code = |i: usize, shift: usize| ((i >> shift & 7) * 31 / 7) as u8;
+        (0..how_many).map(|i| [9, 6, 3, 0].map(|shift| code(i, shift)).to_vec()).collect()
+    }
+
+    /// The rows and different rows of a book of one table, or the number and place of its refusal. Reading it and reporting it with no
+    /// answers leave what the slow desk leaves, bare and by the wrapper.
+    fn counted(rows: &[Vec<u8>]) -> Result<(u64, u64), (u64, u64)> {
+        let table = Table { fields: vec![0, 1, 2, 3], rows: rows.to_vec() };
+        let book = Book { counts: vec![32; 4], tables: vec![table] }.write();
+        let calls = vec![Call::Read, Call::Report { form: vec![NO_ANSWER; 4] }];
+        let case = Case { book, sheet: FRESH, calls, boundary: None, faults: Vec::new(), listing: "" };
+        let rooms = Rooms::default();
+        for trial in trials(&case, &Reader::default().read(&case.book), 1, 0) {
+            let libraries: [&dyn Library; 2] = [&Exported, &Wrapper];
+            libraries.iter().for_each(|library| assert_eq!(rooms.difference(*library, &case, &trial), None));
+        }
+        sighting::read(&case.book).map(|counts| (counts.rows, counts.different_rows)).map_err(|r| (r.number, r.place))
+    }
+
+    #[test]
+    fn different_rows_of_the_largest_table() {
+        let mut most = rows(4_096);
+        assert_eq!(counted(&most), Ok((4_096, 4_096)));
+        most.reverse();
+        assert_eq!(counted(&most), Ok((4_096, 4_096)));
+        Random(1).shuffle(&mut most);
+        assert_eq!(counted(&most), Ok((4_096, 4_096)));
+        assert_eq!(counted(&vec![most[0].clone(); 4_096]), Ok((4_096, 1)));
+        assert_eq!(counted(&[rows(2_048), rows(2_048)].concat()), Ok((4_096, 2_048)));
+        assert_eq!(counted(&[rows(4_095), rows(1)].concat()), Ok((4_096, 4_095)));
+        assert_eq!(counted(&[rows(4_096), rows(1)].concat()), Err((12, 0)));
+        assert_eq!(counted(&vec![most[0].clone(); 4_097]), Err((12, 0)));
+    }
+
+    /// At each length of a table the last row is new, or it is the first again, or the one before it again.
+    #[test]
+    fn one_repeat_at_each_edge() {
+        for length in [1, 2, 63, 64, 65, 66, 255, 256, 257] {
+            let different = rows(length);
+            assert_eq!(counted(&different), Ok((length as u64, length as u64)));
+            for repeated in [&different[..1], &different[length - 1..]] {
+                assert_eq!(counted(&[&different, repeated].concat()), Ok((length as u64 + 1, length as u64)));
+            }
+        }
+    }
+
+    #[test]
+    fn rows_that_part_in_one_column() {
+        for column in 0..4 {
+            let row = |code: u8| (0..4).map(|k| if k == column { code } else { 31 }).collect::<Vec<u8>>();
+            for repeats in [1, 2, 3, 128] {
+                let rows: Vec<Vec<u8>> = (0..32 * repeats).map(|i| row(i as u8 % 32)).collect();
+                assert_eq!(counted(&rows), Ok((rows.len() as u64, 32)));
+            }
+        }
+    }
+}

@@ -5,6 +5,7 @@ use std::collections::BTreeSet;
 use crate::book::{Book, Table};
 use crate::filter::{largest, relaxed, NO_ANSWER};
 use crate::parts;
+use crate::repeats;
 
 /// SplitMix64.
 pub struct Random(pub u64);
@@ -25,6 +26,10 @@ impl Random {
 
     pub fn one_in(&mut self, n: u64) -> bool {
         self.word().is_multiple_of(n)
+    }
+
+    pub fn one_of<T: Copy>(&mut self, elements: &[T]) -> T {
+        elements[self.from(0, elements.len() - 1)]
     }
 
     /// Puts the elements into any order.
@@ -179,13 +184,14 @@ fn long_fall(r: &mut Random) -> Book {
 }
 
 pub fn book(r: &mut Random) -> Book {
-    match r.from(0, 299) {
+    match r.from(0, 330) {
         0..=11 => wide(r),
         12..=23 => many_tables(r),
         24 => many_rows(r),
-        25 => long_fall(r),
-        26..=61 => ring(r),
-        62..=121 => parts::book(r),
+        25..=26 => long_fall(r),
+        27..=62 => ring(r),
+        63..=122 => parts::book(r),
+        123..=152 => repeats::book(r),
         _ => small(r),
     }
 }

@@ -5,7 +5,7 @@
 //! its memory flush against a page that nobody may touch, in front and behind; a list of calls is also made one by one, alternatives are
 //! held against plain filtering with each answered field relaxed, and a book that is shown or written goes the way back too. The run
 //! prints how often each refusal of each call was reached and what else the cases had, and fails if something was missed; some of it has
-//! to be had so often that it takes 25,000 cases.
+//! to be had so often that it takes 27,500 cases.
 
 use std::ffi::c_int;
 use std::io::Write;

@@ -2,12 +2,14 @@
 //! would pass unseen in the desk too.
 
 mod calling;
+mod counting;
 mod filtering;
 mod lifting;
 mod listing;
 mod reading;
 mod straying;
 
+use crate::book::Book;
 use crate::calls::{Answer, Buffers, Call, Left, Sheet};
 use crate::desk::{Desk, Reading};
 use crate::library::{Lent, Library};
@@ -28,6 +30,8 @@ type Listed = (&'static str, &'static [&'static str], Wrong);
 pub enum Wrong {
     /// The desk has a wrong part.
     Part(fn(&mut Desk)),
+    /// The desk counts different rows by this.
+    Counted(fn(&Book) -> usize),
     /// The desk leaves something else than it answers.
     Left(fn(&Seen, &mut Left)),
     /// The desk touches memory that it may not touch.
@@ -53,7 +57,7 @@ impl Slip {
 
 /// All slips, each in each of its calls.
 pub fn all() -> Vec<Slip> {
-    let listed = [reading::SLIPS, filtering::SLIPS, lifting::SLIPS, calling::SLIPS, listing::SLIPS].concat();
+    let listed = [reading::SLIPS, counting::SLIPS, filtering::SLIPS, lifting::SLIPS, calling::SLIPS, listing::SLIPS].concat();
     let in_each = |(what, calls, wrong): Listed| calls.iter().map(move |call| Slip::new(call, what, wrong));
     listed.into_iter().flat_map(in_each).chain(straying::slips()).collect()
 }
@@ -68,8 +72,10 @@ pub struct SlowLibrary {
 impl SlowLibrary {
     pub fn with(slip: &Slip) -> SlowLibrary {
         let mut desk = Desk::default();
-        if let Wrong::Part(exchange) = slip.wrong {
-            exchange(&mut desk);
+        match slip.wrong {
+            Wrong::Part(exchange) => exchange(&mut desk),
+            Wrong::Counted(different_rows) => desk.different_rows = different_rows,
+            _ => {}
         }
         SlowLibrary { desk, wrong: Some(slip.wrong) }
     }
