@@ -59,7 +59,7 @@ fn measured() -> Result<(String, String), std::fmt::Error> {
     families_sections(&mut out, &books, &passes)?;
     writeln!(out, "\n### Reading, by the shape of the tables and the order of the rows\n")?;
     tables::shapes(&mut out, &shaped)?;
-    writeln!(out, "\n### The report\n")?;
+    writeln!(out, "\n### The report, and reading as a part of it\n")?;
     let one_table = measure::report(&ONE_TABLE.books(Order::Random), &FRESH);
     let largest = measure::report(slice::from_ref(&books[1].book), &books[1].sheet(32));
     tables::reports(&mut out, &[("1 table of 4,096 random rows, no answers", one_table), ("family B, n = 32", largest)])?;

@@ -148,6 +148,11 @@ pub struct Report {
 
 pub fn report(books: &[Vec<u8>], form: &[u8]) -> Report {
     let mut text = [0; REPORT_BYTES];
+    for book in books {
+        // a sheet that is turned down is no refusal, and would be reported in no time
+        let length = sighting::report(book, form, &mut text).expect("room for every text") as usize;
+        assert!(!text[..length].windows(7).any(|word| word == b"refused"));
+    }
     let whole = in_turn(books, move |book| sighting::report(book, form, &mut text).expect("room for every text"));
     let times = medians_for_one(books, &mut [whole, in_turn(books, read), in_turn(books, plain_row_by_row)]);
     Report { library: times[0], reading: times[1], row_by_row: times[2] }

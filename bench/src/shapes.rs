@@ -47,8 +47,8 @@ pub struct Shape {
     arity: usize,
     /// The orders that are measured.
     pub orders: &'static [Order],
-    /// How many books are read in turn: a processor that meets the same rows again and again learns where they differ, and no call
-    /// on a book of its own would find that learnt.
+    /// How many books are read in turn: a processor that meets the same rows again and again learns how they compare, where a desk
+    /// meets its book's rows once.
     books: usize,
 }
 
