@@ -42,7 +42,7 @@ impl Random {
         all
     }
 
-    fn reading(&mut self, counts: &[u8]) -> Vec<u8> {
+    pub fn reading(&mut self, counts: &[u8]) -> Vec<u8> {
         counts.iter().map(|&count| self.below(count as usize) as u8).collect()
     }
 
@@ -54,14 +54,15 @@ impl Random {
     }
 }
 
-type Table = (Vec<u8>, Vec<Vec<u8>>);
+/// The fields of a table, and its rows.
+pub type Table = (Vec<u8>, Vec<Vec<u8>>);
 
 fn on(fields: &[u8], reading: &[u8]) -> Vec<u8> {
     fields.iter().map(|&f| reading[f as usize]).collect()
 }
 
 /// The book's bytes, as document 01 lays them out.
-fn bytes(counts: &[u8], tables: &[Table]) -> Vec<u8> {
+pub fn bytes(counts: &[u8], tables: &[Table]) -> Vec<u8> {
     let mut out = Vec::new();
     for (fields, rows) in tables {
         out.push(fields.len() as u8);

@@ -9,19 +9,37 @@ mod listings;
 mod measure;
 mod plain;
 mod plot;
+mod shapes;
 mod stack;
 mod tables;
 mod timing;
 
 use std::fmt::Write;
 use std::path::Path;
+use std::slice;
 
+use families::Family;
 use measure::Pass;
+use shapes::{Order, FRESH, ONE_TABLE};
 
 const BEGIN: &str = "<!-- measured: begin -->\n";
 const END: &str = "<!-- measured: end -->\n";
 
-/// The sections below as text, and the drawing.
+/// What is measured on the books of the four families, and how reading grows with the rows of B.
+fn families_sections(out: &mut String, books: &[Family], passes: &[(String, Vec<Pass>)]) -> std::fmt::Result {
+    writeln!(out, "\n### All alternatives of a sheet with n answers\n")?;
+    tables::passes(out, passes)?;
+    writeln!(out, "\n### Reading a book, and one plain filtering with n = 16\n")?;
+    let readings = books.iter().map(|f| (f.name, measure::reading(&f.book), measure::filtering(f, 16)));
+    let readings: Vec<_> = readings.collect();
+    tables::readings(out, &readings)?;
+    writeln!(out, "\n### Growth with the rows of family B, n = 16\n")?;
+    let steps = [256, 512, 1_024, 2_048, 4_096].map(families::largest);
+    let steps: Vec<_> = steps.iter().map(|f| (measure::alternatives(f, 16), measure::reading(&f.book))).collect();
+    tables::growth(out, &steps)
+}
+
+/// The sections as text, and the drawing.
 fn measured() -> Result<(String, String), std::fmt::Error> {
     let books = families::all();
     let passes: Vec<(String, Vec<Pass>)> = books
@@ -31,21 +49,20 @@ fn measured() -> Result<(String, String), std::fmt::Error> {
             (format!("{}: {}", family.name, family.what), passes.into())
         })
         .collect();
+    let shaped = shapes::ALL.iter().flat_map(|shape| shape.orders.iter().map(|&order| measure::shaped(shape, order)));
+    let shaped: Vec<_> = shaped.collect();
     let mut out = String::new();
     if !gecode::INSTALLED {
         writeln!(out, "libgecode-dev was not installed: the column for Gecode is left out.\n")?;
     }
-    tables::targets(&mut out, &passes)?;
-    writeln!(out, "\n### All alternatives of a sheet with n answers\n")?;
-    tables::passes(&mut out, &passes)?;
-    writeln!(out, "\n### Reading a book, and one plain filtering with n = 16\n")?;
-    let readings = books.iter().map(|f| (f.name, measure::reading(&f.book), measure::filtering(f, 16)));
-    let readings: Vec<_> = readings.collect();
-    tables::readings(&mut out, &readings)?;
-    writeln!(out, "\n### Growth with the rows of family B, n = 16\n")?;
-    let steps = [256, 512, 1_024, 2_048, 4_096].map(families::largest);
-    let steps: Vec<_> = steps.iter().map(|f| (measure::alternatives(f, 16), measure::reading(&f.book))).collect();
-    tables::growth(&mut out, &steps)?;
+    tables::targets(&mut out, &passes, &shaped)?;
+    families_sections(&mut out, &books, &passes)?;
+    writeln!(out, "\n### Reading, by the shape of the tables and the order of the rows\n")?;
+    tables::shapes(&mut out, &shaped)?;
+    writeln!(out, "\n### The report, and reading as a part of it\n")?;
+    let one_table = measure::report(&ONE_TABLE.books(Order::Random), &FRESH);
+    let largest = measure::report(slice::from_ref(&books[1].book), &books[1].sheet(32));
+    tables::reports(&mut out, &[("1 table of 4,096 random rows, no answers", one_table), ("family B, n = 32", largest)])?;
     writeln!(out, "\n### Writing a listing, and showing the book written\n")?;
     let listings = listings::all().map(|listed| (listed.what, measure::listing(&listed)));
     tables::listings(&mut out, &listings)?;

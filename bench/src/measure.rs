@@ -1,11 +1,12 @@
 //! What is measured: the library's calls, beside plain Rust and Gecode on the same books.
 
-use sighting::{Sheet, BOOK_BYTES, LISTING_NUMBERS, NUMBERS, PAIRS_BYTES, REPORT_BYTES};
+use sighting::{Counts, Sheet, BOOK_BYTES, LISTING_NUMBERS, NUMBERS, PAIRS_BYTES, REPORT_BYTES};
 
 use crate::families::Family;
 use crate::gecode::Root;
 use crate::listings::{self, Listed};
 use crate::plain::{engine, listing, reader};
+use crate::shapes::{Order, Shape, FRESH, ONE_TABLE};
 use crate::stack;
 use crate::timing::{medians, Contender};
 
@@ -77,18 +78,84 @@ pub struct Reading {
     pub gecode_set_up: Option<f64>,
 }
 
-pub fn reading(book: &[u8]) -> Reading {
+/// The library's different rows.
+fn read(book: &[u8]) -> u64 {
+    sighting::read(book).expect("accepted").different_rows
+}
+
+fn plain_read(book: &[u8]) -> u64 {
+    reader::read(book).expect("accepted")[3]
+}
+
+fn plain_row_by_row(book: &[u8]) -> u64 {
+    reader::read_row_by_row(book).expect("accepted")[3]
+}
+
+/// What the book has, by all ways the same.
+fn agreed_counts(book: &[u8]) -> Counts {
     let counts = sighting::read(book).expect("accepted");
-    assert_eq!(reader::read(book), Ok([counts.fields, counts.tables, counts.rows, counts.different_rows]));
-    let mut contenders: Vec<Contender> = vec![
-        Box::new(|| sighting::read(book).map_or(0, |counts| counts.rows)),
-        Box::new(|| reader::read(book).map_or(0, |counts| counts[2])),
-    ];
+    let cells = [counts.fields, counts.tables, counts.rows, counts.different_rows];
+    assert_eq!((reader::read(book), reader::read_row_by_row(book)), (Ok(cells), Ok(cells)));
+    counts
+}
+
+pub fn reading(book: &[u8]) -> Reading {
+    let rows = agreed_counts(book).rows;
+    let mut contenders: Vec<Contender> = vec![Box::new(|| read(book)), Box::new(|| plain_read(book))];
     if Root::open(book).is_some() {
         contenders.push(Box::new(|| Root::open(book).is_some() as u64));
     }
     let times = medians(&mut contenders);
-    Reading { rows: counts.rows, library: times[0], plain: times[1], gecode_set_up: times.get(2).copied() }
+    Reading { rows, library: times[0], plain: times[1], gecode_set_up: times.get(2).copied() }
+}
+
+/// A call on each of several books in turn. The call is known where the loop is made, so going on to the next book costs next to
+/// nothing beside reading ten rows.
+fn in_turn<'a>(books: &'a [Vec<u8>], mut call: impl FnMut(&[u8]) -> u64 + 'a) -> Contender<'a> {
+    Box::new(move || books.iter().map(|book| call(book)).sum())
+}
+
+/// The medians of contenders that take these books in turn, for one book.
+fn medians_for_one(books: &[Vec<u8>], contenders: &mut [Contender]) -> Vec<f64> {
+    medians(contenders).into_iter().map(|time| time / books.len() as f64).collect()
+}
+
+/// The medians of reading a book of this shape and order, by the library and by plain Rust in two forms.
+pub struct Shaped {
+    pub shape: &'static Shape,
+    pub order: Order,
+    pub library: f64,
+    pub plain: f64,
+    pub row_by_row: f64,
+}
+
+pub fn shaped(shape: &'static Shape, order: Order) -> Shaped {
+    let books = &shape.books(order)[..];
+    for book in books {
+        agreed_counts(book);
+    }
+    let mut contenders = [in_turn(books, read), in_turn(books, plain_read), in_turn(books, plain_row_by_row)];
+    let times = medians_for_one(books, &mut contenders);
+    Shaped { shape, order, library: times[0], plain: times[1], row_by_row: times[2] }
+}
+
+/// The medians of a report, and of reading alone: by the library, and row by row by plain Rust.
+pub struct Report {
+    pub library: f64,
+    pub reading: f64,
+    pub row_by_row: f64,
+}
+
+pub fn report(books: &[Vec<u8>], form: &[u8]) -> Report {
+    let mut text = [0; REPORT_BYTES];
+    for book in books {
+        // a sheet that is turned down is no refusal, and would be reported in no time
+        let length = sighting::report(book, form, &mut text).expect("room for every text") as usize;
+        assert!(!text[..length].windows(7).any(|word| word == b"refused"));
+    }
+    let whole = in_turn(books, move |book| sighting::report(book, form, &mut text).expect("room for every text"));
+    let times = medians_for_one(books, &mut [whole, in_turn(books, read), in_turn(books, plain_row_by_row)]);
+    Report { library: times[0], reading: times[1], row_by_row: times[2] }
 }
 
 /// The medians of one plain filtering with nothing relaxed, by the library and by plain Rust.
@@ -159,22 +226,29 @@ pub fn listing(listed: &Listed) -> Listing {
     Listing { numbers: listed.listing.len(), library, plain, shown }
 }
 
-/// The stack bytes of each call on this book, and of writing the longest listing and one that is refused.
+/// The stack bytes of each call on this book, of the calls that count different rows on one table of them all, and of writing the
+/// longest listing and one that is refused.
 pub fn stacks(family: &Family) -> Vec<(&'static str, usize)> {
     let (book, bytes) = (&family.book[..], family.sheet(32));
     let (mut pairs, mut numbers, mut text) = ([0; PAIRS_BYTES], [0; NUMBERS], [0; REPORT_BYTES]);
     let (mut shown, mut written) = ([0; LISTING_NUMBERS], [0; BOOK_BYTES]);
     let (longest, refused) = (listings::longest(), listings::refused());
+    let one_table = &ONE_TABLE.books(Order::Random)[0][..];
     let list = [0, 0, 0].repeat(32);
     let sheet = Sheet::from(bytes);
     let mut entered = sheet;
     vec![
         ("read", stack::bytes(&mut || assert!(sighting::read(book).is_ok()))),
+        ("read, 4,096 rows in one table", stack::bytes(&mut || assert!(sighting::read(one_table).is_ok()))),
         ("enter", stack::bytes(&mut || assert!(entered.enter(book, 0, 0).is_ok()))),
         ("filtered", stack::bytes(&mut || assert!(sheet.filtered(book, None, &mut numbers).is_ok()))),
         ("alternatives", stack::bytes(&mut || assert!(sheet.alternatives(book, &mut pairs).is_ok()))),
         ("replay", stack::bytes(&mut || assert!(Sheet::replay(book, &list, &mut pairs).1.is_ok()))),
         ("report", stack::bytes(&mut || assert!(sighting::report(book, &bytes, &mut text).is_ok()))),
+        (
+            "report, 4,096 rows in one table",
+            stack::bytes(&mut || assert!(sighting::report(one_table, &FRESH, &mut text).is_ok())),
+        ),
         ("show", stack::bytes(&mut || assert!(sighting::show(book, &mut shown).is_ok()))),
         ("write", stack::bytes(&mut || assert!(sighting::write(&longest.listing, &mut written).is_ok()))),
         ("write, refused", stack::bytes(&mut || assert!(sighting::write(&refused.listing, &mut written).is_err()))),

@@ -2,7 +2,7 @@
 
 use std::fmt::{Result, Write};
 
-use crate::measure::{Filtering, Listing, Pass, Reading};
+use crate::measure::{Filtering, Listing, Pass, Reading, Report, Shaped};
 
 fn ratio(value: Option<f64>) -> String {
     value.map_or("–".to_string(), |v| format!("{v:.2}"))
@@ -31,17 +31,44 @@ fn pass_at(passes: &[Pass], n: usize) -> &Pass {
     passes.iter().find(|p| p.n == n).expect("measured")
 }
 
-/// The three targets, with what was reached in the worst family.
-pub fn targets(out: &mut String, families: &[(String, Vec<Pass>)]) -> Result {
-    let most = |value: &dyn Fn(&[Pass]) -> f64| families.iter().map(|f| value(&f.1)).fold(f64::MIN, f64::max);
-    let least = |value: &dyn Fn(&[Pass]) -> f64| families.iter().map(|f| value(&f.1)).fold(f64::MAX, f64::min);
-    let flat = most(&|p| pass_at(p, 32).library / pass_at(p, 1).library);
-    let plain = most(&|p| p.iter().map(|p| p.library / p.plain).fold(f64::MIN, f64::max));
-    let faster = least(&|p| pass_at(p, 16).separate / pass_at(p, 16).library);
-    writeln!(out, "| target | asked | worst family |\n|---|---|---|")?;
+fn most(values: impl Iterator<Item = f64>) -> f64 {
+    values.fold(f64::MIN, f64::max)
+}
+
+/// The targets of the one pass, with what was reached in the worst family.
+fn pass_targets(out: &mut String, families: &[(String, Vec<Pass>)]) -> Result {
+    let families = || families.iter().map(|family| &family.1);
+    let flat = most(families().map(|p| pass_at(p, 32).library / pass_at(p, 1).library));
+    let plain = most(families().flatten().map(|p| p.library / p.plain));
+    let faster = families().map(|p| pass_at(p, 16).separate / pass_at(p, 16).library).fold(f64::MAX, f64::min);
     writeln!(out, "| time at n = 32 against n = 1 | at most 1.6 | {flat:.2} |")?;
     writeln!(out, "| library against plain Rust, any n | at most 1.5 | {plain:.2} |")?;
     writeln!(out, "| n + 1 filterings against one pass at n = 16 | at least 8 | {faster:.2} |")
+}
+
+/// The targets of reading, with what was reached in the worst shape and order.
+fn reading_targets(out: &mut String, shaped: &[Shaped]) -> Result {
+    let row_by_row = |s: &Shaped| s.library / s.row_by_row;
+    let one_table = shaped.iter().filter(|s| s.shape.rows == 4_096).map(|s| s.library / s.plain);
+    let many_tables = shaped.iter().filter(|s| s.shape.tables == 64).map(row_by_row);
+    let small = shaped.iter().filter(|s| s.shape.tables * s.shape.rows == 10).map(row_by_row);
+    writeln!(
+        out,
+        "| reading 4,096 rows in one table against plain Rust with `sort_unstable`, any order | at most 1.5 | {:.2} |",
+        most(one_table)
+    )?;
+    writeln!(
+        out,
+        "| reading 64 tables of 64 rows against comparing row by row, any order | at most 1 | {:.2} |",
+        most(many_tables)
+    )?;
+    writeln!(out, "| reading ten rows against comparing row by row | at most 1 | {:.2} |", most(small))
+}
+
+pub fn targets(out: &mut String, families: &[(String, Vec<Pass>)], shaped: &[Shaped]) -> Result {
+    writeln!(out, "| target | asked | worst |\n|---|---|---|")?;
+    pass_targets(out, families)?;
+    reading_targets(out, shaped)
 }
 
 /// Reading, and one plain filtering.
@@ -78,6 +105,27 @@ fn microseconds(time: f64) -> String {
     } else {
         format!("{time:.1}")
     }
+}
+
+/// Reading, one row for each shape and order.
+pub fn shapes(out: &mut String, shaped: &[Shaped]) -> Result {
+    writeln!(
+        out,
+        "| rows | order | reading, µs | × plain Rust with `sort_unstable` | × plain Rust row by row |\n|---|---|---|---|---|"
+    )?;
+    for s in shaped {
+        let (time, plain, row_by_row) = (microseconds(s.library), s.library / s.plain, s.library / s.row_by_row);
+        writeln!(out, "| {} | {} | {time} | {plain:.2} | {row_by_row:.3} |", s.shape.what, s.order.name())?;
+    }
+    Ok(())
+}
+
+pub fn reports(out: &mut String, reports: &[(&str, Report)]) -> Result {
+    writeln!(out, "| report on | report, µs | reading alone, µs | plain Rust's reading row by row, µs |\n|---|---|---|---|")?;
+    for (what, r) in reports {
+        writeln!(out, "| {what} | {:.1} | {:.1} | {:.1} |", r.library, r.reading, r.row_by_row)?;
+    }
+    Ok(())
 }
 
 /// Writing a listing, and showing the book written.

@@ -1,4 +1,5 @@
-//! The desk's reader, engine and listings once more as plain Rust: the same form, the same checks, no heap, and nothing proved.
+//! The desk's reader, engine and listings once more as plain Rust: the same form, the same checks, no heap, and nothing proved. Rows
+//! are sorted by the standard library.
 
 pub mod engine;
 pub mod listing;

@@ -106,34 +106,64 @@ impl View<'_> {
     }
 }
 
-/// The accepted book, its tables and its number of rows.
+/// The accepted book and its tables.
 pub struct Checked<'a> {
     pub view: View<'a>,
     pub tables: [Table; 64],
-    pub rows: usize,
 }
 
-pub fn check(bytes: &[u8]) -> Result<Checked<'_>, Refused> {
+/// The view on an accepted book and its number of rows; each table goes to `keep` with its number. Reading keeps none: to fill the
+/// array of the engine takes longer than to read ten rows.
+fn accept(bytes: &[u8], mut keep: impl FnMut(usize, Table)) -> Result<(View<'_>, usize), Refused> {
     let view = trailer(bytes)?;
     for f in 0..view.fields {
         if !(1..=32).contains(&view.codes(f)) {
             return refuse(7, view.list + f);
         }
     }
-    let (mut tables, mut at, mut rows) = ([NO_TABLE; 64], 0, 0);
-    for table in tables.iter_mut().take(view.tables) {
-        *table = view.check_table(at, rows)?;
+    let (mut at, mut rows) = (0, 0);
+    for i in 0..view.tables {
+        let table = view.check_table(at, rows)?;
         at = table.first + table.arity * table.rows;
         rows += table.rows;
+        keep(i, table);
     }
     if at < view.list {
         return refuse(13, at);
     }
-    Ok(Checked { view, tables, rows })
+    Ok((view, rows))
+}
+
+pub fn check(bytes: &[u8]) -> Result<Checked<'_>, Refused> {
+    let mut tables = [NO_TABLE; 64];
+    let (view, _) = accept(bytes, |i, table| tables[i] = table)?;
+    Ok(Checked { view, tables })
+}
+
+/// Puts each row into its word: the first code in the highest byte, zeros behind the last.
+fn gather<const ARITY: usize>(rows: &[u8], words: &mut [u32]) {
+    for (word, row) in words.iter_mut().zip(rows.chunks_exact(ARITY)) {
+        let mut codes = [0; 4];
+        codes[..ARITY].copy_from_slice(row);
+        *word = u32::from_be_bytes(codes);
+    }
+}
+
+/// The different rows of one table, by sorting their words. A loop for each number of codes gathers faster than one for all.
+fn different_sorted(rows: &[u8], arity: usize, words: &mut [u32]) -> usize {
+    let words = &mut words[..rows.len() / arity];
+    match arity {
+        1 => gather::<1>(rows, words),
+        2 => gather::<2>(rows, words),
+        3 => gather::<3>(rows, words),
+        _ => gather::<4>(rows, words),
+    }
+    words.sort_unstable();
+    !words.is_empty() as usize + words.windows(2).filter(|pair| pair[0] != pair[1]).count()
 }
 
 /// The rows of one table that no later row of it repeats. Rows are short: a loop compares them faster than a call does.
-fn different_rows(rows: &[u8], arity: usize) -> usize {
+fn different_row_by_row(rows: &[u8], arity: usize) -> usize {
     let same = |row: &[u8], later: &[u8]| row.iter().zip(later).all(|(c, d)| c == d);
     let mut different = 0;
     for (i, row) in rows.chunks_exact(arity).enumerate() {
@@ -146,11 +176,32 @@ fn different_rows(rows: &[u8], arity: usize) -> usize {
 }
 
 /// Fields, tables, rows, different rows.
-pub fn read(bytes: &[u8]) -> Result<[u64; 4], Refused> {
-    let book = check(bytes)?;
-    let mut different = 0;
-    for table in &book.tables[..book.view.tables] {
-        different += different_rows(&bytes[table.first..table.first + table.arity * table.rows], table.arity);
+pub type Counts = [u64; 4];
+
+/// The counts of an accepted book, with a way to count the different rows of one table of so many codes in a row.
+fn counts(view: &View, rows: usize, mut different_rows: impl FnMut(&[u8], usize) -> usize) -> Counts {
+    let (mut at, mut different) = (0, 0);
+    for _ in 0..view.tables {
+        let table = view.table(at);
+        at = table.first + table.arity * table.rows;
+        different += different_rows(&view.bytes[table.first..at], table.arity);
     }
-    Ok([book.view.fields as u64, book.view.tables as u64, book.rows as u64, different as u64])
+    [view.fields as u64, view.tables as u64, rows as u64, different as u64]
+}
+
+/// The counts of an accepted book of at most `ROWS` rows.
+fn counts_sorted<const ROWS: usize>(view: &View, rows: usize) -> Counts {
+    let mut words = [0; ROWS];
+    counts(view, rows, |rows, arity| different_sorted(rows, arity, &mut words))
+}
+
+pub fn read(bytes: &[u8]) -> Result<Counts, Refused> {
+    let (view, rows) = accept(bytes, |_, _| {})?;
+    // a small book does not pay for clearing the words of the largest
+    Ok(if rows <= 64 { counts_sorted::<64>(&view, rows) } else { counts_sorted::<4_096>(&view, rows) })
+}
+
+/// As `read`, but each row is held against the later ones of its table: the form that the library had before it sorted.
+pub fn read_row_by_row(bytes: &[u8]) -> Result<Counts, Refused> {
+    accept(bytes, |_, _| {}).map(|(view, rows)| counts(&view, rows, different_row_by_row))
 }
