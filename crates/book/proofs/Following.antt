@@ -1,8 +1,8 @@
 -- The rows of a table as words, followed from the first on: one turn of the loop, and what is counted. Assumes nothing.
 use mathlib.Core.Path.{_≡_, sym, ap, _∙_, subst}
-use mathlib.Core.List.{List, [], map}
+use mathlib.Core.List.{List, map}
 use Prim.Native.Nat.{ℕ, _+_, _-_, _*_, _≤_, _<_}
-use native.Mathlib.Nat.{suc-mul, zero-mul, le-refl, mul-le-mul}
+use native.Mathlib.Nat.{suc-mul, zero-mul}
 use native.Mathlib.Numerals.{add-one}
 use native.Mathlib.Omega.{arith}
 use lib.ListN.{length, getD, drop}
@@ -110,10 +110,11 @@ module _ (s : List ℕ) (a p n : ℕ) (f : RowsFit s a p n) where
   pub follow-end : (before at found i : ℕ) → Following s a p n before at found i → n ≤ i
       → NeverFalls (length words) words × (found ≡ runs words) × (found ≤ length words)
   follow-end before at found i w h =
-      let l : length words ≤ i = omega (arith, long) in
-      (falls-end words i (w .rises) l,
-      omega (arith, w .counted, changes-end words i (getD words (i - 1) 0) l),
-      omega (arith, w .few, w .within, long))
+      let l : length words ≤ i = omega (arith, long) in (
+        falls-end words i (w .rises) l,
+        omega (arith, w .counted, changes-end words i (getD words (i - 1) 0) l),
+        omega (arith, w .few, w .within, long),
+      )
 
   -- words that never fall have as many runs as there are different rows
   pub risen-rows : (order : Order) (found : ℕ) → order ≡ Rises found → OrderOf order words → (found ≡ different (rowsAt s a p n)) × (found ≤ n)

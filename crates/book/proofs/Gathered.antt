@@ -1,16 +1,16 @@
 -- A row as a word, a table's rows as words, and the count of the different ones. Assumes nothing.
 use mathlib.Core.Path.{_≡_, refl, sym, ap, _∙_}
-use mathlib.Core.List.{List, [], _∷_, map}
-use Prim.Native.Nat.{ℕ, zero, suc, _+_, _-_, _*_, _/_, _%_, _≤_, _<_}
+use mathlib.Core.List.{List, [], map}
+use Prim.Native.Nat.{ℕ, zero, suc, _+_, _-_, _*_, _/_, _%_, _^_, _≤_, _<_}
 use native.Mathlib.Nat.{suc-mul, zero-mul, le-refl, mul-le-mul}
 use native.Mathlib.Numerals.{add-one}
 use native.Mathlib.Omega.{arith}
 use lib.ListN.{length, getD, set, take, length-set, length-map, List·getD-map, List·getD-eq-default}
-use borrow.Author.Tests.{lt-ltb, le-ltb}
+use lib.Pow.{shl-exact, pow-mono}
 use lib.Bits.{bitAnd, and-high, and-mask, and-le-l}
 use lib.Seq.{getD-set-same, getD-set-other, ext-getD}
-use Rattle.format.specs.Format.{byte, part, rowLimit, rowsAt, different}
-use Rattle.format.proofs.Elements.{all-of}
+use Rattle.format.specs.Format.{byte, part, arityLimit, rowLimit, rowsAt, different}
+use Rattle.format.proofs.Elements.{all-of, all-or}
 use Rattle.format.proofs.Views.{part-at, part-length, rows-count}
 use Rattle.words.specs.Sorting.{most, Sorted, distinct, runs}
 use Rattle.words.specs.RowWord.{rowWord, RowOf}
@@ -22,17 +22,13 @@ use Rattle.book.specs.Bounds.{mask, RowFits, RowsFit}
 
 -- ---- the bits of a word that a codes take
 
-pub mask-1 : (a : ℕ) → a < 2 → 4278190080 ≡ mask a
-mask-1 a h = rw (lt-ltb a 2 h)
+pub mask-is : (a : ℕ) → a ≤ arityLimit → 4294967296 - 1 * 2 ^ (32 - 8 * a) % 2 ^ 64 ≡ mask a
+mask-is a h = rw (shl-exact 1 (32 - 8 * a) 64 (let l : 1 < 2 = omega arith in l) (omega arith)) (omega arith)
 
-pub mask-2 : (a : ℕ) → 2 ≤ a → a < 3 → 4294901760 ≡ mask a
-mask-2 a l h = rw (le-ltb a 2 l, lt-ltb a 3 h)
-
-pub mask-3 : (a : ℕ) → 3 ≤ a → a < 4 → 4294967040 ≡ mask a
-mask-3 a l h = rw (le-ltb a 2 (omega arith), le-ltb a 3 l, lt-ltb a 4 h)
-
-pub mask-4 : (a : ℕ) → 4 ≤ a → 4294967295 ≡ mask a
-mask-4 a l = rw (le-ltb a 2 (omega arith), le-ltb a 3 (omega arith), le-ltb a 4 l)
+pub mask-small : (a : ℕ) → 1 * 2 ^ (32 - 8 * a) % 2 ^ 64 ≤ 4294967296
+mask-small a =
+    let p : 2 ^ (32 - 8 * a) ≤ 2 ^ 32 = pow-mono {i = 32 - 8 * a} {j = 32} (omega arith) in
+    rw (shl-exact 1 (32 - 8 * a) 64 (let l : 1 < 2 = omega arith in l) (omega arith)) (omega (arith, p))
 
 -- the part lent of an array of zeros is no longer than the rows are many
 pub lent-few : (n k : ℕ) → k ≤ n → k ≤ rowLimit → length (take k (cleared n)) ≤ rowLimit
@@ -124,6 +120,15 @@ module _ (s : List ℕ) where
               let m : j < a = omega (arith, part-length s (p + k * a) a w) in
               rw (part-at s (p + k * a) a j m) (f .codes k j h m));
         })
+
+    -- a word's highest byte is the row's first code
+    pub word-first : (k : ℕ) → k < n → rowWord (part s (p + k * a) a) / 16777216 ≡ byte s (p + k * a)
+    word-first k h =
+        let r = rw (row-at a p n k h) at (row-of k h) in
+        let c : (j : ℕ) → getD (part s (p + k * a) a) j 0 < 256 = all-or (λ c. c < 256) (part s (p + k * a) a) 0 (omega arith) (r .bytes) in
+        let e : p + k * a + 0 ≡ p + k * a = omega arith in
+        let z = rw e at (part-at s (p + k * a) a 0 (f .some)) in
+        omega (arith, z, c 1, c 2, c 3)
 
     pub words-long : length (map rowWord (rowsAt s a p n)) ≡ n
     words-long = length-map (rowsAt s a p n) rowWord ∙ rows-count s a p n

@@ -2,15 +2,15 @@
 use mathlib.Core.Path.{_≡_, refl, sym, ap, _∙_}
 use mathlib.Core.Bool.{Bool, true, false}
 use mathlib.Core.List.{List, [], _∷_, map}
-use Prim.Native.Nat.{ℕ, zero, suc, _+_, _-_, _*_, _≤_, _<_}
+use Prim.Native.Nat.{ℕ, zero, suc, _+_, _-_, _*_, _/_, _≤_, _<_}
 use native.Mathlib.Nat.{suc-mul, zero-mul}
 use native.Mathlib.Omega.{arith}
 use borrow.Author.Tests.{eq-eqb, ne-eqb}
-use Rattle.format.specs.Format.{part, rowsAt}
+use Rattle.format.specs.Format.{byte, part, rowsAt}
 use Rattle.words.specs.Sorting.{isAmong, distinct}
 use Rattle.words.specs.RowWord.{rowWord}
 use Rattle.book.specs.Bounds.{RowFits, RowsFit}
-use Rattle.book.proofs.Gathered.{row-fits}
+use Rattle.book.proofs.Gathered.{row-fits, word-first}
 
 -- the codes of n rows are those of one row less, and of a row
 one-less : (n a : ℕ) → 0 < n → n * a ≡ (n - 1) * a + a
@@ -48,6 +48,16 @@ module _ (s : List ℕ) where
       pub among-yes : w ≡ x → true ≡ isAmong w (map rowWord (rowsAt s a p n))
       among-yes d = rw (words-cons h, sym e, eq-eqb w x d)
 
+    -- a row that begins with another code has another word
+    pub among-other : (w : ℕ) → RowsFit s a p n → (h : 0 < n) → (byte s p ≡ w / 16777216 → ⊥)
+        → isAmong w (map rowWord (rowsAt s a (p + a) (n - 1))) ≡ isAmong w (map rowWord (rowsAt s a p n))
+    among-other w f h d =
+        among-on w (rowWord (part s p a)) h refl
+        (λ e.
+        let z : p + 0 * a ≡ p = omega (arith, zero-mul a) in
+        let q = rw z at (word-first s a p n f 0 h) in
+        d (sym (ap (λ (x : ℕ). x / 16777216) e ∙ q)))
+
     pub among-end : (w : ℕ) → n ≤ 0 → false ≡ isAmong w (map rowWord (rowsAt s a p n))
     among-end w h = rw (words-none h)
 
@@ -61,4 +71,3 @@ module _ (s : List ℕ) where
 
     pub distinct-end : n ≤ 0 → distinct (map rowWord (rowsAt s a p n)) ≡ 0
     distinct-end h = rw (words-none h)
-

@@ -5,8 +5,7 @@ use Prim.Native.Nat.{ℕ, suc, _+_, _-_, _*_, _≤_, _<_}
 use native.Mathlib.Nat.{sub-zero}
 use native.Mathlib.Numerals.{add-one}
 use native.Mathlib.Omega.{arith}
-use lib.ListN.{length}
-use Rattle.format.specs.Format.{byte, le16, arityAt, rowLimit, tableEnd, rowsAt, tableAt, tablesAt, different, differentTotal}
+use Rattle.format.specs.Format.{le16, arityAt, rowLimit, tableEnd, rowsAt, tableAt, tablesAt, different, differentTotal}
 use Rattle.format.specs.Promise.{place}
 use Rattle.format.proofs.Views.{places-rise}
 use Rattle.book.specs.Bounds.{RowsFit, TablesFit}

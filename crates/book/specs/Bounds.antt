@@ -1,9 +1,7 @@
 -- Where the reader's inner functions may look: bounds of places in the bytes. Assumes nothing.
-use Prim.Native.Nat.{ℕ, _+_, _*_, _≤_, _<_}
+use Prim.Native.Nat.{ℕ, _+_, _-_, _*_, _^_, _≤_, _<_}
 use mathlib.Core.List.{List}
 use lib.ListN.{length}
-use lib.Dec.{ltb}
-use Rattle.format.specs.Basics.{pick}
 use mathlib.Core.Path.{_≡_}
 use Rattle.format.specs.Format.{byte, listPlace, fieldCount, arityAt, rowsOf, firstRow, arityLimit, tableLimit, rowLimit, lengthLimit}
 use Rattle.format.specs.Promise.{place}
@@ -35,7 +33,7 @@ pub record CodesFit (s : List ℕ) (list first a start end : ℕ) : Type 0 where
 
 -- the bits of a word that a codes take, from the highest byte on
 abbrev pub mask : ℕ → ℕ
-mask a = pick (ltb a 2) 4278190080 (pick (ltb a 3) 4294901760 (pick (ltb a 4) 4294967040 4294967295))
+mask a = 4294967296 - 2 ^ (32 - 8 * a)
 
 -- the row of a codes at p and what fills up its four bytes lie within the bytes
 pub record RowFits (s : List ℕ) (a p : ℕ) : Type 0 where

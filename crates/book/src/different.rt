@@ -3,7 +3,7 @@ ghost use mathlib.Core.Path.{_≡_};
 ghost use mathlib.Core.List.{map};
 ghost use Prim.Native.Nat.{_≤_};
 ghost use lib.ListN.{length};
-ghost use Rattle.format.specs.Format.{rowLimit, different, differentTotal, part, rowsAt, tablesAt};
+ghost use Rattle.format.specs.Format.{arityLimit, rowLimit, different, differentTotal, part, rowsAt, tablesAt};
 ghost use Rattle.words.specs.Sorting.{isAmong};
 ghost use Rattle.words.specs.RowWord.{rowWord};
 ghost use Rattle.book.specs.Bounds.{mask, RowFits, RowsFit, TablesFit};
@@ -17,20 +17,12 @@ const FEW: usize = 64;
 // Up to so many rows are compared where they stand: gathering them takes longer. Measured.
 const SMALL: usize = 16;
 
-// The bits of a word that arity codes take.
+// The bits of a word that arity codes take. By a difference and not case by case, so that a loop has nothing to decide.
 fn row_mask(arity: usize) -> usize
+    requires { ⌜ arity ≤ arityLimit ⌝ }
     ensures { λ r. ⌜ r ≡ mask arity ⌝ }
 {
-    if arity < 2 {
-        return 0xFF000000;
-    }
-    if arity < 3 {
-        return 0xFFFF0000;
-    }
-    if arity < 4 {
-        return 0xFFFFFF00;
-    }
-    0xFFFFFFFF
+    4294967296 - (1 << (32 - 8 * arity))
 }
 
 // The row of arity codes at p as a word: the first code in the highest byte, zeros behind the last. Four bytes are read in any case,
@@ -39,23 +31,33 @@ fn row_word(book: &[u8], p: usize, arity: usize) -> u32
     requires { ⌜ RowFits (now book) arity p ⌝ }
     ensures { λ r. ⌜ r ≡ rowWord (part (now (book .entry)) p arity) ⌝ }
 {
-    let word = byte(book, p) * 16777216 + byte(book, p + 1) * 65536 + byte(book, p + 2) * 256 + byte(book, p + 3);
+    let word = byte(book, p) * 16777216
+        + byte(book, p + 1) * 65536
+        + byte(book, p + 2) * 256
+        + byte(book, p + 3);
     (word & row_mask(arity)) as u32
 }
 
-// Whether a word is that of one of the count rows of arity codes from q on.
+// Whether a word is that of one of the count rows of arity codes from q on. A row that begins with another code has another word, and
+// most do.
 fn is_among(book: &[u8], word: u32, q: usize, arity: usize, count: usize) -> bool
     requires { ⌜ RowsFit (now book) arity q count ⌝ }
     ensures { λ r. ⌜ r ≡ isAmong word (map rowWord (rowsAt (now (book .entry)) arity q count)) ⌝ }
 {
+    let first = (word / 16777216) as u8;
     let mut y = q;
     let mut left = count;
     while 0 < left {
-        if word == row_word(book, y, arity) {
-            return true;
+        if book[y] == first {
+            if word == row_word(book, y, arity) {
+                return true;
+            }
+            y += arity;
+            left -= 1;
+        } else {
+            y += arity;
+            left -= 1;
         }
-        y += arity;
-        left -= 1;
     }
     false
 }

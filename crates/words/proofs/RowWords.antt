@@ -1,20 +1,21 @@
 -- Two rows of one table are equal exactly when their words are, and different rows are different words. Assumes nothing.
 use mathlib.Core.Path.{_≡_, refl, sym, ap, _∙_}
-use mathlib.Core.Logic.{_⊎_, inl, inr, ⊎-elim, _↔_}
+use mathlib.Core.Logic.{_↔_}
 use mathlib.Core.Bool.{Bool, true, false}
 use mathlib.Core.List.{List, [], _∷_, map}
-use Prim.Native.Nat.{ℕ, zero, suc, _+_, _*_, _/_, _%_, _≤_, _<_}
+use Prim.Native.Nat.{ℕ, zero, suc, _+_, _*_, _≤_, _<_}
 use native.Mathlib.Omega.{arith}
-use lib.ListN.{length, getD, List·getD-eq-default}
-use lib.Seq.{ext-getD, getD-take, length-take-le}
+use lib.ListN.{length, getD}
+use lib.Seq.{ext-getD}
 use lib.Dec.{eqb}
 use borrow.Author.Tests.{eq-eqb, ne-eqb, eqb-true}
 use Rattle.format.specs.Basics.{All}
-use Rattle.format.specs.Format.{Table, TableOk, RowOk, codeLimit, sameCodes, isIn, different}
+use Rattle.format.specs.Format.{Table, TableOk, RowOk, codeLimit, sameCodes, isIn, different, rowsAt}
 use Rattle.format.proofs.Elements.{all-at, all-or}
 use Rattle.format.proofs.Picks.{both-true}
+use Rattle.format.specs.Examples.{e1}
 use Rattle.words.specs.Sorting.{isAmong, distinct}
-use Rattle.words.specs.RowWord.{rowWord, RowOf}
+use Rattle.words.specs.RowWord.{rowWord, SameWords, EqualRows, RowOf}
 use Rattle.words.proofs.Counting.{either-eq}
 
 -- ---- equal rows
@@ -48,9 +49,9 @@ module _ (n : ℕ) (few : n ≤ 4) (r q : List ℕ) (w : RowOf n r) (v : RowOf n
       at (suc (suc (suc zero))) h = d .3
       at (suc (suc (suc (suc k)))) h = absurd (omega (arith, w .long))
 
-  -- "two rows of one table are equal exactly when their words are"
-  pub equal-rows : (r ≡ q) ↔ (rowWord r ≡ rowWord q)
-  equal-rows = (λ e. ap rowWord e, words-rows)
+  -- two rows of n codes are equal exactly when their words are
+  rows-equal : (r ≡ q) ↔ (rowWord r ≡ rowWord q)
+  rows-equal = (λ e. ap rowWord e, words-rows)
 
 same-codes : (r q : List ℕ) → sameCodes r q ≡ true → r ≡ q
 same-codes [] [] e = refl
@@ -105,11 +106,25 @@ table-row counts (f ∷ fs) (c ∷ r) h w =
     count-small (c ∷ cs) h zero = h .0 .1
     count-small (c ∷ cs) h (suc f) = count-small cs (h .1) f
 
-module _ (counts : List ℕ) (sized : All (λ c. (1 ≤ c) × (c ≤ codeLimit)) counts) (t : Table) (ok : TableOk counts t) (i k : ℕ)
-    (hi : i < length (t .rows)) (hk : k < length (t .rows)) where
-  of-table : (i : ℕ) → i < length (t .rows) → RowOf (length (t .fields)) (getD (t .rows) i [])
-  of-table i h = table-row counts (t .fields) (getD (t .rows) i []) sized (all-at (RowOk counts (t .fields)) (t .rows) [] (ok .codes) i h)
+-- two rows of a table
+same-words : (counts : List ℕ) → All (λ c. (1 ≤ c) × (c ≤ codeLimit)) counts → (t : Table) → TableOk counts t
+    → (j k : ℕ) → j < length (t .rows) → k < length (t .rows) → SameWords (t .rows) j k
+same-words counts sized t ok j k hj hk =
+    rows-equal (length (t .fields)) (ok .few) (getD (t .rows) j []) (getD (t .rows) k []) (of-table j hj) (of-table k hk)
+  where
+    of-table : (i : ℕ) → i < length (t .rows) → RowOf (length (t .fields)) (getD (t .rows) i [])
+    of-table i h = table-row counts (t .fields) (getD (t .rows) i []) sized (all-at (RowOk counts (t .fields)) (t .rows) [] (ok .codes) i h)
 
-  -- "two rows of one table are equal exactly when their words are"
-  pub table-words : (getD (t .rows) i [] ≡ getD (t .rows) k []) ↔ (rowWord (getD (t .rows) i []) ≡ rowWord (getD (t .rows) k []))
-  table-words = equal-rows (length (t .fields)) (ok .few) (getD (t .rows) i []) (getD (t .rows) k []) (of-table i hi) (of-table k hk)
+-- "two rows of one table are equal exactly when their words are"
+pub equal-rows : EqualRows
+equal-rows b w = each (b .tables) (w .each)
+  where
+    each : (ts : List Table) → All (TableOk (b .counts)) ts
+        → All (λ t. (j k : ℕ) → j < length (t .rows) → k < length (t .rows) → SameWords (t .rows) j k) ts
+    each [] a = tt
+    each (t ∷ ts) a = (same-words (b .counts) (w .sized) t (a .0), each ts (a .1))
+
+-- E1's first table has a row and a repeat of it
+pub e1-words : map rowWord (rowsAt e1 2 5 4) ≡ 0 ∷ 65536 ∷ 16908288 ∷ 65536 ∷ []
+unfolding rowsAt
+e1-words = refl

@@ -1,27 +1,18 @@
 -- `book::different::compared` meets its contract. Assumes nothing.
 use Rattle.book.proofs.Gathered.{different-compared}
 use borrow.Author.Needs.{needs}
-use native.Mathlib.Omega.{arith}
 use Rattle.book.proofs.different.compared.Statement.{statement}
 use Rattle.book.proofs.different.compared.Tie as tie
-use Rattle.book.proofs.different.compared.Reads as reads
-use Rattle.book.proofs.different.compared.Lts as lts
-use Rattle.book.proofs.different.gather.Reads as gather-reads
-use Rattle.words.proofs.count_distinct.Reads as count-distinct-reads
 
--- src/different.rt:57:5
 gather-requires : tie.Need-gather-requires
 gather-requires c κs = search needs
 
--- src/different.rt:58:5
 count-distinct-requires : tie.Need-count-distinct-requires
 count-distinct-requires c κs = search needs
 
--- src/different.rt:52:1
 same-length : tie.Need-same-length
 same-length c = search needs
 
--- src/different.rt:52:1
 returns : tie.Need-returns
 returns c = different-compared (c .before .before .before .before .before .before .before .before .args .book .now) _ _ _ (c .before .before .before .before .before .before .before .before .pre) _ _ (c .before .before .before .before .gather .ensures) (c .count-distinct .ensures)
 

@@ -2,26 +2,18 @@
 use Rattle.words.proofs.Lent.{lent-long}
 use Rattle.book.proofs.Gathered.{lent-fits, lent-counts}
 use borrow.Author.Needs.{needs}
-use native.Mathlib.Omega.{arith}
 use Rattle.book.proofs.different.different_few.Statement.{statement}
 use Rattle.book.proofs.different.different_few.Tie as tie
-use Rattle.book.proofs.different.different_few.Reads as reads
-use Rattle.book.proofs.different.different_few.Lts as lts
-use Rattle.book.proofs.different.compared.Reads as compared-reads
 
--- src/different.rt:78:34
 array-borrow-prefix-list : tie.Need-array-borrow-prefix-list
 array-borrow-prefix-list c = search needs
 
--- src/different.rt:78:34
 slice-aggregate-compared : tie.Need-slice-aggregate-compared
 slice-aggregate-compared c = lent-long 64 (c .before .before .args .count) (c .before .before .pre .1)
 
--- src/different.rt:78:5
 compared-requires : tie.Need-compared-requires
 compared-requires c κs = lent-fits (c .before .before .args .book .now) (c .before .before .args .arity) (c .before .before .args .start) 64 (c .before .before .args .count) (c .before .before .pre .1) (c .before .before .pre .0)
 
--- src/different.rt:73:1
 returns : tie.Need-returns
 returns c = lent-counts (c .before .before .before .before .args .book .now) (c .before .before .before .before .args .arity) (c .before .before .before .before .args .start) 64 (c .before .before .before .before .args .count) (c .before .before .before .before .pre .1) _ (c .before .compared .ensures)
 

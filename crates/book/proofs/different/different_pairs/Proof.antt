@@ -1,7 +1,7 @@
 -- `book::different::different_pairs` meets its contract. The loop's invariant: the words found and the different words left make the whole. Assumes
 -- nothing.
 use Prim.Native.Nat.{_+_, _≤_}
-use mathlib.Core.Path.{_≡_, refl, _∙_}
+use mathlib.Core.Path.{_≡_}
 use mathlib.Core.List.{map}
 use borrow.Author.Tests.{not-true, not-false}
 use Rattle.format.specs.Format.{rowsAt}
@@ -14,10 +14,6 @@ use borrow.Author.Needs.{needs}
 use native.Mathlib.Omega.{arith}
 use Rattle.book.proofs.different.different_pairs.Statement.{statement}
 use Rattle.book.proofs.different.different_pairs.Tie as tie
-use Rattle.book.proofs.different.different_pairs.Reads as reads
-use Rattle.book.proofs.different.different_pairs.Lts as lts
-use Rattle.book.proofs.different.is_among.Reads as is-among-reads
-use Rattle.book.proofs.different.row_word.Reads as row-word-reads
 
 abbrev Inv-loop : tie.InvT-loop
 Inv-loop book start arity count found₀ next₀ left₀ found next left = RowsFit book arity next left × (found + left ≤ count)
@@ -26,49 +22,38 @@ Inv-loop book start arity count found₀ next₀ left₀ found next left = RowsF
 abbrev μ-loop : tie.MeasureT-loop
 μ-loop book start arity count found₀ next₀ left₀ found next left = left
 
--- src/different.rt:57:5
 loop-holds : tie.Need-loop-holds Inv-loop μ-loop
 loop-holds c = ((c .before .pre), omega arith, omega arith)
 
--- src/different.rt:58:13
 row-word-requires : tie.Need-row-word-requires Inv-loop μ-loop
 row-word-requires c κs = row-first (c .before .before .before .args .book .now) _ _ _ (c .before .loop .inv .0) (c .loop-test .taken)
 
--- src/different.rt:59:9
 add-next : tie.Need-add-next Inv-loop μ-loop
 add-next c = omega (arith, row-first (c .before .before .before .before .args .book .now) _ _ _ (c .before .before .loop .inv .0) (c .before .loop-test .taken) .within)
 
--- src/different.rt:60:9
 sub-left : tie.Need-sub-left Inv-loop μ-loop
 sub-left c = search needs
 
--- src/different.rt:61:13
 is-among-requires : tie.Need-is-among-requires Inv-loop μ-loop
 is-among-requires c κs = rest-fits (c .before .before .before .before .args .book .now) _ _ _ (c .before .before .loop .inv .0) (c .before .loop-test .taken)
 
--- src/different.rt:62:13
 add-found : tie.Need-add-found Inv-loop μ-loop
 add-found c = search needs
 
--- src/different.rt:57:5
 loop-less : tie.Need-loop-less Inv-loop μ-loop
 loop-less c = search needs
 
--- src/different.rt:57:5
 loop-again : tie.Need-loop-again Inv-loop μ-loop
 loop-again c = let d = distinct-new (c .before .before .before .before .before .before .args .book .now) (c .before .before .before .before .before .before .args .arity) (c .before .before .before .before .loop .next) (c .before .before .before .before .loop .left) _ (c .before .before .before .loop-test .taken) (c .before .before .row-word .ensures) _ (c .before .is-among .ensures) (not-true _ (c .if1 .taken)) in
     (rest-fits (c .before .before .before .before .before .before .args .book .now) _ _ _ (c .before .before .before .before .loop .inv .0) (c .before .before .before .loop-test .taken), omega arith, omega (arith, d, c .before .before .before .before .loop .inv .2))
 
--- src/different.rt:57:5
 loop-less-2 : tie.Need-loop-less-2 Inv-loop μ-loop
 loop-less-2 c = search needs
 
--- src/different.rt:57:5
 loop-again-2 : tie.Need-loop-again-2 Inv-loop μ-loop
 loop-again-2 c = let d = distinct-old (c .before .before .before .before .before .before .args .book .now) (c .before .before .before .before .before .before .args .arity) (c .before .before .before .before .loop .next) (c .before .before .before .before .loop .left) _ (c .before .before .before .loop-test .taken) (c .before .before .row-word .ensures) _ (c .before .is-among .ensures) (not-false _ (c .if1 .left)) in
     (rest-fits (c .before .before .before .before .before .before .args .book .now) _ _ _ (c .before .before .before .before .loop .inv .0) (c .before .before .before .loop-test .taken), omega arith, omega (arith, d, c .before .before .before .before .loop .inv .2))
 
--- src/different.rt:50:1
 returns : tie.Need-returns Inv-loop μ-loop
 returns c = let d = distinct-end (c .before .before .before .args .book .now) (c .before .before .before .args .arity) (c .before .loop .next) (c .before .loop .left) (c .loop-test .left) in
     (omega (arith, d, c .before .loop .inv .2, rows-words (c .before .before .before .args .book .now) (c .before .before .before .args .arity) (c .before .before .before .args .start) (c .before .before .before .args .count) (c .before .before .before .pre)), omega arith)

@@ -6,9 +6,6 @@ use borrow.Author.Needs.{needs}
 use native.Mathlib.Omega.{arith}
 use Rattle.book.proofs.different.gather.Statement.{statement}
 use Rattle.book.proofs.different.gather.Tie as tie
-use Rattle.book.proofs.different.gather.Reads as reads
-use Rattle.book.proofs.different.gather.Lts as lts
-use Rattle.book.proofs.different.row_word.Reads as row-word-reads
 
 abbrev Inv-loop : tie.InvT-loop
 Inv-loop book start arity list₀ at₀ i₀ list at i = Gathering book arity start (length list₀) list at i
@@ -16,43 +13,33 @@ Inv-loop book start arity list₀ at₀ i₀ list at i = Gathering book arity st
 abbrev μ-loop : tie.MeasureT-loop
 μ-loop book start arity list₀ at₀ i₀ list at i = length list - i
 
--- src/different.rt:43:5
 loop-holds : tie.Need-loop-holds Inv-loop μ-loop
 loop-holds c = gather-start _ _ _ _
 
--- src/different.rt:44:19
 row-word-requires : tie.Need-row-word-requires Inv-loop μ-loop
 row-word-requires c κs = row-fits _ _ _ _ (c .before .before .before .before .pre) (c .before .loop .i) (c .before .loop .at) (omega (arith, c .before .loop .inv .long)) (c .before .loop .inv .at-is)
 
--- src/different.rt:44:9
 mul-list : tie.Need-mul-list Inv-loop μ-loop
 mul-list c = search needs
 
--- src/different.rt:44:9
 slice-write-list : tie.Need-slice-write-list Inv-loop μ-loop
 slice-write-list c = search needs
 
--- src/different.rt:45:9
 add-at : tie.Need-add-at Inv-loop μ-loop
 add-at c = omega (arith, row-fits _ _ _ _ (c .before .before .before .before .before .pre) (c .before .before .loop .i) (c .before .before .loop .at) (omega (arith, c .before .before .loop .inv .long)) (c .before .before .loop .inv .at-is) .within)
 
--- src/different.rt:46:9
 add-i : tie.Need-add-i Inv-loop μ-loop
 add-i c = search needs
 
--- src/different.rt:43:5
 loop-less : tie.Need-loop-less Inv-loop μ-loop
 loop-less c = simp length-set (omega arith)
 
--- src/different.rt:43:5
 loop-again : tie.Need-loop-again Inv-loop μ-loop
 loop-again c = gather-on _ _ _ _ _ _ _ _ (c .before .before .loop .inv) (c .before .loop-test .taken) (c .row-word .ensures)
 
--- src/different.rt:37:1
 same-length : tie.Need-same-length Inv-loop μ-loop
 same-length c = c .before .loop .inv .long
 
--- src/different.rt:37:1
 returns : tie.Need-returns Inv-loop μ-loop
 returns c = gather-end _ _ _ _ _ _ _ (c .before .loop .inv) (c .loop-test .left)
 

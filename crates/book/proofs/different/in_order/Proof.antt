@@ -6,9 +6,6 @@ use borrow.Author.Needs.{needs}
 use native.Mathlib.Omega.{arith}
 use Rattle.book.proofs.different.in_order.Statement.{statement}
 use Rattle.book.proofs.different.in_order.Tie as tie
-use Rattle.book.proofs.different.in_order.Reads as reads
-use Rattle.book.proofs.different.in_order.Lts as lts
-use Rattle.book.proofs.different.row_word.Reads as row-word-reads
 
 abbrev Inv-loop : tie.InvT-loop
 Inv-loop book start arity count before₀ at₀ found₀ i₀ before at found i = Following book arity start count before at found i
@@ -16,67 +13,51 @@ Inv-loop book start arity count before₀ at₀ found₀ i₀ before at found i 
 abbrev μ-loop : tie.MeasureT-loop
 μ-loop book start arity count before₀ at₀ found₀ i₀ before at found i = count - i
 
--- src/different.rt:94:9
 returns : tie.Need-returns Inv-loop μ-loop
 returns c = follow-none _ _ _ _ (c .before .before .pre) (c .if1 .taken)
 
--- src/different.rt:96:9
 row-word-requires : tie.Need-row-word-requires Inv-loop μ-loop
 row-word-requires c κs = row-first _ _ _ _ (c .before .before .pre) (c .if1 .left)
 
--- src/different.rt:97:18
 add-at : tie.Need-add-at Inv-loop μ-loop
 add-at c = omega (arith, row-first _ _ _ _ (c .before .before .before .pre) (c .before .if1 .left) .within)
 
--- src/different.rt:100:5
 loop-holds : tie.Need-loop-holds Inv-loop μ-loop
 loop-holds c = follow-start _ _ _ _ (c .before .before .before .pre) _ (c .before .if1 .left) (c .row-word .ensures)
 
--- src/different.rt:101:13
 row-word-requires-2 : tie.Need-row-word-requires-2 Inv-loop μ-loop
 row-word-requires-2 c κs = next-fits _ _ _ _ (c .before .before .before .before .before .pre) _ _ _ _ 0 (c .before .loop .inv) (c .loop-test .taken)
 
--- src/different.rt:103:13
 returns-2 : tie.Need-returns-2 Inv-loop μ-loop
 returns-2 c = follow-falls _ _ _ _ (c .before .before .before .before .before .before .before .pre) _ _ _ _ _ (c .before .before .before .loop .inv) (c .before .before .loop-test .taken) (c .before .row-word2 .ensures) (c .if2 .taken)
 
--- src/different.rt:106:13
 add-found : tie.Need-add-found Inv-loop μ-loop
 add-found c = omega (arith, c .before .before .before .before .loop .inv .few)
 
--- src/different.rt:108:13
 add-at-2 : tie.Need-add-at-2 Inv-loop μ-loop
 add-at-2 c = omega (arith, next-fits _ _ _ _ (c .before .before .before .before .before .before .before .before .pre) _ _ _ _ 0 (c .before .before .before .before .loop .inv) (c .before .before .before .loop-test .taken) .within)
 
--- src/different.rt:109:13
 add-i : tie.Need-add-i Inv-loop μ-loop
 add-i c = search needs
 
--- src/different.rt:100:5
 loop-less : tie.Need-loop-less Inv-loop μ-loop
 loop-less c = search needs
 
--- src/different.rt:100:5
 loop-again : tie.Need-loop-again Inv-loop μ-loop
 loop-again c = follow-new _ _ _ _ (c .before .before .before .before .before .before .before .before .pre) _ _ _ _ _ (c .before .before .before .before .loop .inv) (c .before .before .before .loop-test .taken) (c .before .before .row-word2 .ensures) (c .if3 .taken)
 
--- src/different.rt:111:13
 add-at-3 : tie.Need-add-at-3 Inv-loop μ-loop
 add-at-3 c = omega (arith, next-fits _ _ _ _ (c .before .before .before .before .before .before .before .before .pre) _ _ _ _ 0 (c .before .before .before .before .loop .inv) (c .before .before .before .loop-test .taken) .within)
 
--- src/different.rt:112:13
 add-i-2 : tie.Need-add-i-2 Inv-loop μ-loop
 add-i-2 c = search needs
 
--- src/different.rt:100:5
 loop-less-2 : tie.Need-loop-less-2 Inv-loop μ-loop
 loop-less-2 c = search needs
 
--- src/different.rt:100:5
 loop-again-2 : tie.Need-loop-again-2 Inv-loop μ-loop
 loop-again-2 c = follow-same _ _ _ _ (c .before .before .before .before .before .before .before .before .pre) _ _ _ _ _ (c .before .before .before .before .loop .inv) (c .before .before .before .loop-test .taken) (c .before .before .row-word2 .ensures) (c .before .if2 .left) (c .if3 .left)
 
--- src/different.rt:89:1
 returns-3 : tie.Need-returns-3 Inv-loop μ-loop
 returns-3 c = follow-end _ _ _ _ (c .before .before .before .before .before .pre) _ _ _ _ (c .before .loop .inv) (c .loop-test .left)
 

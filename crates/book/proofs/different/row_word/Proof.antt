@@ -1,75 +1,54 @@
 -- `book::different::row_word` meets its contract. Assumes nothing.
 use Rattle.book.proofs.Gathered.{word-fits, word-is}
 use borrow.Author.Needs.{needs}
-use native.Mathlib.Omega.{arith}
 use Rattle.book.proofs.different.row_word.Statement.{statement}
 use Rattle.book.proofs.different.row_word.Tie as tie
-use Rattle.book.proofs.different.row_word.Reads as reads
-use Rattle.book.proofs.different.row_word.Lts as lts
-use Rattle.book.proofs.bytes.byte.Reads as byte-reads
-use Rattle.book.proofs.different.row_mask.Reads as row-mask-reads
 
--- src/different.rt:42:16
 byte-requires : tie.Need-byte-requires
 byte-requires c κs = search needs
 
--- src/different.rt:42:16
 mul-word : tie.Need-mul-word
 mul-word c = search needs
 
--- src/different.rt:42:54
 add-byte : tie.Need-add-byte
 add-byte c = search needs
 
--- src/different.rt:42:43
 byte-requires-2 : tie.Need-byte-requires-2
 byte-requires-2 c κs = search needs
 
--- src/different.rt:42:43
 mul-word-2 : tie.Need-mul-word-2
 mul-word-2 c = search needs
 
--- src/different.rt:42:16
 add-word : tie.Need-add-word
 add-word c = search needs
 
--- src/different.rt:42:82
 add-byte-2 : tie.Need-add-byte-2
 add-byte-2 c = search needs
 
--- src/different.rt:42:71
 byte-requires-3 : tie.Need-byte-requires-3
 byte-requires-3 c κs = search needs
 
--- src/different.rt:42:71
 mul-word-3 : tie.Need-mul-word-3
 mul-word-3 c = search needs
 
--- src/different.rt:42:16
 add-word-2 : tie.Need-add-word-2
 add-word-2 c = search needs
 
--- src/different.rt:42:108
 add-byte-3 : tie.Need-add-byte-3
 add-byte-3 c = search needs
 
--- src/different.rt:42:97
 byte-requires-4 : tie.Need-byte-requires-4
 byte-requires-4 c κs = search needs
 
--- src/different.rt:42:16
 add-word-3 : tie.Need-add-word-3
 add-word-3 c = search needs
 
--- src/different.rt:43:13
 row-mask-requires : tie.Need-row-mask-requires
 row-mask-requires c κs = search needs
 
--- src/different.rt:43:5
 cast-result : tie.Need-cast-result
 cast-result c = record { fits = word-fits (c .before .before .before .before .before .before .args .book .now) _ _ (c .before .before .before .before .before .before .pre) _ _ _ _ (c .before .before .before .before .byte .ensures .0) (c .before .before .before .byte2 .ensures .0) (c .before .before .byte3 .ensures .0) (c .before .byte4 .ensures .0) (c .before .before .before .byte2 .ensures .1) (c .before .before .byte3 .ensures .1) (c .before .byte4 .ensures .1) _ (c .before .before .before .before .byte .ensures .1) }
 
--- src/different.rt:38:1
 returns : tie.Need-returns
 returns c = word-is (c .before .before .before .before .before .before .args .book .now) _ _ (c .before .before .before .before .before .before .pre) _ _ _ _ (c .before .before .before .before .byte .ensures .0) (c .before .before .before .byte2 .ensures .0) (c .before .before .byte3 .ensures .0) (c .before .byte4 .ensures .0) (c .before .before .before .byte2 .ensures .1) (c .before .before .byte3 .ensures .1) (c .before .byte4 .ensures .1) _ (c .row-mask .ensures) (c .before .before .before .before .byte .ensures .1)
 

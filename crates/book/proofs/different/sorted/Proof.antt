@@ -1,32 +1,21 @@
 -- `book::different::sorted` meets its contract. Assumes nothing.
 use Rattle.book.proofs.Gathered.{different-sorted}
 use borrow.Author.Needs.{needs}
-use native.Mathlib.Omega.{arith}
 use Rattle.book.proofs.different.sorted.Statement.{statement}
 use Rattle.book.proofs.different.sorted.Tie as tie
-use Rattle.book.proofs.different.sorted.Reads as reads
-use Rattle.book.proofs.different.sorted.Lts as lts
-use Rattle.book.proofs.different.gather.Reads as gather-reads
-use Rattle.words.proofs.count_runs.Reads as count-runs-reads
-use Rattle.words.proofs.sort.Reads as sort-reads
 
--- src/different.rt:67:5
 gather-requires : tie.Need-gather-requires
 gather-requires c κs = search needs
 
--- src/different.rt:68:5
 sort-requires : tie.Need-sort-requires
 sort-requires c κs = search needs
 
--- src/different.rt:69:5
 count-runs-requires : tie.Need-count-runs-requires
 count-runs-requires c κs = search needs
 
--- src/different.rt:62:1
 same-length : tie.Need-same-length
 same-length c = search needs
 
--- src/different.rt:62:1
 returns : tie.Need-returns
 returns c = different-sorted (c .before .before .before .before .before .before .before .before .before .before .before .before .args .book .now) _ _ _ (c .before .before .before .before .before .before .before .before .before .before .before .before .pre .0) _ _ (c .before .before .before .before .before .before .before .before .gather .ensures) _ (c .before .before .before .before .before .before .before .before .before .before .before .before .pre .1) (c .before .before .before .before .sort .ensures) (c .count-runs .ensures)
 
