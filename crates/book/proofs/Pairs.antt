@@ -22,6 +22,10 @@ module _ (s : List ℕ) where
     pub row-first : 0 < n → RowFits s a p
     row-first h = row-fits s a p n f 0 p h (omega (arith, zero-mul a))
 
+    -- the highest byte of the first row's word is its first code
+    pub first-code : 0 < n → rowWord (part s p a) / 16777216 ≡ byte s p
+    first-code h = let z : p + 0 * a ≡ p = omega (arith, zero-mul a) in rw z at (word-first s a p n f 0 h)
+
     -- the rows behind the first
     pub rest-fits : 0 < n → RowsFit s a (p + a) (n - 1)
     rest-fits h =
@@ -49,14 +53,10 @@ module _ (s : List ℕ) where
       among-yes d = rw (words-cons h, sym e, eq-eqb w x d)
 
     -- a row that begins with another code has another word
-    pub among-other : (w : ℕ) → RowsFit s a p n → (h : 0 < n) → (byte s p ≡ w / 16777216 → ⊥)
+    pub among-other : (w first : ℕ) → RowsFit s a p n → 0 < n → w / 16777216 ≡ first → (first ≡ byte s p → ⊥)
         → isAmong w (map rowWord (rowsAt s a (p + a) (n - 1))) ≡ isAmong w (map rowWord (rowsAt s a p n))
-    among-other w f h d =
-        among-on w (rowWord (part s p a)) h refl
-        (λ e.
-        let z : p + 0 * a ≡ p = omega (arith, zero-mul a) in
-        let q = rw z at (word-first s a p n f 0 h) in
-        d (sym (ap (λ (x : ℕ). x / 16777216) e ∙ q)))
+    among-other w first f h e d =
+        among-on w (rowWord (part s p a)) h refl (λ q. d (sym e ∙ (ap (λ (x : ℕ). x / 16777216) q ∙ first-code a p n f h)))
 
     pub among-end : (w : ℕ) → n ≤ 0 → false ≡ isAmong w (map rowWord (rowsAt s a p n))
     among-end w h = rw (words-none h)
@@ -71,3 +71,21 @@ module _ (s : List ℕ) where
 
     pub distinct-end : n ≤ 0 → distinct (map rowWord (rowsAt s a p n)) ≡ 0
     distinct-end h = rw (words-none h)
+
+  -- the row at p and the n rows behind it
+  module _ (a p n : ℕ) (f : RowsFit s a p (n + 1)) where
+    one-more : n + 1 - 1 ≡ n
+    one-more = omega arith
+
+    pub behind-fits : RowsFit s a (p + a) n
+    behind-fits = rw one-more at (rest-fits a p (n + 1) f (omega arith))
+
+    pub own-fits : RowFits s a p
+    own-fits = row-first a p (n + 1) f (omega arith)
+
+    pub own-code : rowWord (part s p a) / 16777216 ≡ byte s p
+    own-code = first-code a p (n + 1) f (omega arith)
+
+-- one row is taken off
+pub taken-off : (s : List ℕ) (a p n : ℕ) → 0 < n → RowsFit s a p n → RowsFit s a p (n - 1 + 1)
+taken-off s a p n h f = let e : n - 1 + 1 ≡ n = omega arith in rw e f

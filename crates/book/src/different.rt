@@ -1,7 +1,7 @@
 // How many different rows a book has, each counted within its table. Rows are compared as words, a word at a time.
 ghost use mathlib.Core.Path.{_≡_};
 ghost use mathlib.Core.List.{map};
-ghost use Prim.Native.Nat.{_≤_};
+ghost use Prim.Native.Nat.{_+_, _≤_};
 ghost use lib.ListN.{length};
 ghost use Rattle.format.specs.Format.{arityLimit, rowLimit, different, differentTotal, part, rowsAt, tablesAt};
 ghost use Rattle.words.specs.Sorting.{isAmong};
@@ -38,24 +38,24 @@ fn row_word(book: &[u8], p: usize, arity: usize) -> u32
     (word & row_mask(arity)) as u32
 }
 
-// Whether a word is that of one of the count rows of arity codes from q on. A row that begins with another code has another word, and
-// most do.
-fn is_among(book: &[u8], word: u32, q: usize, arity: usize, count: usize) -> bool
-    requires { ⌜ RowsFit (now book) arity q count ⌝ }
-    ensures { λ r. ⌜ r ≡ isAmong word (map rowWord (rowsAt (now (book .entry)) arity q count)) ⌝ }
+// Whether the row of arity codes at row stands again among the count rows behind it. Rows that begin with different codes have
+// different words, and most do: the words are compared where the first codes are the same.
+fn stands_again(book: &[u8], row: usize, arity: usize, count: usize) -> bool
+    requires { ⌜ RowsFit (now book) arity row (count + 1) ⌝ }
+    ensures { λ r. ⌜ r ≡ isAmong (rowWord (part (now (book .entry)) row arity))
+        (map rowWord (rowsAt (now (book .entry)) arity (row + arity) count)) ⌝ }
 {
-    let first = (word / 16777216) as u8;
-    let mut y = q;
+    let mut at = row + arity;
     let mut left = count;
     while 0 < left {
-        if book[y] == first {
-            if word == row_word(book, y, arity) {
+        if book[row] == book[at] {
+            if row_word(book, row, arity) == row_word(book, at, arity) {
                 return true;
             }
-            y += arity;
+            at += arity;
             left -= 1;
         } else {
-            y += arity;
+            at += arity;
             left -= 1;
         }
     }
@@ -69,14 +69,15 @@ fn different_pairs(book: &[u8], start: usize, arity: usize, count: usize) -> usi
     ensures { λ r. ⌜ (r ≡ different (rowsAt (now (book .entry)) arity start count)) × (r ≤ count) ⌝ }
 {
     let mut found = 0;
-    let mut next = start;
+    let mut row = start;
     let mut left = count;
     while 0 < left {
-        let word = row_word(book, next, arity);
-        next += arity;
         left -= 1;
-        if !is_among(book, word, next, arity, left) {
+        if stands_again(book, row, arity, left) {
+            row += arity;
+        } else {
             found += 1;
+            row += arity;
         }
     }
     found

@@ -1,61 +1,60 @@
 -- `book::different::different_pairs` meets its contract. The loop's invariant: the words found and the different words left make the whole. Assumes
 -- nothing.
 use Prim.Native.Nat.{_+_, _≤_}
-use mathlib.Core.Path.{_≡_}
+use mathlib.Core.Path.{_≡_, refl}
 use mathlib.Core.List.{map}
-use borrow.Author.Tests.{not-true, not-false}
 use Rattle.format.specs.Format.{rowsAt}
 use Rattle.words.specs.Sorting.{distinct}
 use Rattle.words.specs.RowWord.{rowWord}
 use Rattle.book.specs.Bounds.{RowsFit}
 use Rattle.book.proofs.Gathered.{rows-words}
-use Rattle.book.proofs.Pairs.{row-first, rest-fits, distinct-old, distinct-new, distinct-end}
+use Rattle.book.proofs.Pairs.{row-first, rest-fits, taken-off, distinct-old, distinct-new, distinct-end}
 use borrow.Author.Needs.{needs}
 use native.Mathlib.Omega.{arith}
 use Rattle.book.proofs.different.different_pairs.Statement.{statement}
 use Rattle.book.proofs.different.different_pairs.Tie as tie
 
 abbrev Inv-loop : tie.InvT-loop
-Inv-loop book start arity count found₀ next₀ left₀ found next left = RowsFit book arity next left × (found + left ≤ count)
-    × (found + distinct (map rowWord (rowsAt book arity next left)) ≡ distinct (map rowWord (rowsAt book arity start count)))
+Inv-loop book start arity count found₀ row₀ left₀ found row left = RowsFit book arity row left × (found + left ≤ count)
+    × (found + distinct (map rowWord (rowsAt book arity row left)) ≡ distinct (map rowWord (rowsAt book arity start count)))
 
 abbrev μ-loop : tie.MeasureT-loop
-μ-loop book start arity count found₀ next₀ left₀ found next left = left
+μ-loop book start arity count found₀ row₀ left₀ found row left = left
 
 loop-holds : tie.Need-loop-holds Inv-loop μ-loop
 loop-holds c = ((c .before .pre), omega arith, omega arith)
 
-row-word-requires : tie.Need-row-word-requires Inv-loop μ-loop
-row-word-requires c κs = row-first (c .before .before .before .args .book .now) _ _ _ (c .before .loop .inv .0) (c .loop-test .taken)
-
-add-next : tie.Need-add-next Inv-loop μ-loop
-add-next c = omega (arith, row-first (c .before .before .before .before .args .book .now) _ _ _ (c .before .before .loop .inv .0) (c .before .loop-test .taken) .within)
-
 sub-left : tie.Need-sub-left Inv-loop μ-loop
 sub-left c = search needs
 
-is-among-requires : tie.Need-is-among-requires Inv-loop μ-loop
-is-among-requires c κs = rest-fits (c .before .before .before .before .args .book .now) _ _ _ (c .before .before .loop .inv .0) (c .before .loop-test .taken)
+stands-again-requires : tie.Need-stands-again-requires Inv-loop μ-loop
+stands-again-requires c κs = taken-off (c .before .before .before .args .book .now) _ _ (c .before .loop .left) (c .loop-test .taken) (c .before .loop .inv .0)
 
-add-found : tie.Need-add-found Inv-loop μ-loop
-add-found c = search needs
+add-row : tie.Need-add-row Inv-loop μ-loop
+add-row c = omega (arith, row-first (c .before .before .before .before .before .args .book .now) _ _ _ (c .before .before .before .loop .inv .0) (c .before .before .loop-test .taken) .within, c .before .before .before .before .before .pre .few)
 
 loop-less : tie.Need-loop-less Inv-loop μ-loop
 loop-less c = search needs
 
 loop-again : tie.Need-loop-again Inv-loop μ-loop
-loop-again c = let d = distinct-new (c .before .before .before .before .before .before .args .book .now) (c .before .before .before .before .before .before .args .arity) (c .before .before .before .before .loop .next) (c .before .before .before .before .loop .left) _ (c .before .before .before .loop-test .taken) (c .before .before .row-word .ensures) _ (c .before .is-among .ensures) (not-true _ (c .if1 .taken)) in
-    (rest-fits (c .before .before .before .before .before .before .args .book .now) _ _ _ (c .before .before .before .before .loop .inv .0) (c .before .before .before .loop-test .taken), omega arith, omega (arith, d, c .before .before .before .before .loop .inv .2))
+loop-again c = let d = distinct-old (c .before .before .before .before .before .args .book .now) (c .before .before .before .before .before .args .arity) (c .before .before .before .loop .row) (c .before .before .before .loop .left) _ (c .before .before .loop-test .taken) refl _ (c .before .stands-again .ensures) (c .if1 .taken) in
+    (rest-fits (c .before .before .before .before .before .args .book .now) _ _ _ (c .before .before .before .loop .inv .0) (c .before .before .loop-test .taken), omega arith, omega (arith, d, c .before .before .before .loop .inv .2))
+
+add-found : tie.Need-add-found Inv-loop μ-loop
+add-found c = search needs
+
+add-row-2 : tie.Need-add-row-2 Inv-loop μ-loop
+add-row-2 c = omega (arith, row-first (c .before .before .before .before .before .args .book .now) _ _ _ (c .before .before .before .loop .inv .0) (c .before .before .loop-test .taken) .within, c .before .before .before .before .before .pre .few)
 
 loop-less-2 : tie.Need-loop-less-2 Inv-loop μ-loop
 loop-less-2 c = search needs
 
 loop-again-2 : tie.Need-loop-again-2 Inv-loop μ-loop
-loop-again-2 c = let d = distinct-old (c .before .before .before .before .before .before .args .book .now) (c .before .before .before .before .before .before .args .arity) (c .before .before .before .before .loop .next) (c .before .before .before .before .loop .left) _ (c .before .before .before .loop-test .taken) (c .before .before .row-word .ensures) _ (c .before .is-among .ensures) (not-false _ (c .if1 .left)) in
-    (rest-fits (c .before .before .before .before .before .before .args .book .now) _ _ _ (c .before .before .before .before .loop .inv .0) (c .before .before .before .loop-test .taken), omega arith, omega (arith, d, c .before .before .before .before .loop .inv .2))
+loop-again-2 c = let d = distinct-new (c .before .before .before .before .before .args .book .now) (c .before .before .before .before .before .args .arity) (c .before .before .before .loop .row) (c .before .before .before .loop .left) _ (c .before .before .loop-test .taken) refl _ (c .before .stands-again .ensures) (c .if1 .left) in
+    (rest-fits (c .before .before .before .before .before .args .book .now) _ _ _ (c .before .before .before .loop .inv .0) (c .before .before .loop-test .taken), omega arith, omega (arith, d, c .before .before .before .loop .inv .2))
 
 returns : tie.Need-returns Inv-loop μ-loop
-returns c = let d = distinct-end (c .before .before .before .args .book .now) (c .before .before .before .args .arity) (c .before .loop .next) (c .before .loop .left) (c .loop-test .left) in
+returns c = let d = distinct-end (c .before .before .before .args .book .now) (c .before .before .before .args .arity) (c .before .loop .row) (c .before .loop .left) (c .loop-test .left) in
     (omega (arith, d, c .before .loop .inv .2, rows-words (c .before .before .before .args .book .now) (c .before .before .before .args .arity) (c .before .before .before .args .start) (c .before .before .before .args .count) (c .before .before .before .pre)), omega arith)
 
 pub different-pairs-spec : {M : Type 1} → statement M
@@ -65,13 +64,13 @@ different-pairs-spec =
     Inv-loop
     μ-loop
     loop-holds
-    row-word-requires
-    add-next
     sub-left
-    is-among-requires
-    add-found
+    stands-again-requires
+    add-row
     loop-less
     loop-again
+    add-found
+    add-row-2
     loop-less-2
     loop-again-2
     returns)
