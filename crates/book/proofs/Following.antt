@@ -36,7 +36,7 @@ module _ (s : List ℕ) (a p n : ℕ) (f : RowsFit s a p n) where
   words = wordsAt s a p n
 
   long : length words ≡ n
-  long = words-long s a p n f
+  long = words-long s a p n
 
   -- no rows
   pub follow-none : n < 1 → NeverFalls (length words) words × (0 ≡ runs words) × (0 ≤ length words)
@@ -47,7 +47,7 @@ module _ (s : List ℕ) (a p n : ℕ) (f : RowsFit s a p n) where
   pub follow-start : (before : ℕ) → 1 ≤ n → before ≡ rowWord (part s p a) → Following s a p n before (p + a) 1 1
   follow-start before h e =
       let z : p + 0 * a ≡ p = omega (arith, zero-mul a) in
-      let w = rw z at (word-at s a p n f 0 h) in
+      let w = rw z at (word-at s a p n 0 h) in
       record {
         some = omega arith;
         within = h;
@@ -64,7 +64,7 @@ module _ (s : List ℕ) (a p n : ℕ) (f : RowsFit s a p n) where
 
     module _ (e : word ≡ rowWord (part s at a)) where
       next-is : word ≡ getD words i 0
-      next-is = e ∙ (ap (λ (x : ℕ). rowWord (part s x a)) (w .place) ∙ sym (word-at s a p n f i h))
+      next-is = e ∙ (ap (λ (x : ℕ). rowWord (part s x a)) (w .place) ∙ sym (word-at s a p n i h))
 
       next-place : at + a ≡ p + (i + 1) * a
       next-place = rw (add-one i) (omega (arith, w .place, suc-mul i a))

@@ -13,12 +13,12 @@ use Rattle.format.specs.Format.{byte, part, arityLimit, rowLimit, rowsAt, diffe
 use Rattle.format.proofs.Elements.{all-of, all-or}
 use Rattle.format.proofs.Views.{part-at, part-length, rows-count}
 use Rattle.words.specs.Sorting.{most, Sorted, distinct, runs}
-use Rattle.words.specs.RowWord.{rowWord, RowOf}
+use Rattle.words.specs.RowWord.{rowWord, mask}
 use Rattle.words.proofs.Counting.{either-eq}
 use Rattle.words.proofs.Distinct.{sorted-runs}
 use Rattle.words.proofs.Lent.{cleared, lent-long}
-use Rattle.words.proofs.RowWords.{different-words}
-use Rattle.book.specs.Bounds.{mask, RowFits, RowsFit}
+use Rattle.words.proofs.RowWords.{RowOf, different-words}
+use Rattle.book.specs.Bounds.{RowFits, RowsFit}
 
 -- ---- the bits of a word that a codes take
 
@@ -30,7 +30,7 @@ mask-small a =
     let p : 2 ^ (32 - 8 * a) ≤ 2 ^ 32 = pow-mono {i = 32 - 8 * a} {j = 32} (omega arith) in
     rw (shl-exact 1 (32 - 8 * a) 64 (let l : 1 < 2 = omega arith in l) (omega arith)) (omega (arith, p))
 
--- the part lent of an array of zeros is no longer than the rows are many
+-- the part lent of an array of zeros is no longer than a book may have rows
 pub lent-few : (n k : ℕ) → k ≤ n → k ≤ rowLimit → length (take k (cleared n)) ≤ rowLimit
 lent-few n k h few = rw (sym (lent-long n k h)) few
 
@@ -103,6 +103,14 @@ module _ (s : List ℕ) where
       let e : p + a + k * a ≡ p + suc k * a = omega (arith, suc-mul k a) in
       rw e at (row-at a (p + a) n k (omega arith))
 
+  module _ (a p n : ℕ) where
+    pub words-long : length (map rowWord (rowsAt s a p n)) ≡ n
+    words-long = length-map (rowsAt s a p n) rowWord ∙ rows-count s a p n
+
+    -- word k
+    pub word-at : (k : ℕ) → k < n → getD (map rowWord (rowsAt s a p n)) k 0 ≡ rowWord (part s (p + k * a) a)
+    word-at k h = List·getD-map rowWord (rowsAt s a p n) k [] ∙ ap rowWord (row-at a p n k h)
+
   module _ (a p n : ℕ) (f : RowsFit s a p n) where
     -- row k lies within the bytes
     pub row-fits : (k at : ℕ) → k < n → at ≡ p + k * a → RowFits s a at
@@ -130,13 +138,6 @@ module _ (s : List ℕ) where
         let z = rw e at (part-at s (p + k * a) a 0 (f .some)) in
         omega (arith, z, c 1, c 2, c 3)
 
-    pub words-long : length (map rowWord (rowsAt s a p n)) ≡ n
-    words-long = length-map (rowsAt s a p n) rowWord ∙ rows-count s a p n
-
-    -- word k
-    pub word-at : (k : ℕ) → k < n → getD (map rowWord (rowsAt s a p n)) k 0 ≡ rowWord (part s (p + k * a) a)
-    word-at k h = List·getD-map rowWord (rowsAt s a p n) k [] ∙ ap rowWord (row-at a p n k h)
-
     -- as many different rows as different words
     pub rows-words : distinct (map rowWord (rowsAt s a p n)) ≡ different (rowsAt s a p n)
     rows-words =
@@ -145,7 +146,7 @@ module _ (s : List ℕ) where
 
     module _ (t : List ℕ) (r : ℕ) (e : t ≡ map rowWord (rowsAt s a p n)) where
       gathered-long : length t ≡ n
-      gathered-long = ap length e ∙ words-long
+      gathered-long = ap length e ∙ words-long a p n
 
       -- what is counted among the words as they stand
       pub different-compared : (r ≡ distinct t) × (r ≤ length t) → (r ≡ different (rowsAt s a p n)) × (r ≤ n)
@@ -194,8 +195,5 @@ module _ (s : List ℕ) where
 
   pub gather-end : (a p n : ℕ) (t : List ℕ) (at i : ℕ) → Gathering a p n t at i → length t ≤ i → t ≡ map rowWord (rowsAt s a p n)
   gather-end a p n t at i g h =
-      ext-getD 0 t (map rowWord (rowsAt s a p n))
-      (g .long ∙ sym (length-map (rowsAt s a p n) rowWord ∙ rows-count s a p n))
-      (λ k l.
-      g .filled k (omega arith)
-      ∙ sym (List·getD-map rowWord (rowsAt s a p n) k [] ∙ ap rowWord (row-at a p n k (omega (arith, g .long)))))
+      ext-getD 0 t (map rowWord (rowsAt s a p n)) (g .long ∙ sym (words-long a p n))
+      (λ k l. g .filled k (omega arith) ∙ sym (word-at a p n k (omega (arith, g .long))))

@@ -23,7 +23,7 @@ module _ (s : List ℕ) where
     row-first h = row-fits s a p n f 0 p h (omega (arith, zero-mul a))
 
     -- the highest byte of the first row's word is its first code
-    pub first-code : 0 < n → rowWord (part s p a) / 16777216 ≡ byte s p
+    first-code : 0 < n → rowWord (part s p a) / 16777216 ≡ byte s p
     first-code h = let z : p + 0 * a ≡ p = omega (arith, zero-mul a) in rw z at (word-first s a p n f 0 h)
 
     -- the rows behind the first

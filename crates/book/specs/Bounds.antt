@@ -1,5 +1,5 @@
 -- Where the reader's inner functions may look: bounds of places in the bytes. Assumes nothing.
-use Prim.Native.Nat.{ℕ, _+_, _-_, _*_, _^_, _≤_, _<_}
+use Prim.Native.Nat.{ℕ, _+_, _*_, _≤_, _<_}
 use mathlib.Core.List.{List}
 use lib.ListN.{length}
 use mathlib.Core.Path.{_≡_}
@@ -31,10 +31,6 @@ pub record CodesFit (s : List ℕ) (list first a start end : ℕ) : Type 0 where
   pub ordered : start ≤ end
   pub within : end ≤ length s
 
--- the bits of a word that a codes take, from the highest byte on
-abbrev pub mask : ℕ → ℕ
-mask a = 4294967296 - 2 ^ (32 - 8 * a)
-
 -- the row of a codes at p and what fills up its four bytes lie within the bytes
 pub record RowFits (s : List ℕ) (a p : ℕ) : Type 0 where
   pub some : 1 ≤ a
@@ -48,7 +44,7 @@ pub record RowsFit (s : List ℕ) (a p n : ℕ) : Type 0 where
   pub within : p + n * a + arityLimit ≤ length s
   pub codes : (r j : ℕ) → r < n → j < a → byte s (p + r * a + j) < 256
 
--- the tables end within the bytes, and each has few rows
+-- few tables, which end within the bytes; the rows of each lie there, and are few
 pub record TablesFit (s : List ℕ) (tables : ℕ) : Type 0 where
   pub few : tables ≤ tableLimit
   pub within : place s tables ≤ length s

@@ -5,8 +5,8 @@ ghost use Prim.Native.Nat.{_+_, _≤_};
 ghost use lib.ListN.{length};
 ghost use Rattle.format.specs.Format.{arityLimit, rowLimit, different, differentTotal, part, rowsAt, tablesAt};
 ghost use Rattle.words.specs.Sorting.{isAmong};
-ghost use Rattle.words.specs.RowWord.{rowWord};
-ghost use Rattle.book.specs.Bounds.{mask, RowFits, RowsFit, TablesFit};
+ghost use Rattle.words.specs.RowWord.{rowWord, mask};
+ghost use Rattle.book.specs.Bounds.{RowFits, RowsFit, TablesFit};
 ghost use Rattle.book.specs.Ordering.{OrderOf};
 use super::bytes::byte;
 use super::bytes::pair;
@@ -97,7 +97,7 @@ fn gather(book: &[u8], start: usize, arity: usize, list: &mut [u32])
     }
 }
 
-// How the rows of a table stand: with so many different ones where no word is less than the one before it, or with one that is.
+// How the rows of a table stand: no word is less than the one before it, and so many are different; or one is less.
 pub(crate) enum Order {
     Rises(usize),
     Falls,
@@ -164,7 +164,7 @@ fn different_few(book: &[u8], start: usize, arity: usize, count: usize) -> usize
     compared(book, start, arity, &mut list[..count])
 }
 
-// The same of count rows.
+// The same for as many rows as a book may have, by sorting.
 fn different_many(book: &[u8], start: usize, arity: usize, count: usize) -> usize
     requires { ⌜ RowsFit (now book) arity start count × (count ≤ rowLimit) ⌝ }
     ensures { λ r. ⌜ (r ≡ different (rowsAt (now (book .entry)) arity start count)) × (r ≤ count) ⌝ }

@@ -15,10 +15,15 @@ use Rattle.format.proofs.Elements.{all-at, all-or}
 use Rattle.format.proofs.Picks.{both-true}
 use Rattle.format.specs.Examples.{e1}
 use Rattle.words.specs.Sorting.{isAmong, distinct}
-use Rattle.words.specs.RowWord.{rowWord, SameWords, EqualRows, RowOf}
+use Rattle.words.specs.RowWord.{rowWord, SameWords, EqualRows}
 use Rattle.words.proofs.Counting.{either-eq}
 
 -- ---- equal rows
+
+-- a row of n codes, each of a byte
+pub record RowOf (n : ℕ) (r : List ℕ) : Type 0 where
+  pub long : length r ≡ n
+  pub bytes : All (λ c. c < 256) r
 
 -- the four bytes of a word
 digits : (a b c d a′ b′ c′ d′ : ℕ) → b < 256 → c < 256 → d < 256 → b′ < 256 → c′ < 256 → d′ < 256
@@ -69,7 +74,7 @@ codes-same (c ∷ r) = rw (eq-eqb c c refl) (codes-same r)
 
 module _ (n : ℕ) (few : n ≤ 4) where
   -- comparing rows is comparing words
-  pub compare-words : (r q : List ℕ) → RowOf n r → RowOf n q → sameCodes r q ≡ eqb (rowWord r) (rowWord q)
+  compare-words : (r q : List ℕ) → RowOf n r → RowOf n q → sameCodes r q ≡ eqb (rowWord r) (rowWord q)
   compare-words r q w v =
       either-eq (rowWord r) (rowWord q)
       (λ e. rw (words-rows n few r q w v e, eq-eqb (rowWord q) (rowWord q) refl) (codes-same q))
@@ -92,6 +97,10 @@ module _ (n : ℕ) (few : n ≤ 4) where
 
 -- ---- in document 01's terms: the rows of a table of a book
 
+sizes : (counts : List ℕ) → All (λ c. (1 ≤ c) × (c ≤ codeLimit)) counts → All (λ c. c ≤ codeLimit) counts
+sizes [] h = tt
+sizes (c ∷ cs) h = (h .0 .1, sizes cs (h .1))
+
 -- a row of a table whose fields have at most 256 codes
 table-row : (counts fields r : List ℕ) → All (λ c. (1 ≤ c) × (c ≤ codeLimit)) counts → RowOk counts fields r → RowOf (length fields) r
 table-row counts [] [] h w = record { long = refl; bytes = tt }
@@ -99,12 +108,7 @@ table-row counts [] (c ∷ r) h w = absurd w
 table-row counts (f ∷ fs) [] h w = absurd w
 table-row counts (f ∷ fs) (c ∷ r) h w =
     let v = table-row counts fs r h (w .1) in
-    record { long = ap suc (v .long); bytes = (omega (arith, w .0, count-small counts h f), v .bytes) }
-  where
-    count-small : (counts : List ℕ) → All (λ c. (1 ≤ c) × (c ≤ codeLimit)) counts → (f : ℕ) → getD counts f 0 ≤ codeLimit
-    count-small [] h f = omega arith
-    count-small (c ∷ cs) h zero = h .0 .1
-    count-small (c ∷ cs) h (suc f) = count-small cs (h .1) f
+    record { long = ap suc (v .long); bytes = (omega (arith, w .0, all-or (λ k. k ≤ codeLimit) counts 0 (omega arith) (sizes counts h) f), v .bytes) }
 
 -- two rows of a table
 same-words : (counts : List ℕ) → All (λ c. (1 ≤ c) × (c ≤ codeLimit)) counts → (t : Table) → TableOk counts t

@@ -1,5 +1,5 @@
 -- Rows as words, and what is promised of them. Assumes nothing.
-use Prim.Native.Nat.{ℕ, _+_, _*_, _<_}
+use Prim.Native.Nat.{ℕ, _+_, _-_, _*_, _^_, _<_}
 use mathlib.Core.Path.{_≡_}
 use mathlib.Core.Logic.{_↔_}
 use mathlib.Core.List.{List, []}
@@ -11,6 +11,10 @@ use Rattle.format.specs.Format.{Book, WellFormed}
 abbrev pub rowWord : List ℕ → ℕ
 rowWord r = getD r 0 0 * 16777216 + getD r 1 0 * 65536 + getD r 2 0 * 256 + getD r 3 0
 
+-- the bits of the word that a codes take
+abbrev pub mask : ℕ → ℕ
+mask a = 4294967296 - 2 ^ (32 - 8 * a)
+
 -- rows j and k are equal exactly when their words are
 abbrev pub SameWords : List (List ℕ) → ℕ → ℕ → Type 0
 SameWords rows j k = (getD rows j [] ≡ getD rows k []) ↔ (rowWord (getD rows j []) ≡ rowWord (getD rows k []))
@@ -18,8 +22,3 @@ SameWords rows j k = (getD rows j [] ≡ getD rows k []) ↔ (rowWord (getD rows
 -- "two rows of one table are equal exactly when their words are"
 abbrev pub EqualRows : Type 0
 EqualRows = (b : Book) → WellFormed b → All (λ t. (j k : ℕ) → j < length (t .rows) → k < length (t .rows) → SameWords (t .rows) j k) (b .tables)
-
--- a row of n codes, each of a byte
-pub record RowOf (n : ℕ) (r : List ℕ) : Type 0 where
-  pub long : length r ≡ n
-  pub bytes : All (λ c. c < 256) r

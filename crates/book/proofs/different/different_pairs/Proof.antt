@@ -1,4 +1,4 @@
--- `book::different::different_pairs` meets its contract. The loop's invariant: the words found and the different words left make the whole. Assumes
+-- `book::different::different_pairs` meets its contract. The loop's invariant: the number found and the different words left make the whole. Assumes
 -- nothing.
 use Prim.Native.Nat.{_+_, _≤_}
 use mathlib.Core.Path.{_≡_, refl}
