@@ -191,7 +191,7 @@ pub fn book(r: &mut Random) -> Book {
         25..=26 => long_fall(r),
         27..=62 => ring(r),
         63..=122 => parts::book(r),
-        123..=152 => repeats::book(r),
+        123..=166 => repeats::book(r),
         _ => small(r),
     }
 }

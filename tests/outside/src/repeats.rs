@@ -6,9 +6,10 @@ use std::collections::BTreeSet;
 use crate::book::{Book, Table};
 use crate::random::{fields_of, Random};
 
-/// Where there is little to count; at and around the most rows that a library need hold against each other; about the most that a byte
-/// counts; and up to the most of a book.
+/// Where there is little to count; at and around the most rows that a library compares where they stand, and the most that it holds
+/// against each other; about the most that a byte counts; and up to the most of a book.
 const LEAST: [usize; 3] = [0, 1, 2];
+const SMALL: [usize; 6] = [15, 16, 16, 17, 17, 18];
 const FEW: [usize; 4] = [63, 64, 65, 66];
 const MORE: [usize; 4] = [128, 255, 256, 257];
 const MOST: [usize; 3] = [1_000, 4_095, 4_096];
@@ -18,11 +19,13 @@ pub fn book(r: &mut Random) -> Book {
     if r.one_in(5) {
         return several(r);
     }
-    let rows = match r.from(0, 39) {
+    let rows = match r.from(0, 58) {
         0..=3 => r.one_of(&MOST),
         4..=10 => r.one_of(&MORE),
         11..=18 => r.from(67, 127),
         19..=20 => r.one_of(&LEAST),
+        21..=36 => r.one_of(&SMALL),
+        37..=40 => r.from(19, 62),
         _ => r.one_of(&FEW),
     };
     with_tables(r, &[rows])
@@ -54,7 +57,7 @@ pub fn every_row(r: &mut Random) -> Book {
 
 /// Two to four tables, mostly with the rows of the one before.
 fn several(r: &mut Random) -> Book {
-    let rows = r.one_of(&[1, 2, 20, 64, 65, 80]);
+    let rows = r.one_of(&[1, 2, 16, 17, 20, 64, 65, 80]);
     let mut book = with_tables(r, &[rows]);
     for _ in 0..r.from(1, 3) {
         let next = match book.tables.last() {
@@ -189,16 +192,19 @@ fn arrange(r: &mut Random, rows: &mut [Vec<u8>]) {
     }
 }
 
-/// Rising or falling, so that a repeat stands next to its row; or rising but for the first row or the last, which is repeated elsewhere.
+/// Rising or falling, so that a repeat stands next to its row; or rising but for the first row or the last, which is repeated elsewhere
+/// or belongs at the other end.
 fn arrange_rising(r: &mut Random, rows: &mut [Vec<u8>]) {
     let last = rows.len().saturating_sub(1);
     let some = r.from(0, last);
     rows.sort();
-    match r.from(0, 5) {
+    match r.from(0, 7) {
         0..=1 => {}
         2..=3 => rows.reverse(),
         4 => repeat(rows, some, 0),
-        _ => repeat(rows, some, last),
+        5 => repeat(rows, some, last),
+        6 => rows.rotate_left(last.min(1)),
+        _ => rows.rotate_right(last.min(1)),
     }
 }
 

@@ -1,10 +1,13 @@
-//! Wrong countings of different rows, after the way of document 02's M-102: a row becomes a word, few words are held against each other,
-//! and more are sorted byte by byte, so that equal ones stand together. What cannot show is not listed: columns or passes in another
-//! order, and words of the same byte in reverse, since equal words stand together all the same.
+//! Wrong countings of different rows, each with one part of `rows` exchanged. What cannot show is not listed: a bound that is another by
+//! one, or rows that rise taken for others, since each way counts all rows rightly; and rows that fall throughout counted on the walk,
+//! columns or passes in another order, or words of the same byte in reverse, since equal words stand together all the same.
 
 use std::collections::HashSet;
-use std::ops::Range;
+use std::ops::RangeInclusive;
 
+use super::rows::{
+    changes, held, held_within, in_each, passes, placed, placed_within, sorted, stable, walked, word, Counting, ALL, RIGHT,
+};
 use super::{Listed, Wrong::Counted};
 use crate::book::{Book, Table};
 use crate::calls::COUNTING;
@@ -29,19 +32,84 @@ pub const SLIPS: &[Listed] = &[
     of("codes four bits apart in a word, one laid over the other", |book| {
         by_words(book, |row| row.iter().fold(0, |word, &code| word << 4 | code as u32))
     }),
+    of("the code behind a row in its word too", |book| RIGHT.in_book(&running_on(book, 1))),
+    of("four codes from each row on in its word", |book| RIGHT.in_book(&running_on(book, 3))),
+    of("up to 16 rows compared by their first codes alone", |book| {
+        placing(book, |rows, _| placed_within(rows, &vec![0; rows.len()], |i, rows| i + 1..rows))
+    }),
+    of("up to 16 rows compared without their last codes", |book| {
+        placing(book, |rows, _| placed(rows, &rows.iter().map(|row| word(&row[..row.len() - 1])).collect::<Vec<_>>()))
+    }),
+    of("up to 16 rows all counted as different", |book| placing(book, |rows, _| rows.len())),
+    of("each of up to 16 rows compared with itself", |book| {
+        placing(book, |rows, words| placed_within(rows, words, |i, rows| i..rows))
+    }),
+    of("each of up to 16 rows compared with the next alone", |book| {
+        placing(book, |rows, words| placed_within(rows, words, |i, rows| i + 1..rows.min(i + 2)))
+    }),
+    of("none of up to 16 rows compared with the next", |book| {
+        placing(book, |rows, words| placed_within(rows, words, |i, rows| i + 2..rows))
+    }),
+    of("none of up to 16 rows compared with the last", |book| {
+        placing(book, |rows, words| placed_within(rows, words, |i, rows| i + 1..rows - 1))
+    }),
+    of("the first of up to 16 rows counted in any case", |book| {
+        placing(book, |rows, words| placed_within(rows, words, |i, rows| if i == 0 { 0..0 } else { i + 1..rows }))
+    }),
+    of("the last of up to 16 rows left out", |book| placing(book, |rows, words| placed(&rows[..rows.len().max(1) - 1], words))),
+    of("the first of 16 rows counted in any case", |book| {
+        placing(book, |rows, words| placed_within(rows, words, |i, rows| if rows == 16 && i == 0 { 0..0 } else { i + 1..rows }))
+    }),
+    of("none of 16 rows compared with the last", |book| {
+        placing(book, |rows, words| placed_within(rows, words, |i, rows| i + 1..rows.min(15)))
+    }),
+    of("16 rows all counted as different", |book| all_of(book, 16..=16, |_| true)),
+    of("17 rows all counted as different", |book| all_of(book, 17..=17, |_| true)),
+    of("the last of 16 rows left out", |book| without_last(book, 16)),
+    of("the last of 17 rows left out", |book| without_last(book, 17)),
+    of("the last of 64 rows left out", |book| without_last(book, 64)),
+    of("the last of 65 rows left out", |book| without_last(book, 65)),
+    of("no fall seen", |book| walking(book, |words| Some(changes(words)))),
+    of("rows that fall not counted on a walk", |book| walking(book, |words| Some(climbs(words)))),
+    of("a fall in the second row not seen", |book| walking_where(book, |words| words[1..].is_sorted())),
+    of("a fall in the last row not seen", |book| walking_where(book, |words| words[..words.len() - 1].is_sorted())),
+    of("a fall in the last row not counted on a walk", |book| {
+        walking(book, |words| words[..words.len() - 1].is_sorted().then(|| climbs(words)))
+    }),
+    of("a fall behind row 16 not seen", |book| walking_where(book, |words| words[..16].is_sorted())),
+    of("a fall behind row 64 not seen", |book| walking_where(book, |words| words[..words.len().min(64)].is_sorted())),
+    of("a first fall not seen", |book| {
+        walking_where(book, |words| words.windows(2).filter(|pair| pair[0] > pair[1]).count() < 2)
+    }),
+    of("falls seen by first codes alone", |book| walking_where(book, |words| words.is_sorted_by_key(|word| word >> 24))),
+    of("falls seen by the first two codes alone", |book| walking_where(book, |words| words.is_sorted_by_key(|word| word >> 16))),
+    of("the rows before a fall counted alone", |book| walking(book, |words| Some(changes(&words[..rising(words)])))),
+    of("the last row left out of a walk", |book| walking(book, |words| walked(&words[..words.len() - 1]))),
+    of("the first row not counted on a walk", |book| walking(book, |words| walked(words).map(|found| found - 1))),
+    of("equal neighbours counted on a walk", |book| walking(book, |words| walked(words).map(|_| words.len()))),
+    of("each row of a walk compared with the first", |book| {
+        walking(book, |words| {
+            let above = words.iter().filter(|&&word| word > words[0]).count();
+            words.iter().all(|&word| word >= words[0]).then_some(above + 1)
+        })
+    }),
+    of("17 to 64 rows that rise all counted as different", |book| all_of(book, 17..=64, <[_]>::is_sorted)),
+    of("17 to 64 rows that fall all counted as different", |book| all_of(book, 17..=64, |words| words.iter().rev().is_sorted())),
     of("the first row not gathered", |book| gathering(book, |words| but_for(words, 0))),
-    of("the last row not gathered", |book| gathering(book, |words| but_for(words, words.len().max(1) - 1))),
+    of("the last row not gathered", |book| gathering(book, |words| but_for(words, words.len() - 1))),
+    of("row 17 not gathered", |book| gathering(book, |words| but_for(words, 16))),
     of("row 64 not gathered", |book| gathering(book, |words| but_for(words, 63))),
     of("row 65 not gathered", |book| gathering(book, |words| but_for(words, 64))),
     of("row 256 not gathered", |book| gathering(book, |words| but_for(words, 255))),
     of("row 257 not gathered", |book| gathering(book, |words| but_for(words, 256))),
     of("row 1 gathered for row 65", |book| gathering(book, |words| instead(words, 64, 0))),
     of("row 4,095 gathered for row 4,096", |book| gathering(book, |words| instead(words, 4_095, 4_094))),
+    of("only the first 16 rows gathered", |book| gathering(book, |words| words[..16].to_vec())),
     of("only the first 64 rows gathered", |book| gathering(book, |words| words[..words.len().min(64)].to_vec())),
     of("only the first 256 rows gathered", |book| gathering(book, |words| words[..words.len().min(256)].to_vec())),
     of("as many rows gathered as one byte says", |book| gathering(book, |words| words[..words.len() % 256].to_vec())),
-    of("up to 64 rows all counted as different", |book| holding(book, <[_]>::len)),
-    of("up to 64 rows held each against the one before", |book| holding(book, changes)),
+    of("17 to 64 rows all counted as different where they fall", |book| holding(book, <[_]>::len)),
+    of("17 to 64 rows held each against the one before", |book| holding(book, changes)),
     of("64 rows all counted as different", |book| holding(book, |words| if words.len() == 64 { 64 } else { held(words) })),
     of("64 rows held each against the one before", |book| {
         holding(book, |words| if words.len() == 64 { changes(words) } else { held(words) })
@@ -89,8 +157,10 @@ pub const SLIPS: &[Listed] = &[
     of("the last of sorted words not counted", |book| counting(book, |words| changes(&words[..words.len() - 1]))),
     of("a large table's count in one byte", |book| counting(book, |words| changes(words) % 256)),
     of("a count of 4,096 as 0", |book| book.different_rows() % 4_096),
-    of("rows that rise all counted as different", |book| all_where(book, |words| words.is_sorted())),
-    of("rows that fall all counted as different", |book| all_where(book, |words| words.iter().rev().is_sorted())),
+    of("more than 64 rows that rise all counted as different", |book| all_of(book, LARGE, <[_]>::is_sorted)),
+    of("more than 64 rows that fall all counted as different", |book| {
+        all_of(book, LARGE, |words| words.iter().rev().is_sorted())
+    }),
     of("a table of no rows counted as one", |book| in_each(book, |table| RIGHT.in_table(table).max(1))),
     of("only the first table counted", |book| book.tables.first().map_or(0, |table| RIGHT.in_table(table))),
     of("only the last table counted", |book| book.tables.last().map_or(0, |table| RIGHT.in_table(table))),
@@ -104,46 +174,28 @@ pub const SLIPS: &[Listed] = &[
     of("words of a longer table before counted too", left_behind),
 ];
 
-/// How the different rows of one table are counted, by parts.
-struct Counting {
-    word: fn(&[u8]) -> u32,
-    /// The words of all rows as they are gathered.
-    gathered: fn(&[u32]) -> Vec<u32>,
-    /// Counts the different ones of at most 64 words.
-    held: fn(&[u32]) -> usize,
-    /// More words in an order in which equal ones stand together.
-    sorted: fn(&[u32]) -> Vec<u32>,
-    /// Counts the different ones of words in such an order.
-    changes: fn(&[u32]) -> usize,
-}
-
-const RIGHT: Counting = Counting { word, gathered: <[_]>::to_vec, held, sorted, changes };
-
-impl Counting {
-    fn words(&self, table: &Table) -> Vec<u32> {
-        (self.gathered)(&table.rows.iter().map(|row| (self.word)(row)).collect::<Vec<_>>())
-    }
-
-    fn in_table(&self, table: &Table) -> usize {
-        let words = self.words(table);
-        if words.len() > 64 {
-            (self.changes)(&(self.sorted)(&words))
-        } else {
-            (self.held)(&words)
-        }
-    }
-
-    fn in_book(&self, book: &Book) -> usize {
-        in_each(book, |table| self.in_table(table))
-    }
-}
-
-fn in_each(book: &Book, count: impl Fn(&Table) -> usize) -> usize {
-    book.tables.iter().map(count).sum()
-}
-
 fn by_words(book: &Book, word: fn(&[u8]) -> u32) -> usize {
     Counting { word, ..RIGHT }.in_book(book)
+}
+
+fn placing(book: &Book, placed: fn(&[Vec<u8>], &[u32]) -> usize) -> usize {
+    Counting { placed, ..RIGHT }.in_book(book)
+}
+
+fn walking(book: &Book, walked: fn(&[u32]) -> Option<usize>) -> usize {
+    Counting { walked, ..RIGHT }.in_book(book)
+}
+
+/// Rows that are so are counted where neighbours differ.
+fn walking_where(book: &Book, rule: fn(&[u32]) -> bool) -> usize {
+    in_each(book, |table| {
+        let words = RIGHT.words(table);
+        if words.len() > 16 && rule(&words) {
+            changes(&words)
+        } else {
+            RIGHT.in_table(table)
+        }
+    })
 }
 
 fn gathering(book: &Book, gathered: fn(&[u32]) -> Vec<u32>) -> usize {
@@ -162,17 +214,33 @@ fn counting(book: &Book, changes: fn(&[u32]) -> usize) -> usize {
     Counting { changes, ..RIGHT }.in_book(book)
 }
 
-/// The first code in the highest byte.
-fn word(row: &[u8]) -> u32 {
-    row.iter().zip([24, 16, 8, 0]).map(|(&code, shift)| (code as u32) << shift).sum()
-}
-
 fn without(row: &[u8], column: u32) -> u32 {
     word(row) & !(0xFF00_0000 >> (8 * column))
 }
 
 fn packed(row: &[u8], base: u32) -> u32 {
     row.iter().fold(0, |word, &code| word * base + code as u32)
+}
+
+/// The book with so many codes of the next rows behind each row, but no more than four in all.
+fn running_on(book: &Book, more: usize) -> Book {
+    let mut book = book.clone();
+    for table in &mut book.tables {
+        let (arity, codes) = (table.fields.len(), table.rows.concat());
+        let to = |i: usize| codes.len().min(i * arity + 4.min(arity + more));
+        table.rows = (0..table.rows.len()).map(|i| codes[i * arity..to(i)].to_vec()).collect();
+    }
+    book
+}
+
+/// Counts the first word and those above the one before.
+fn climbs(words: &[u32]) -> usize {
+    words.len().min(1) + words.windows(2).filter(|pair| pair[0] < pair[1]).count()
+}
+
+/// How many words stand before the first that falls.
+fn rising(words: &[u32]) -> usize {
+    words.windows(2).position(|pair| pair[0] > pair[1]).map_or(words.len(), |fall| fall + 1)
 }
 
 fn but_for(words: &[u32], place: usize) -> Vec<u32> {
@@ -183,41 +251,9 @@ fn instead(words: &[u32], place: usize, other: usize) -> Vec<u32> {
     (0..words.len()).map(|i| words[if i == place { other } else { i }]).collect()
 }
 
-/// Counts the words that are equal to none of those at the places that they are held against.
-fn held_within(words: &[u32], places: fn(usize) -> Range<usize>) -> usize {
-    (0..words.len()).filter(|&i| !words[places(i)].contains(&words[i])).count()
-}
-
-fn held(words: &[u32]) -> usize {
-    held_within(words, |i| 0..i)
-}
-
 fn pairs_taken_off(words: &[u32]) -> usize {
     let equal_before = |i: usize| words[..i].iter().filter(|&&word| word == words[i]).count();
     words.len().saturating_sub((0..words.len()).map(equal_before).sum())
-}
-
-/// The bytes of a word, the lowest first.
-const ALL: &[u32] = &[0, 1, 2, 3];
-
-/// The key of a right pass: words of the same byte keep their order.
-fn stable(byte: u32, _: usize) -> u32 {
-    byte
-}
-
-/// The words sorted by each of these bytes in turn, the key made from the byte and the word's place.
-fn passes(words: &[u32], bytes: &[u32], key: fn(u32, usize) -> u32) -> Vec<u32> {
-    let mut words = words.to_vec();
-    for byte in bytes {
-        let mut keyed: Vec<_> = words.iter().enumerate().map(|(i, &word)| (key(word >> (8 * byte) & 255, i), word)).collect();
-        keyed.sort_by_key(|&(key, _)| key);
-        words = keyed.into_iter().map(|(_, word)| word).collect();
-    }
-    words
-}
-
-fn sorted(words: &[u32]) -> Vec<u32> {
-    passes(words, ALL, stable)
 }
 
 fn sorted_unless(words: &[u32], rule: fn(&[u32]) -> bool) -> Vec<u32> {
@@ -248,19 +284,26 @@ fn pass_in_bytes(words: &[u32], byte: u32) -> Vec<u32> {
     out
 }
 
-fn changes(words: &[u32]) -> usize {
-    words.len().min(1) + words.windows(2).filter(|pair| pair[0] != pair[1]).count()
-}
+/// More rows than are held against each other.
+const LARGE: RangeInclusive<usize> = 65..=4_096;
 
-/// All rows of a large table counted as different where its words are so.
-fn all_where(book: &Book, rule: fn(&[u32]) -> bool) -> usize {
+/// All rows of a table of such a size counted as different where its words are so.
+fn all_of(book: &Book, sizes: RangeInclusive<usize>, rule: fn(&[u32]) -> bool) -> usize {
     in_each(book, |table| {
         let words = RIGHT.words(table);
-        if words.len() > 64 && rule(&words) {
+        if sizes.contains(&words.len()) && rule(&words) {
             words.len()
         } else {
             RIGHT.in_table(table)
         }
+    })
+}
+
+/// The last row left out of each table of so many rows.
+fn without_last(book: &Book, rows: usize) -> usize {
+    in_each(book, |table| match table.rows.split_last() {
+        Some((_, others)) if table.rows.len() == rows => RIGHT.in_table(&Table { rows: others.to_vec(), ..table.clone() }),
+        _ => RIGHT.in_table(table),
     })
 }
 
@@ -279,21 +322,4 @@ fn left_behind(book: &Book) -> usize {
         different += changes(&sorted(&standing));
     }
     different
-}
-
-#[cfg(test)]
-mod tests {
-    use super::RIGHT;
-    use crate::random::Random;
-    use crate::repeats;
-
-    /// So a slip is wrong by the part that it exchanges.
-    #[test]
-    fn the_right_parts_count_rightly() {
-        let mut r = Random(1);
-        for _ in 0..500 {
-            let book = repeats::book(&mut r);
-            assert_eq!(RIGHT.in_book(&book), book.different_rows());
-        }
-    }
 }

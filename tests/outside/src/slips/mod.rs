@@ -7,6 +7,7 @@ mod filtering;
 mod lifting;
 mod listing;
 mod reading;
+mod rows;
 mod straying;
 
 use crate::book::Book;
