@@ -1,6 +1,6 @@
 -- The rows of a table as words, followed from the first on: one turn of the loop, and what is counted. Assumes nothing.
 use mathlib.Core.Path.{_≡_, sym, ap, _∙_, subst}
-use mathlib.Core.List.{List, map}
+use mathlib.Core.List.{List}
 use Prim.Native.Nat.{ℕ, _+_, _-_, _*_, _≤_, _<_}
 use native.Mathlib.Nat.{suc-mul, zero-mul}
 use native.Mathlib.Numerals.{add-one}
@@ -8,7 +8,7 @@ use native.Mathlib.Omega.{arith}
 use lib.ListN.{length, getD, drop}
 use Rattle.format.specs.Format.{part, rowsAt, different}
 use Rattle.words.specs.Sorting.{NeverFalls, changes, runs}
-use Rattle.words.specs.RowWord.{rowWord}
+use Rattle.words.specs.RowWord.{rowWord, wordsAt}
 use Rattle.words.proofs.Distinct.{runs-distinct, runs-start, runs-none, changes-same, changes-other, changes-end}
 use Rattle.words.proofs.Falls.{falls-start, falls-on, falls-not, falls-end}
 use Rattle.book.specs.Bounds.{RowFits, RowsFit}
@@ -16,10 +16,6 @@ use Rattle.book.specs.Ordering.{OrderOf}
 use Rattle.book.specs.declared.different.Order.{Order}
 use Rattle.book.specs.declared.different.Order.the-variants.{Rises}
 use Rattle.book.proofs.Gathered.{word-at, row-fits, words-long, rows-words}
-
--- the words of n rows of a codes from p on
-abbrev pub wordsAt : List ℕ → ℕ → ℕ → ℕ → List ℕ
-wordsAt s a p n = map rowWord (rowsAt s a p n)
 
 -- the first i words never fall, before is the last of them, and the next row stands at at
 pub record Following (s : List ℕ) (a p n before at found i : ℕ) : Type 0 where

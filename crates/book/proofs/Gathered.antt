@@ -1,6 +1,6 @@
 -- A row as a word, a table's rows as words, and the count of the different ones. Assumes nothing.
 use mathlib.Core.Path.{_≡_, refl, sym, ap, _∙_}
-use mathlib.Core.List.{List, [], map}
+use mathlib.Core.List.{List, []}
 use Prim.Native.Nat.{ℕ, zero, suc, _+_, _-_, _*_, _/_, _%_, _^_, _≤_, _<_}
 use native.Mathlib.Nat.{suc-mul, zero-mul, le-refl, mul-le-mul}
 use native.Mathlib.Numerals.{add-one}
@@ -13,7 +13,7 @@ use Rattle.format.specs.Format.{byte, part, arityLimit, rowLimit, rowsAt, diffe
 use Rattle.format.proofs.Elements.{all-of, all-or}
 use Rattle.format.proofs.Views.{part-at, part-length, rows-count}
 use Rattle.words.specs.Sorting.{most, Sorted, distinct, runs}
-use Rattle.words.specs.RowWord.{rowWord, mask}
+use Rattle.words.specs.RowWord.{rowWord, wordsAt, mask}
 use Rattle.words.proofs.Counting.{either-eq}
 use Rattle.words.proofs.Distinct.{sorted-runs}
 use Rattle.words.proofs.Lent.{cleared, lent-long}
@@ -104,11 +104,11 @@ module _ (s : List ℕ) where
       rw e at (row-at a (p + a) n k (omega arith))
 
   module _ (a p n : ℕ) where
-    pub words-long : length (map rowWord (rowsAt s a p n)) ≡ n
+    pub words-long : length (wordsAt s a p n) ≡ n
     words-long = length-map (rowsAt s a p n) rowWord ∙ rows-count s a p n
 
     -- word k
-    pub word-at : (k : ℕ) → k < n → getD (map rowWord (rowsAt s a p n)) k 0 ≡ rowWord (part s (p + k * a) a)
+    pub word-at : (k : ℕ) → k < n → getD (wordsAt s a p n) k 0 ≡ rowWord (part s (p + k * a) a)
     word-at k h = List·getD-map rowWord (rowsAt s a p n) k [] ∙ ap rowWord (row-at a p n k h)
 
   module _ (a p n : ℕ) (f : RowsFit s a p n) where
@@ -139,12 +139,12 @@ module _ (s : List ℕ) where
         omega (arith, z, c 1, c 2, c 3)
 
     -- as many different rows as different words
-    pub rows-words : distinct (map rowWord (rowsAt s a p n)) ≡ different (rowsAt s a p n)
+    pub rows-words : distinct (wordsAt s a p n) ≡ different (rowsAt s a p n)
     rows-words =
         sym (different-words a (f .few) (rowsAt s a p n)
         (all-of (RowOf a) (rowsAt s a p n) [] (λ k l. row-of k (omega (arith, rows-count s a p n)))))
 
-    module _ (t : List ℕ) (r : ℕ) (e : t ≡ map rowWord (rowsAt s a p n)) where
+    module _ (t : List ℕ) (r : ℕ) (e : t ≡ wordsAt s a p n) where
       gathered-long : length t ≡ n
       gathered-long = ap length e ∙ words-long a p n
 
@@ -193,7 +193,7 @@ module _ (s : List ℕ) where
             (λ d. getD-set-other t i k w 0 d ∙ g .filled k (omega (arith, d)));
       }
 
-  pub gather-end : (a p n : ℕ) (t : List ℕ) (at i : ℕ) → Gathering a p n t at i → length t ≤ i → t ≡ map rowWord (rowsAt s a p n)
+  pub gather-end : (a p n : ℕ) (t : List ℕ) (at i : ℕ) → Gathering a p n t at i → length t ≤ i → t ≡ wordsAt s a p n
   gather-end a p n t at i g h =
-      ext-getD 0 t (map rowWord (rowsAt s a p n)) (g .long ∙ sym (words-long a p n))
+      ext-getD 0 t (wordsAt s a p n) (g .long ∙ sym (words-long a p n))
       (λ k l. g .filled k (omega arith) ∙ sym (word-at a p n k (omega (arith, g .long))))

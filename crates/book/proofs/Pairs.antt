@@ -1,14 +1,14 @@
 -- Rows held against those behind them: n rows from p on, the first and those behind it. Assumes nothing.
 use mathlib.Core.Path.{_≡_, refl, sym, ap, _∙_}
 use mathlib.Core.Bool.{Bool, true, false}
-use mathlib.Core.List.{List, [], _∷_, map}
+use mathlib.Core.List.{List, [], _∷_}
 use Prim.Native.Nat.{ℕ, zero, suc, _+_, _-_, _*_, _/_, _≤_, _<_}
 use native.Mathlib.Nat.{suc-mul, zero-mul}
 use native.Mathlib.Omega.{arith}
 use borrow.Author.Tests.{eq-eqb, ne-eqb}
 use Rattle.format.specs.Format.{byte, part, rowsAt}
 use Rattle.words.specs.Sorting.{isAmong, distinct}
-use Rattle.words.specs.RowWord.{rowWord}
+use Rattle.words.specs.RowWord.{rowWord, wordsAt}
 use Rattle.book.specs.Bounds.{RowFits, RowsFit}
 use Rattle.book.proofs.Gathered.{row-fits, word-first}
 
@@ -37,39 +37,39 @@ module _ (s : List ℕ) where
         }
 
   module _ (a p n : ℕ) where
-    words-cons : 0 < n → map rowWord (rowsAt s a p n) ≡ rowWord (part s p a) ∷ map rowWord (rowsAt s a (p + a) (n - 1))
+    words-cons : 0 < n → wordsAt s a p n ≡ rowWord (part s p a) ∷ wordsAt s a (p + a) (n - 1)
     unfolding rowsAt
-    words-cons h = let e : n ≡ suc (n - 1) = omega arith in ap (λ (k : ℕ). map rowWord (rowsAt s a p k)) e
+    words-cons h = let e : n ≡ suc (n - 1) = omega arith in ap (λ (k : ℕ). wordsAt s a p k) e
 
-    words-none : n ≤ 0 → map rowWord (rowsAt s a p n) ≡ []
+    words-none : n ≤ 0 → wordsAt s a p n ≡ []
     unfolding rowsAt
-    words-none h = let e : n ≡ 0 = omega arith in ap (λ (k : ℕ). map rowWord (rowsAt s a p k)) e
+    words-none h = let e : n ≡ 0 = omega arith in ap (λ (k : ℕ). wordsAt s a p k) e
 
     module _ (w x : ℕ) (h : 0 < n) (e : x ≡ rowWord (part s p a)) where
-      pub among-on : (w ≡ x → ⊥) → isAmong w (map rowWord (rowsAt s a (p + a) (n - 1))) ≡ isAmong w (map rowWord (rowsAt s a p n))
+      pub among-on : (w ≡ x → ⊥) → isAmong w (wordsAt s a (p + a) (n - 1)) ≡ isAmong w (wordsAt s a p n)
       among-on d = rw (words-cons h, sym e, ne-eqb w x d)
 
-      pub among-yes : w ≡ x → true ≡ isAmong w (map rowWord (rowsAt s a p n))
+      pub among-yes : w ≡ x → true ≡ isAmong w (wordsAt s a p n)
       among-yes d = rw (words-cons h, sym e, eq-eqb w x d)
 
     -- a row that begins with another code has another word
     pub among-other : (w first : ℕ) → RowsFit s a p n → 0 < n → w / 16777216 ≡ first → (first ≡ byte s p → ⊥)
-        → isAmong w (map rowWord (rowsAt s a (p + a) (n - 1))) ≡ isAmong w (map rowWord (rowsAt s a p n))
+        → isAmong w (wordsAt s a (p + a) (n - 1)) ≡ isAmong w (wordsAt s a p n)
     among-other w first f h e d =
         among-on w (rowWord (part s p a)) h refl (λ q. d (sym e ∙ (ap (λ (x : ℕ). x / 16777216) q ∙ first-code a p n f h)))
 
-    pub among-end : (w : ℕ) → n ≤ 0 → false ≡ isAmong w (map rowWord (rowsAt s a p n))
+    pub among-end : (w : ℕ) → n ≤ 0 → false ≡ isAmong w (wordsAt s a p n)
     among-end w h = rw (words-none h)
 
-    module _ (w : ℕ) (h : 0 < n) (e : w ≡ rowWord (part s p a)) (b : Bool) (g : b ≡ isAmong w (map rowWord (rowsAt s a (p + a) (n - 1)))) where
+    module _ (w : ℕ) (h : 0 < n) (e : w ≡ rowWord (part s p a)) (b : Bool) (g : b ≡ isAmong w (wordsAt s a (p + a) (n - 1))) where
       -- the first stands again behind it, and counts there; or it does not
-      pub distinct-old : b ≡ true → distinct (map rowWord (rowsAt s a p n)) ≡ distinct (map rowWord (rowsAt s a (p + a) (n - 1)))
+      pub distinct-old : b ≡ true → distinct (wordsAt s a p n) ≡ distinct (wordsAt s a (p + a) (n - 1))
       distinct-old d = rw (words-cons h, sym e, sym g ∙ d) (omega arith)
 
-      pub distinct-new : b ≡ false → distinct (map rowWord (rowsAt s a p n)) ≡ 1 + distinct (map rowWord (rowsAt s a (p + a) (n - 1)))
+      pub distinct-new : b ≡ false → distinct (wordsAt s a p n) ≡ 1 + distinct (wordsAt s a (p + a) (n - 1))
       distinct-new d = rw (words-cons h, sym e, sym g ∙ d)
 
-    pub distinct-end : n ≤ 0 → distinct (map rowWord (rowsAt s a p n)) ≡ 0
+    pub distinct-end : n ≤ 0 → distinct (wordsAt s a p n) ≡ 0
     distinct-end h = rw (words-none h)
 
   -- the row at p and the n rows behind it

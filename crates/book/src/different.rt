@@ -1,11 +1,10 @@
 // How many different rows a book has, each counted within its table. Rows are compared as words, a word at a time.
 ghost use mathlib.Core.Path.{_≡_};
-ghost use mathlib.Core.List.{map};
 ghost use Prim.Native.Nat.{_+_, _≤_};
 ghost use lib.ListN.{length};
 ghost use Rattle.format.specs.Format.{arityLimit, rowLimit, different, differentTotal, part, rowsAt, tablesAt};
 ghost use Rattle.words.specs.Sorting.{isAmong};
-ghost use Rattle.words.specs.RowWord.{rowWord, mask};
+ghost use Rattle.words.specs.RowWord.{rowWord, wordsAt, mask};
 ghost use Rattle.book.specs.Bounds.{RowFits, RowsFit, TablesFit};
 ghost use Rattle.book.specs.Ordering.{OrderOf};
 use super::bytes::byte;
@@ -43,7 +42,7 @@ fn row_word(book: &[u8], p: usize, arity: usize) -> u32
 fn stands_again(book: &[u8], row: usize, arity: usize, count: usize) -> bool
     requires { ⌜ RowsFit (now book) arity row (count + 1) ⌝ }
     ensures { λ r. ⌜ r ≡ isAmong (rowWord (part (now (book .entry)) row arity))
-        (map rowWord (rowsAt (now (book .entry)) arity (row + arity) count)) ⌝ }
+        (wordsAt (now (book .entry)) arity (row + arity) count) ⌝ }
 {
     let mut at = row + arity;
     let mut left = count;
@@ -86,7 +85,7 @@ fn different_pairs(book: &[u8], start: usize, arity: usize, count: usize) -> usi
 // Fills the list with the words of the rows of arity codes from start on.
 fn gather(book: &[u8], start: usize, arity: usize, list: &mut [u32])
     requires { ⌜ RowsFit (now book) arity start (length (now list)) ⌝ }
-    ensures { λ _. ⌜ now (list .exit) ≡ map rowWord (rowsAt (now (book .entry)) arity start (length (now (list .entry)))) ⌝ }
+    ensures { λ _. ⌜ now (list .exit) ≡ wordsAt (now (book .entry)) arity start (length (now (list .entry))) ⌝ }
 {
     let mut at = start;
     let mut i = 0;
@@ -106,7 +105,7 @@ pub(crate) enum Order {
 // How the count rows of arity codes from start on stand. Rows that were written in order are counted on the way, without an array.
 fn in_order(book: &[u8], start: usize, arity: usize, count: usize) -> Order
     requires { ⌜ RowsFit (now book) arity start count ⌝ }
-    ensures { λ r. ⌜ OrderOf r (map rowWord (rowsAt (now (book .entry)) arity start count)) ⌝ }
+    ensures { λ r. ⌜ OrderOf r (wordsAt (now (book .entry)) arity start count) ⌝ }
 {
     if count < 1 {
         return Order::Rises(0);

@@ -2,14 +2,18 @@
 use Prim.Native.Nat.{ℕ, _+_, _-_, _*_, _^_, _<_}
 use mathlib.Core.Path.{_≡_}
 use mathlib.Core.Logic.{_↔_}
-use mathlib.Core.List.{List, []}
+use mathlib.Core.List.{List, [], map}
 use lib.ListN.{length, getD}
 use Rattle.format.specs.Basics.{All}
-use Rattle.format.specs.Format.{Book, WellFormed}
+use Rattle.format.specs.Format.{Book, WellFormed, rowsAt}
 
 -- "A row has at most four codes and fits one 32-bit word, first code in the highest byte, zeros behind the last"
 abbrev pub rowWord : List ℕ → ℕ
 rowWord r = getD r 0 0 * 16777216 + getD r 1 0 * 65536 + getD r 2 0 * 256 + getD r 3 0
+
+-- the words of n rows of a codes from p on in the bytes s
+abbrev pub wordsAt : List ℕ → ℕ → ℕ → ℕ → List ℕ
+wordsAt s a p n = map rowWord (rowsAt s a p n)
 
 -- the bits of the word that a codes take
 abbrev pub mask : ℕ → ℕ

@@ -2,10 +2,8 @@
 -- nothing.
 use Prim.Native.Nat.{_+_, _≤_}
 use mathlib.Core.Path.{_≡_, refl}
-use mathlib.Core.List.{map}
-use Rattle.format.specs.Format.{rowsAt}
 use Rattle.words.specs.Sorting.{distinct}
-use Rattle.words.specs.RowWord.{rowWord}
+use Rattle.words.specs.RowWord.{wordsAt}
 use Rattle.book.specs.Bounds.{RowsFit}
 use Rattle.book.proofs.Gathered.{rows-words}
 use Rattle.book.proofs.Pairs.{row-first, rest-fits, taken-off, distinct-old, distinct-new, distinct-end}
@@ -16,7 +14,7 @@ use Rattle.book.proofs.different.different_pairs.Tie as tie
 
 abbrev Inv-loop : tie.InvT-loop
 Inv-loop book start arity count found₀ row₀ left₀ found row left = RowsFit book arity row left × (found + left ≤ count)
-    × (found + distinct (map rowWord (rowsAt book arity row left)) ≡ distinct (map rowWord (rowsAt book arity start count)))
+    × (found + distinct (wordsAt book arity row left) ≡ distinct (wordsAt book arity start count))
 
 abbrev μ-loop : tie.MeasureT-loop
 μ-loop book start arity count found₀ row₀ left₀ found row left = left

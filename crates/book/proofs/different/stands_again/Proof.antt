@@ -1,10 +1,9 @@
 -- `book::different::stands_again` meets its contract. The loop's invariant: the rows left decide. Assumes nothing.
 use mathlib.Core.Path.{_≡_, refl, sym, _∙_}
-use mathlib.Core.List.{map}
 use Prim.Native.Nat.{_+_}
-use Rattle.format.specs.Format.{part, rowsAt}
+use Rattle.format.specs.Format.{part}
 use Rattle.words.specs.Sorting.{isAmong}
-use Rattle.words.specs.RowWord.{rowWord}
+use Rattle.words.specs.RowWord.{rowWord, wordsAt}
 use Rattle.book.specs.Bounds.{RowsFit}
 use Rattle.book.proofs.Pairs.{row-first, rest-fits, own-fits, own-code, behind-fits, among-on, among-other, among-yes, among-end}
 use borrow.Author.Needs.{needs}
@@ -14,7 +13,7 @@ use Rattle.book.proofs.different.stands_again.Tie as tie
 
 abbrev Inv-loop : tie.InvT-loop
 Inv-loop book row arity count at₀ left₀ at left = RowsFit book arity at left
-    × (isAmong (rowWord (part book row arity)) (map rowWord (rowsAt book arity at left)) ≡ isAmong (rowWord (part book row arity)) (map rowWord (rowsAt book arity (row + arity) count)))
+    × (isAmong (rowWord (part book row arity)) (wordsAt book arity at left) ≡ isAmong (rowWord (part book row arity)) (wordsAt book arity (row + arity) count))
 
 abbrev μ-loop : tie.MeasureT-loop
 μ-loop book row arity count at₀ left₀ at left = left
