@@ -27,8 +27,8 @@
  *   ------  -------------------------------------------------------------------  ------------------------------------------------
  *        1  the book has fewer than 6 or more than 32,768 bytes                  0
  *        2  its closing byte is not 0xE5                                         that byte of the book
- *        3  its version is not 1                                                 that byte
- *        4  its number of fields is not 1 to 32                                  that byte
+ *        3  its version is neither 1 nor 2                                       that byte
+ *        4  its number of fields is not 1 to 32 (version 1) or 1 to 60 (2)       that byte
  *        5  its number of tables is above 64                                     that byte
  *        6  place of the field list + fields + 6 is not the length               the trailer's first byte
  *        7  a field has not 1 to 32 codes                                        the field's byte in the field list
@@ -57,8 +57,8 @@
 #include <stddef.h>
 #include <stdint.h>
 
-/* A sheet: for each of 32 places the answered code, or SIGHTING_NO_ANSWER. */
-#define SIGHTING_SHEET_BYTES 32
+/* A sheet: for each of 60 places the answered code, or SIGHTING_NO_ANSWER. */
+#define SIGHTING_SHEET_BYTES 60
 
 /* In a sheet: no answer. As `relaxed` of sighting_filtered: no field. */
 #define SIGHTING_NO_ANSWER 255

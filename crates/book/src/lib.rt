@@ -6,6 +6,12 @@ ghost use Rattle.format.specs.Layout.{HasLayout};
 ghost use Rattle.book.specs.Shown.{numberOf, shown, shownCheck};
 ghost use Rattle.book.specs.View.{viewOf};
 
+// The most fields of a book of any version, and the number of places of a sheet.
+pub const PLACES: usize = 60;
+
+// The most codes of a field.
+pub const CODES: usize = 32;
+
 mod bytes;
 mod copies;
 mod different;

@@ -5,10 +5,11 @@ ghost use lib.ListN.{length};
 ghost use Rattle.format.specs.Basics.{firstBad};
 ghost use Rattle.format.specs.Reading.{countOk, fieldOk, codeOk};
 ghost use Rattle.book.specs.Bounds.{CodesFit};
+use super::CODES;
 use super::bytes::byte;
 
 // "its number of codes (1 to 32)"
-const CODE_LIMIT: u8 = 32;
+const CODE_LIMIT: u8 = CODES as u8;
 
 // 7: the first byte of the field list that is no number of codes.
 pub(crate) fn bad_count(book: &[u8], list: usize, end: usize) -> usize

@@ -7,12 +7,15 @@ ghost use Rattle.format.specs.Reading.{trailerVerdict, listTest, rowsStep, tabl
 ghost use Rattle.book.specs.Shown.{verdictOf, stepOf};
 ghost use Rattle.book.specs.Bounds.{BodyFits, HeadFits};
 use super::CLOSING_BYTE;
+use super::PLACES;
 use super::Refusal;
 use super::bytes::byte;
 use super::bytes::pair;
 use super::scans;
 
 const LENGTH_LIMIT: usize = 32768;
+
+const FIELDS_OF_VERSION_1: usize = 32;
 
 const TABLE_LIMIT: usize = 64;
 
@@ -36,7 +39,13 @@ pub(crate) enum Step {
 fn field_limit(version: u8) -> usize
     ensures { λ r. ⌜ r ≡ format.fieldLimit version ⌝ }
 {
-    if version == 1 { 32 } else { 0 }
+    if version == 2 {
+        return PLACES;
+    }
+    if version == 1 {
+        return FIELDS_OF_VERSION_1;
+    }
+    0
 }
 
 // 1 to 6.

@@ -72,7 +72,7 @@ some-numbers = refl
 
 -- E1's sheet, total, number struck and lines; the ninth byte lent keeps its contents
 pub some-alternatives : alternatives e1 (sheetAfter e1 someCalls) (replicate 9 7)
-    ≡ done (4 ∷ 11 ∷ []) (0 ∷ 1 ∷ replicate 30 255) (0 ∷ 0 ∷ 0 ∷ 1 ∷ 1 ∷ 0 ∷ 1 ∷ 1 ∷ 7 ∷ [])
+    ≡ done (4 ∷ 11 ∷ []) (0 ∷ 1 ∷ replicate 58 255) (0 ∷ 0 ∷ 0 ∷ 1 ∷ 1 ∷ 0 ∷ 1 ∷ 1 ∷ 7 ∷ [])
 unfolding alternatives total noneEmpty struck lines outside largestDomains rounds start remove removeFrom count countOf bookSupports tableSupports rowSupports sheetThrough entered withdrawn verdict trailerTest listTest tablesStep tableStep rowsStep firstBad scan bookOf tablesAt tableAt rowsAt
 some-alternatives = refl
 
@@ -94,25 +94,25 @@ still-entered = refl
 
 -- ---- Request M-100, each refusal of writing: one field and the numbers behind it
 
--- its number of tables is missing
+-- its version is missing, as from each listing before request M-103
 abbrev missing : List ℕ
-missing = 1 ∷ 1 ∷ []
+missing = 1 ∷ 1 ∷ 0 ∷ []
 
--- a number is left over behind no tables
+-- a number is left over behind the version
 abbrev leftOver : List ℕ
-leftOver = 1 ∷ 1 ∷ 0 ∷ 0 ∷ []
+leftOver = 1 ∷ 1 ∷ 0 ∷ 1 ∷ 0 ∷ []
 
 -- 257 codes are too many for a byte
 abbrev tooLarge : List ℕ
-tooLarge = 1 ∷ 257 ∷ 0 ∷ []
+tooLarge = 1 ∷ 257 ∷ 0 ∷ 1 ∷ []
 
 -- reading refuses a field without codes, by 7
 abbrev unread : List ℕ
-unread = 1 ∷ 0 ∷ 0 ∷ []
+unread = 1 ∷ 0 ∷ 0 ∷ 1 ∷ []
 
 -- a listing of a book of seven bytes
 abbrev seven : List ℕ
-seven = 1 ∷ 1 ∷ 0 ∷ []
+seven = 1 ∷ 1 ∷ 0 ∷ 1 ∷ []
 
 -- the four are refused by 20 on their conditions, whatever is lent; the last by 18 where six bytes are
 module _ (o : List ℕ) where
@@ -142,12 +142,12 @@ pub writings-refused : map (λ (l : List ℕ). writing l (replicate 6 9)) (missi
 unfolding into writing writable tablesEnd tablesIn bookIn encode trailerBytes reading verdict trailerTest listTest tablesStep firstBad scan
 writings-refused = refl
 
--- ---- and showing's own: E1's listing has 29 numbers
+-- ---- and showing's own: E1's listing has 30 numbers
 
-pub e1-show-18 : (s : List ℕ) → Refusal (bookOf e1) s (to-show (replicate 28 9)) 18 0
+pub e1-show-18 : (s : List ℕ) → Refusal (bookOf e1) s (to-show (replicate 29 9)) 18 0
 unfolding bookOf tablesAt tableAt rowsAt listingOf tableNumbers
-e1-show-18 s = show-18 {o = replicate 28 9} (omega arith)
+e1-show-18 s = show-18 {o = replicate 29 9} (omega arith)
 
-pub e1-not-shown : showing e1 (replicate 28 9) ≡ declined (replicate 28 9) 18 0
+pub e1-not-shown : showing e1 (replicate 29 9) ≡ declined (replicate 29 9) 18 0
 unfolding into showing verdict trailerTest listTest tablesStep tableStep rowsStep firstBad scan bookOf tablesAt tableAt rowsAt listingOf tableNumbers
 e1-not-shown = refl

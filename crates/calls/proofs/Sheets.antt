@@ -13,7 +13,7 @@ use lib.Dec.{ltb, eqb}
 use Rattle.format.specs.Format.{Book, fieldLimit, codeLimit, versionOf, fieldCount, bookOf}
 use Rattle.format.specs.Promise.{Promise}
 use Rattle.format.specs.Reading.{Accepted}
-use Rattle.format.proofs.Picks.{pick-holds}
+use Rattle.format.proofs.Limits.{limit-most}
 use Rattle.format.proofs.Scans.{pass-all}
 use Rattle.format.proofs.Views.{counts-count, counts-view}
 use Rattle.format.proofs.Accepted.{accepted-promise}
@@ -80,7 +80,7 @@ accepted-within bytes ok = record { few = omega (arith, many, p .few, limit); sm
     many = counts-count bytes (p .whole)
 
     limit : fieldLimit (versionOf bytes) ≤ places
-    limit = pick-holds (λ n. n ≤ places) (eqb (versionOf bytes) 1) (omega arith) (omega arith)
+    limit = limit-most (versionOf bytes)
 
     at : (f : ℕ) → Dec (f < fieldCount bytes) → codes (bookOf bytes) f ≤ codeLimit
     at f (yes l) = omega (arith, counts-view bytes f l, p .sized f l .1)

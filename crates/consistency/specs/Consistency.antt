@@ -7,7 +7,7 @@ use mathlib.Core.List.{List, []}
 use mathlib.Core.Bool.{Bool}
 use lib.ListN.{length, getD, set}
 use lib.Dec.{T}
-use Rattle.format.specs.Format.{Table, Book}
+use Rattle.format.specs.Format.{Table, Book, fieldMost}
 
 -- the field of column j, and the code of row r in column j
 abbrev pub fieldOf : Table → ℕ → ℕ
@@ -28,9 +28,9 @@ nth b i = getD (b .tables) i (record { fields = []; rows = [] })
 abbrev pub Subdomain : Type 0
 Subdomain = ℕ → ℕ → Bool
 
--- "one byte for each of 32 places"
+-- "A sheet has 60 places": one for each field that a book of any version may have
 abbrev pub places : ℕ
-places = 32
+places = fieldMost
 
 -- Answers are a sheet's bytes: "the answered code, or 255 for no answer". Nothing there is no answer
 abbrev pub answer : List ℕ → ℕ → ℕ

@@ -2,15 +2,13 @@
 ghost use Rattle.io.specs.Counts.{Counts};
 use libc::STDOUT_FILENO;
 use report::Printed;
+use report::TEXT_LIMIT;
 
 // One byte more than a book may have, so that too long is told from long enough.
 const BOOK_BYTES: usize = 32769;
 
 // More than any sheet has.
 const SHEET_BYTES: usize = 64;
-
-// No text is longer.
-const TEXT_BYTES: usize = 11305;
 
 // Reads a file, and answers how many bytes it has: 0 where it cannot be opened.
 fn read_file(path: &[u8], buffer: &mut [u8]) -> usize
@@ -28,7 +26,7 @@ fn read_file(path: &[u8], buffer: &mut [u8]) -> usize
 fn main() {
     let mut book = [0; BOOK_BYTES];
     let mut form = [0; SHEET_BYTES];
-    let mut text = [0; TEXT_BYTES];
+    let mut text = [0; TEXT_LIMIT];
     let book_length = read_file(b"book.bin", &mut book);
     let form_length = read_file(b"sheet.bin", &mut form);
     let printed = report::report(&book[..book_length], &form[..form_length], &mut text);

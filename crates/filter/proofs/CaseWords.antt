@@ -149,7 +149,7 @@ module _ (a own : List ℕ) (all f : ℕ) (x : CasesBelow a own all f) (l : f < 
   -- the cases' words have room for one more
   pub own-fits : all + (all + 1) < 2 ^ 64
   own-fits =
-      let p : 2 ^ length (casesBelow f a) ≤ 2 ^ 33 = pow-mono (let q : length (casesBelow f a) ≤ 33 = omega (arith, x .few) in q) in
+      let p : 2 ^ length (casesBelow f a) ≤ 2 ^ (places + 1) = pow-mono (let q : length (casesBelow f a) ≤ places + 1 = omega (arith, x .few) in q) in
       omega (arith, x .are .all-is)
 
   -- the cases of one field more

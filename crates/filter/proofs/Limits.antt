@@ -1,25 +1,19 @@
 -- An accepted book has at most as many fields as a sheet has places, and at most as many codes of each as a field can have. Assumes nothing.
 use mathlib.Core.Path.{_≡_}
-use mathlib.Core.Bool.{Bool, true, false}
 use mathlib.Core.List.{List}
 use Prim.Native.Nat.{ℕ, _≤_, _<_}
 use native.Mathlib.Decide.{decLt}
 use native.Mathlib.Omega.{arith}
 use lib.ListN.{length, List·getD-eq-default}
-use lib.Dec.{eqb}
-use Rattle.format.specs.Basics.{pick}
 use Rattle.format.specs.Format.{codeLimit, fieldCount, versionOf, bookOf}
 use Rattle.format.specs.Promise.{Promise}
+use Rattle.format.proofs.Limits.{limit-most}
 use Rattle.format.proofs.Views.{counts-count, counts-view}
 use Rattle.consistency.specs.Consistency.{places, codes}
 
-limit-le : (t : Bool) → pick t 32 0 ≤ places
-limit-le true = omega arith
-limit-le false = omega arith
-
 module _ (s : List ℕ) (p : Promise s) where
   pub fields-few : fieldCount s ≤ places
-  fields-few = omega (arith, p .few, limit-le (eqb (versionOf s) 1))
+  fields-few = omega (arith, p .few, limit-most (versionOf s))
 
   -- a field that the book lacks has no codes
   pub codes-few : (f : ℕ) → codes (bookOf s) f ≤ codeLimit

@@ -50,7 +50,7 @@ module _ (s : List ℕ) (list fields tables : ℕ) (a own : List ℕ) (all : ℕ
     queue-bit : (i : ℕ) → bit d i ≡ ltb i (tableCount s)
     queue-bit i = ap (λ (z : ℕ). bit z i) de ∙ low-bits tables i ∙ ap (ltb i) (g .numbers .tables-is)
 
-    -- at most 64 cases, 32 fields and 32 codes each
+    -- at most 64 cases, 60 fields and 32 codes each
     cases-few : ones all ≤ 64
     cases-few = subst (λ (z : ℕ). z ≤ 64) (sym (ap ones (g .are .all-is) ∙ ones-ones (length (g .cases)))) (g .are .few)
 

@@ -6,8 +6,8 @@ use Prim.Native.Nat.{ℕ, _+_, _-_, _*_, _≤_, _<_}
 use native.Mathlib.Omega.{arith}
 use lib.Bits.{bitAnd}
 use lib.ListN.{length, getD}
-use Rattle.format.specs.Format.{byte, tableAt}
-use Rattle.consistency.specs.Consistency.{codeOf}
+use Rattle.format.specs.Format.{codeLimit, byte, tableAt}
+use Rattle.consistency.specs.Consistency.{places, codeOf}
 use Rattle.filter.specs.Words.{wordAt}
 use Rattle.filter.specs.declared.support.Shape.{Shape}
 use Rattle.filter.specs.declared.support.Found.{Found}
@@ -20,7 +20,7 @@ use Rattle.filter.proofs.Narrowing.{narrowed-none, narrowed-skip, narro
 module _ (s : List ℕ) (t : Shape) (q : InTable s t) where
   -- the word of a row's code stands among the marks
   pub word-in : (r i : ℕ) → r < t .rows → i < t .arity → (f c : ℕ) → f ≡ byte s (t .at + 1 + i) → c ≡ byte s (t .first + r * t .arity + i)
-      → f * 32 + c < 1024
+      → f * codeLimit + c < places * codeLimit
   word-in r i rl il f c fe ce =
       omega (arith, field-is s t q i il, code-is s t q r i rl il, field-small s t q i il, code-small s t q r i rl il)
 
@@ -30,14 +30,14 @@ module _ (s : List ℕ) (t : Shape) (q : InTable s t) where
   search-is from g x l e = subst (λ (n : ℕ). FirstIs n from g x) (sym (rows-of s t q)) (first-is (t .rows) from g x l e)
 
   -- the own code of a row has a word in need
-  pub own-in : (r i : ℕ) → r < t .rows → i < t .arity → (c : ℕ) → c ≡ byte s (t .first + r * t .arity + i) → c < 32
+  pub own-in : (r i : ℕ) → r < t .rows → i < t .arity → (c : ℕ) → c ≡ byte s (t .first + r * t .arity + i) → c < codeLimit
   own-in r i rl il c ce = omega (arith, code-is s t q r i rl il, code-small s t q r i rl il)
 
   module _ (M : List ℕ) (j r : ℕ) (rl : r < t .rows) where
     -- column i passed
     pub column-and : (i v w f c : ℕ) → i < t .arity → i ≢ j → v ≡ narrowed M (tableAt s (t .at)) j r w i
         → f ≡ byte s (t .at + 1 + i) → c ≡ byte s (t .first + r * t .arity + i)
-        → bitAnd v (getD M (f * 32 + c) 0) ≡ narrowed M (tableAt s (t .at)) j r w (i + 1)
+        → bitAnd v (getD M (f * codeLimit + c) 0) ≡ narrowed M (tableAt s (t .at)) j r w (i + 1)
     column-and i v w f c il ij ve fe ce =
         ap₂ bitAnd ve (ap₂ (wordAt M) (fe ∙ field-is s t q i il) (ce ∙ code-is s t q r i rl il))
         ∙ sym (narrowed-and M (tableAt s (t .at)) j r w i ij)

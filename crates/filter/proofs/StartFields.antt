@@ -37,7 +37,7 @@ pub record StartedBelow (b : Book) (a own : List ℕ) (all : ℕ) (N : List ℕ)
   pub words : (f c : ℕ) → f < m → c < codes b f → wordAt N f c ≡ startWord (answer a f) c all (getD own f 0)
   pub rest : (f c : ℕ) → c < codeLimit → (f < m → c < codes b f → ⊥) → wordAt N f c ≡ 0
   pub counts : r + sumBelow m (standingOf b N) ≡ ones all * sumBelow m (codes b)
-  pub few : r ≤ 2048 * m
+  pub few : r ≤ 64 * codeLimit * m
 
 -- no field yet
 pub started-none : (b : Book) (a own : List ℕ) (all : ℕ) (N : List ℕ) → length a ≡ places → N ≡ replicate (places * codeLimit) 0

@@ -42,7 +42,7 @@ pub record StartsField (M : List ℕ) (f k all own s : ℕ) : Type 0 where
   pub field-in : f < places
   pub codes-in : k ≤ codeLimit
   pub within : (k : ℕ) → T (bit own k) → T (bit all k)
-  pub small : s ≤ 65536
+  pub small : s ≤ 64 * (places * codeLimit)
 
 -- the words of the codes below k of field f, and the count of the marks forbidden there: "those forbidden by an answer included"
 pub record FieldStarted (M N : List ℕ) (f k x all own s t : ℕ) : Type 0 where
@@ -65,7 +65,7 @@ pub record Started (b : Book) (a own : List ℕ) (all : ℕ) (N : List ℕ) (r :
   pub words : (f c : ℕ) → f < places → c < codeLimit
       → wordAt N f c ≡ pick (ltb c (codes b f)) (startWord (answer a f) c all (getD own f 0)) 0
   pub counts : r + standing b N ≡ ones all * sumBelow (length (b .counts)) (codes b)
-  pub few : r ≤ 65536
+  pub few : r ≤ 64 * (places * codeLimit)
 
 -- ---- a whole pass
 

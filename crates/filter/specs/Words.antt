@@ -2,16 +2,20 @@
 use Prim.Native.Nat.{ℕ, _+_, _*_}
 use mathlib.Core.List.{List}
 use mathlib.Core.Bool.{_&&_}
-use lib.ListN.{length, getD}
+use lib.ListN.{length, getD, replicate}
 use lib.Dec.{ltb}
 use Rattle.format.specs.Format.{Book, codeLimit}
 use Rattle.consistency.specs.Counting.{howMany, sumBelow}
-use Rattle.consistency.specs.Consistency.{Subdomain, codes}
+use Rattle.consistency.specs.Consistency.{Subdomain, places, codes}
 use Rattle.consistency.specs.Counts.{bit}
 
 -- the word of field f and code c
 abbrev pub wordAt : List ℕ → ℕ → ℕ → ℕ
 wordAt M f c = getD M (f * codeLimit + c) 0
+
+-- no mark of any case
+abbrev pub noMarks : List ℕ
+noMarks = replicate (places * codeLimit) 0
 
 -- the subdomain of case k; a code that no field can have would be another field's word
 abbrev pub domainOf : List ℕ → ℕ → Subdomain

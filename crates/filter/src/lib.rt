@@ -4,9 +4,12 @@ ghost use mathlib.Core.Path.{_≡_};
 ghost use Rattle.format.specs.Format.{bookOf};
 ghost use Rattle.book.specs.View.{Viewed};
 ghost use Rattle.consistency.specs.Counts.{struck};
+ghost use Rattle.filter.specs.Words.{noMarks};
 ghost use Rattle.filter.specs.Cases.{casesOf, marksOf, plainOf};
 ghost use Rattle.filter.specs.Summaries.{emptyCases};
 use book::Book;
+use book::CODES;
+use book::PLACES;
 
 mod gather;
 mod pass;
@@ -36,24 +39,24 @@ fn one_pass_over<'a>(book: Book<'a>, answers: &[u8; 32], marks: &mut [u64; 1024]
 }
 
 // Plain filtering over a view of an accepted book: a number for each field, bit c of it for code c.
-fn plain_over<'a>(book: Book<'a>, answers: &[u8; 32]) -> [u32; 32]
+fn plain_over<'a>(book: Book<'a>, answers: &[u8; PLACES]) -> [u32; PLACES]
     requires { ⌜ Viewed (now (book .bytes)) (book .list) (book .fields) (book .tables) (book .rows) ⌝ }
     ensures { λ r. ⌜ r ≡ plainOf (bookOf (now (book .entry .bytes))) (now (answers .entry)) ⌝ }
 {
     pass::one_case(book.bytes, book.list, book.fields, book.tables, answers)
 }
 
-// The one pass over the view that these bytes and numbers make.
+// The one pass over the view that these bytes and numbers make. The words lent are 0.
 pub fn one_pass(
     bytes: &[u8],
     list: usize,
     fields: usize,
     tables: usize,
     rows: usize,
-    answers: &[u8; 32],
-    marks: &mut [u64; 1024],
+    answers: &[u8; PLACES],
+    marks: &mut [u64; WORDS],
 ) -> u32
-    requires { ⌜ Viewed (now bytes) list fields tables rows ⌝ }
+    requires { ⌜ Viewed (now bytes) list fields tables rows × (now marks ≡ noMarks) ⌝ }
     ensures marks { λ r. ⌜ now (marks .exit) ≡ marksOf (bookOf (now (bytes .entry))) (casesOf (bookOf (now (bytes .entry))) (now (answers .entry))) ⌝ }
     ensures count { λ r. ⌜ r ≡ struck (bookOf (now (bytes .entry))) (now (answers .entry)) ⌝ }
 {
@@ -71,8 +74,8 @@ pub fn plain(
     fields: usize,
     tables: usize,
     rows: usize,
-    answers: &[u8; 32],
-) -> [u32; 32]
+    answers: &[u8; PLACES],
+) -> [u32; PLACES]
     requires { ⌜ Viewed (now bytes) list fields tables rows ⌝ }
     ensures { λ r. ⌜ r ≡ plainOf (bookOf (now (bytes .entry))) (now (answers .entry)) ⌝ }
 {

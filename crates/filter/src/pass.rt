@@ -3,14 +3,17 @@ ghost use mathlib.Core.Path.{_≡_};
 ghost use Rattle.format.specs.Format.{bookOf};
 ghost use Rattle.book.specs.View.{Numbered};
 ghost use Rattle.consistency.specs.Counts.{struck};
+ghost use Rattle.filter.specs.Words.{noMarks};
 ghost use Rattle.filter.specs.Cases.{casesOf, marksOf, plainOf};
 ghost use Rattle.filter.specs.Start.{RunGiven, Ran};
+use super::WORDS;
 use super::gather::gather;
 use super::queue::first_tables;
 use super::queue::propagate;
 use super::queue::survey;
 use super::start::own_cases;
 use super::start::start;
+use book::PLACES;
 
 // Filters the cases that own and all say, all at once: the marks of each, and how many are struck.
 fn run(
@@ -18,15 +21,15 @@ fn run(
     list: usize,
     fields: usize,
     tables: usize,
-    answers: &[u8; 32],
-    own: &[u64; 32],
+    answers: &[u8; PLACES],
+    own: &[u64; PLACES],
     all: u64,
-    marks: &mut [u64; 1024],
+    marks: &mut [u64; WORDS],
 ) -> u32
-    requires { ⌜ RunGiven (now bytes) list fields tables (now answers) (now own) all ⌝ }
+    requires { ⌜ RunGiven (now bytes) list fields tables (now answers) (now own) all × (now marks ≡ noMarks) ⌝ }
     ensures { λ r. ⌜ Ran (bookOf (now (bytes .entry))) (now (answers .entry)) (now (own .entry)) all (now (marks .exit)) r ⌝ }
 {
-    let mut watch = [0u64; 32];
+    let mut watch = [0u64; PLACES];
     let mut places = [0usize; 64];
     survey(bytes, &mut watch, &mut places, tables);
     let begun = start(bytes, *answers, own, all, marks, list, fields);
@@ -40,10 +43,10 @@ pub(crate) fn all_cases(
     list: usize,
     fields: usize,
     tables: usize,
-    answers: &[u8; 32],
-    marks: &mut [u64; 1024],
+    answers: &[u8; PLACES],
+    marks: &mut [u64; WORDS],
 ) -> u32
-    requires { ⌜ Numbered (now bytes) list fields tables ⌝ }
+    requires { ⌜ Numbered (now bytes) list fields tables × (now marks ≡ noMarks) ⌝ }
     ensures marks { λ r. ⌜ now (marks .exit) ≡ marksOf (bookOf (now (bytes .entry))) (casesOf (bookOf (now (bytes .entry))) (now (answers .entry))) ⌝ }
     ensures count { λ r. ⌜ r ≡ struck (bookOf (now (bytes .entry))) (now (answers .entry)) ⌝ }
 {
@@ -58,13 +61,13 @@ pub(crate) fn one_case(
     list: usize,
     fields: usize,
     tables: usize,
-    answers: &[u8; 32],
-) -> [u32; 32]
+    answers: &[u8; PLACES],
+) -> [u32; PLACES]
     requires { ⌜ Numbered (now bytes) list fields tables ⌝ }
     ensures { λ r. ⌜ r ≡ plainOf (bookOf (now (bytes .entry))) (now (answers .entry)) ⌝ }
 {
-    let own = [0u64; 32];
-    let mut marks = [0u64; 1024];
+    let own = [0u64; PLACES];
+    let mut marks = [0u64; WORDS];
     run(bytes, list, fields, tables, answers, &own, 1, &mut marks);
     gather(&marks)
 }

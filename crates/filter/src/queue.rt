@@ -5,11 +5,13 @@ ghost use Prim.Native.Nat.{_-_, _^_, _≤_, _<_};
 ghost use lib.Dec.{T};
 ghost use Rattle.consistency.specs.Counts.{bit};
 ghost use Rattle.filter.specs.Queue.{WatchGiven, Watched, SurveyGiven, Surveyed, PropagateGiven, Propagated};
+use super::WORDS;
 use super::revise::sweep;
 use super::support::wide;
+use book::PLACES;
 
 // Adds table i, which stands at `at`, to the words of its fields.
-fn watch_table(book: &[u8], watch: &mut [u64; 32], at: usize, arity: usize, i: usize)
+fn watch_table(book: &[u8], watch: &mut [u64; PLACES], at: usize, arity: usize, i: usize)
     requires { ⌜ WatchGiven (now book) (now watch) at arity i ⌝ }
     ensures { λ r. ⌜ Watched (now (book .entry)) (now (watch .entry)) (now (watch .exit)) at i arity ⌝ }
 {
@@ -20,7 +22,12 @@ fn watch_table(book: &[u8], watch: &mut [u64; 32], at: usize, arity: usize, i: u
 }
 
 // The tables' places, and for each field the word of the tables that have it.
-pub(crate) fn survey(book: &[u8], watch: &mut [u64; 32], places: &mut [usize; 64], tables: usize)
+pub(crate) fn survey(
+    book: &[u8],
+    watch: &mut [u64; PLACES],
+    places: &mut [usize; 64],
+    tables: usize,
+)
     requires { ⌜ SurveyGiven (now book) (now watch) (now places) tables ⌝ }
     ensures { λ r. ⌜ Surveyed (now (book .entry)) (now (watch .exit)) (now (places .exit)) ⌝ }
 {
@@ -69,8 +76,8 @@ fn next_table(queue: u64, from: usize) -> usize
 // tables with a field that lost a mark.
 pub(crate) fn propagate(
     book: &[u8],
-    marks: &mut [u64; 1024],
-    watch: &[u64; 32],
+    marks: &mut [u64; WORDS],
+    watch: &[u64; PLACES],
     places: &[usize; 64],
     list: usize,
     s: u32,

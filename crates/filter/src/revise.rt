@@ -1,21 +1,25 @@
 // Striking the marks that a table no longer supports: a column at once, then the columns of a table.
 ghost use mathlib.Core.Path.{_≡_};
-ghost use Prim.Native.Nat.{_^_, _≤_, _<_};
+ghost use Prim.Native.Nat.{_*_, _^_, _≤_, _<_};
 ghost use lib.ListN.{length};
-ghost use Rattle.format.specs.Format.{tableAt, bookOf};
+ghost use Rattle.format.specs.Format.{codeLimit, tableAt, bookOf};
 ghost use Rattle.consistency.specs.Counting.{howMany};
+ghost use Rattle.consistency.specs.Consistency.{places};
 ghost use Rattle.consistency.specs.Counts.{bit};
 ghost use Rattle.filter.specs.Support.{InTable};
 ghost use Rattle.filter.specs.Revise.{Unsupported, Revised, Swept};
 ghost use Rattle.filter.specs.Asks.{Looks, Counted, Struck, ReviseAsks, SweepAsks};
+use super::WORDS;
 use super::support::Found;
 use super::support::Shape;
 use super::support::support;
 use super::support::wide;
+use book::CODES;
+use book::PLACES;
 
 // The cases in which each code still looks for a row that supports it, and the number of codes that have such a case.
 struct Need {
-    cases: [u64; 32],
+    cases: [u64; CODES],
     waiting: usize,
 }
 
@@ -26,14 +30,14 @@ pub(crate) struct Pass {
 }
 
 // The cases in which each of the k codes of field f stands.
-fn looking(marks: &[u64; 1024], f: usize, k: usize) -> Need
-    requires { ⌜ (f < 32) × (k ≤ 32) ⌝ }
+fn looking(marks: &[u64; WORDS], f: usize, k: usize) -> Need
+    requires { ⌜ (f < places) × (k ≤ codeLimit) ⌝ }
     ensures { λ r. ⌜ Looks (now (marks .entry)) f k (r .cases) × Counted (r .cases) (r .waiting) ⌝ }
 {
-    let mut cases = [0u64; 32];
+    let mut cases = [0u64; CODES];
     let mut waiting = 0;
     for c in 0..k {
-        let word = marks[f * 32 + c];
+        let word = marks[f * CODES + c];
         cases[c] = word;
         if word != 0 {
             waiting = waiting + 1;
@@ -47,7 +51,7 @@ fn looking(marks: &[u64; 1024], f: usize, k: usize) -> Need
 
 // Of the cases looked for, those in which no row of the table supports the code in column j. It stops early where no code
 // needs a row any more.
-fn unsupported(book: &[u8], marks: &[u64; 1024], t: Shape, j: usize, need: Need) -> [u64; 32]
+fn unsupported(book: &[u8], marks: &[u64; WORDS], t: Shape, j: usize, need: Need) -> [u64; CODES]
     requires { ⌜ InTable (now book) t × ((j < t .arity) × Counted (need .cases) (need .waiting)) ⌝ }
     ensures { λ r. ⌜ Unsupported (now (marks .entry)) (tableAt (now (book .entry)) (t .at)) j (need .cases) r ⌝ }
 {
@@ -91,14 +95,14 @@ fn cases_in(word: u64) -> u32
 }
 
 // Strikes the cases `left` of the k codes of field f, and counts them.
-fn strike(marks: &mut [u64; 1024], left: &[u64; 32], f: usize, k: usize, s: u32) -> u32
-    requires { ⌜ (length (now marks) ≡ 1024) × ((f < 32) × ((k ≤ 32) × (s ≤ 1000000))) ⌝ }
+fn strike(marks: &mut [u64; WORDS], left: &[u64; CODES], f: usize, k: usize, s: u32) -> u32
+    requires { ⌜ (length (now marks) ≡ places * codeLimit) × ((f < places) × ((k ≤ codeLimit) × (s ≤ 1000000))) ⌝ }
     ensures { λ r. ⌜ Struck (now (marks .entry)) (now (marks .exit)) (now (left .entry)) f k s r ⌝ }
 {
     let mut count = s;
     for c in 0..k {
         let gone = left[c];
-        marks[f * 32 + c] = marks[f * 32 + c] ^ gone;
+        marks[f * CODES + c] = marks[f * CODES + c] ^ gone;
         count = count + cases_in(gone);
     }
     count
@@ -107,7 +111,7 @@ fn strike(marks: &mut [u64; 1024], left: &[u64; 32], f: usize, k: usize, s: u32)
 // Strikes each mark of field f that no row of the table supports in column j, f's column; the field has k codes.
 fn revise(
     book: &[u8],
-    marks: &mut [u64; 1024],
+    marks: &mut [u64; WORDS],
     t: Shape,
     j: usize,
     f: usize,
@@ -126,8 +130,8 @@ fn revise(
 // join the queue; table i itself need not, since a row that supports a mark in one column keeps its marks in the others.
 pub(crate) fn sweep(
     book: &[u8],
-    marks: &mut [u64; 1024],
-    watch: &[u64; 32],
+    marks: &mut [u64; WORDS],
+    watch: &[u64; PLACES],
     list: usize,
     i: usize,
     at: usize,

@@ -1,24 +1,27 @@
 // The marks that a pass starts from: what the answers allow, in all cases at once.
 ghost use mathlib.Core.Path.{_≡_};
-ghost use Prim.Native.Nat.{_*_, _≤_};
-ghost use lib.ListN.{replicate};
-ghost use Rattle.format.specs.Format.{bookOf, codeLimit};
+ghost use Prim.Native.Nat.{_≤_};
+ghost use Rattle.format.specs.Format.{bookOf};
 ghost use Rattle.consistency.specs.Consistency.{places};
+ghost use Rattle.filter.specs.Words.{noMarks};
 ghost use Rattle.filter.specs.Start.{CasesAre, casesBelow, startWord, StartsField, FieldStarted, Starts, Started};
+use super::WORDS;
 use super::support::wide;
+use book::CODES;
+use book::PLACES;
 
 // The cases: all of them, and for each field those that relax it.
 pub(crate) struct OwnCases {
-    pub(crate) words: [u64; 32],
+    pub(crate) words: [u64; PLACES],
     pub(crate) all: u64,
 }
 
 // Nothing relaxed, then each answered field by itself, in their order.
-pub(crate) fn own_cases(answers: [u8; 32], fields: usize) -> OwnCases
+pub(crate) fn own_cases(answers: [u8; PLACES], fields: usize) -> OwnCases
     requires { ⌜ fields ≤ places ⌝ }
     ensures { λ r. ⌜ CasesAre answers (r .words) (r .all) (casesBelow fields answers) ⌝ }
 {
-    let mut words = [0u64; 32];
+    let mut words = [0u64; PLACES];
     let mut all: u64 = 1;
     let mut f = 0;
     while f < fields {
@@ -49,7 +52,7 @@ fn start_word(x: u8, c: u8, all: u64, own: u64) -> u64
 }
 
 // The words of the codes below k of field f, and the count s with the marks that the answer x forbids there.
-fn start_field(marks: &mut [u64; 1024], f: usize, k: u8, x: u8, all: u64, own: u64, s: u32) -> u32
+fn start_field(marks: &mut [u64; WORDS], f: usize, k: u8, x: u8, all: u64, own: u64, s: u32) -> u32
     requires { ⌜ StartsField (now marks) f k all own s ⌝ }
     ensures { λ r. ⌜ FieldStarted (now (marks .entry)) (now (marks .exit)) f k x all own s r ⌝ }
 {
@@ -58,34 +61,27 @@ fn start_field(marks: &mut [u64; 1024], f: usize, k: u8, x: u8, all: u64, own: u
     while c < k {
         let word = start_word(x, c, all, own);
         let code = wide(c);
-        marks[f * 32 + code] = word;
+        marks[f * CODES + code] = word;
         struck += u64::count_ones(all ^ word);
         c += 1;
     }
     struck
 }
 
-// No mark.
-fn clear(marks: &mut [u64; 1024])
-    ensures { λ r. ⌜ now (marks .exit) ≡ replicate (places * codeLimit) 0 ⌝ }
-{
-    *marks = [0u64; 1024];
-}
-
-// All marks that the answers allow, and the count of those that they forbid.
+// All marks that the answers allow, and the count of those that they forbid. It is lent words that are 0, so that it need not clear those
+// of places that the book lacks.
 pub(crate) fn start(
     book: &[u8],
-    answers: [u8; 32],
-    own: &[u64; 32],
+    answers: [u8; PLACES],
+    own: &[u64; PLACES],
     all: u64,
-    marks: &mut [u64; 1024],
+    marks: &mut [u64; WORDS],
     list: usize,
     fields: usize,
 ) -> u32
-    requires { ⌜ Starts (now book) (now own) all list fields ⌝ }
+    requires { ⌜ Starts (now book) (now own) all list fields × (now marks ≡ noMarks) ⌝ }
     ensures { λ r. ⌜ Started (bookOf (now (book .entry))) answers (now (own .entry)) all (now (marks .exit)) r ⌝ }
 {
-    clear(marks);
     let mut struck: u32 = 0;
     let mut f = 0;
     while f < fields {

@@ -3,6 +3,8 @@ ghost use mathlib.Core.Path.{_≡_};
 ghost use Prim.Native.Nat.{_-_, _≤_, _<_};
 ghost use Rattle.format.specs.Format.{tableAt};
 ghost use Rattle.filter.specs.Support.{InTable, firstFrom, rowCases};
+use super::WORDS;
+use book::CODES;
 
 // A table's place, number of fields, place of its first row, and number of rows.
 pub(crate) struct Shape {
@@ -28,8 +30,8 @@ pub(crate) fn wide(x: u8) -> usize
 // for, with those cases. A row is given up at its first code that is struck in every case still asked for.
 pub(crate) fn support(
     book: &[u8],
-    marks: &[u64; 1024],
-    need: &[u64; 32],
+    marks: &[u64; WORDS],
+    need: &[u64; CODES],
     t: Shape,
     j: usize,
     from: usize,
@@ -52,7 +54,7 @@ pub(crate) fn support(
             if k != j {
                 let f = wide(book[at + 1 + k]);
                 let code = wide(book[row + k]);
-                cases = cases & marks[f * 32 + code];
+                cases = cases & marks[f * CODES + code];
                 if cases == 0 {
                     continue 'rows;
                 }

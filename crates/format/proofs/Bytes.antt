@@ -12,14 +12,14 @@ use Rattle.format.specs.Format.{Table, Book, RowOk, TableOk, WellFormed,
 use Rattle.format.specs.Layout.{Bytes}
 use Rattle.format.proofs.Elements.{all-at, all-of, all-or, all-append}
 use Rattle.format.proofs.Encode.{encode-length}
+use Rattle.format.proofs.Limits.{limit-version, limit-most}
 
 -- a version that allows a field is a byte, and so is the number of fields that it allows
 limit-byte : (v : ℕ) → 1 ≤ fieldLimit v → (v < 256) × (fieldLimit v < 256)
-limit-byte v h = go (eqb v 1) refl
-  where
-    go : (t : Bool) → eqb v 1 ≡ t → (v < 256) × (fieldLimit v < 256)
-    go true e = (omega (arith, eqb-true v 1 e), rw e (omega arith))
-    go false e = let l : 1 ≤ pick {A = ℕ} false 32 0 = rw e at h in absurd (omega arith)
+limit-byte v h = (
+  limit-version (λ (n : ℕ). 1 ≤ n → v < 256) v (λ e l. omega arith) (λ e l. omega arith) (λ l. absurd (omega arith)) h,
+  omega (arith, limit-most v),
+)
 
 -- bytes behind bytes
 join : (xs ys : List ℕ) → Bytes xs → Bytes ys → Bytes (xs ++ ys)

@@ -3,6 +3,7 @@ pub mod Elements
 pub mod Views
 pub mod Refusals
 pub mod Picks
+pub mod Limits
 pub mod Trailer
 pub mod Places
 pub mod TableTests
@@ -24,6 +25,7 @@ pub mod Replies
 pub mod Copying
 pub mod ByteTests
 pub mod Parsing
+pub mod Unversioned
 pub mod Rebuilding
 pub mod ListingWords
 pub mod Writable

@@ -43,5 +43,5 @@ listing-words b w =
     let c = all-split (λ x. x < 256) (b .counts) (trailerBytes b) (s .1) in (
       omega (arith, c .1 .1 .1 .0),
       join (b .counts) (length (b .tables) ∷ (tablesNumbers (b .tables) ++ lastNumbers (b .version))) (wide (b .counts) (c .0))
-          (omega (arith, c .1 .1 .1 .1 .0), join (tablesNumbers (b .tables)) (lastNumbers (b .version)) (tables-words (b .tables) (s .0)) tt),
+          (omega (arith, c .1 .1 .1 .1 .0), join (tablesNumbers (b .tables)) (lastNumbers (b .version)) (tables-words (b .tables) (s .0)) (omega (arith, c .1 .1 .1 .1 .1 .0), tt)),
     )

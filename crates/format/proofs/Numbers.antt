@@ -25,15 +25,15 @@ at-byte : {n number place : ℕ} → between 2 13 number ≡ true → place < n 
 at-byte {n} {number} k l = let h = between-true 2 13 number k in of-byte (h .0) (h .1) l
 
 -- 1 to 6
-trailer-numbered : (n closing version fields tables list : ℕ) → Numbered n (trailerTest n closing version fields tables list)
+trailer-numbered : (n closing limit fields tables list : ℕ) → Numbered n (trailerTest n closing limit fields tables list)
 unfolding trailerTest
-trailer-numbered n closing version fields tables list =
+trailer-numbered n closing limit fields tables list =
     pick-cases (Numbered n) (between 6 lengthLimit n)
     (λ e.
     let h = between-true 6 lengthLimit n e in
     pick-holds (Numbered n) (eqb closing closingByte)
-    (pick-holds (Numbered n) (leb 1 (fieldLimit version))
-    (pick-holds (Numbered n) (between 1 (fieldLimit version) fields)
+    (pick-holds (Numbered n) (leb 1 limit)
+    (pick-holds (Numbered n) (between 1 limit fields)
     (pick-holds (Numbered n) (leb tables tableLimit)
     (pick-holds (Numbered n) (eqb (list + fields + 6) n) passed (failed (at-byte refl (omega (arith, h .0)))))
     (failed (at-byte refl (omega (arith, h .0)))))
@@ -115,7 +115,7 @@ module _ (s : List ℕ) (n list : ℕ) (within : list < n) where
 -- ---- all tests in turn
 
 module _ (s : List ℕ) where
-  body-numbered : TrailerGood (length s) (byte s (length s - 1)) (versionOf s) (fieldCount s) (tableCount s) (listPlace s)
+  body-numbered : TrailerGood (length s) (byte s (length s - 1)) (fieldLimit (versionOf s)) (fieldCount s) (tableCount s) (listPlace s)
       → Numbered (length s) (bodyVerdict s (listPlace s) (fieldCount s) (tableCount s))
   unfolding listTest
   body-numbered g =
@@ -133,8 +133,8 @@ module _ (s : List ℕ) where
       let n : ℕ = length s in
       let closing : ℕ = byte s (n - 1) in
       then-numbered n (trailerVerdict s) (bodyVerdict s (listPlace s) (fieldCount s) (tableCount s))
-      (trailer-numbered n closing (versionOf s) (fieldCount s) (tableCount s) (listPlace s))
-      (λ e. body-numbered (trailer-good n closing (versionOf s) (fieldCount s) (tableCount s) (listPlace s) e))
+      (trailer-numbered n closing (fieldLimit (versionOf s)) (fieldCount s) (tableCount s) (listPlace s))
+      (λ e. body-numbered (trailer-good n closing (fieldLimit (versionOf s)) (fieldCount s) (tableCount s) (listPlace s) e))
 
   -- the number and the place of a refusal
   pub book-refusal : {number place : ℕ} → verdict s ≡ fail number place → BookRefusal (length s) number place

@@ -56,7 +56,7 @@ module _ (l post : List ℕ) (t : Table) (p : ℕ) (even : Even t) (here : drop 
       (omega (arith, length-append (t .fields) (length (t .rows) ∷ flat (t .rows)), flat-length (length (t .fields)) (t .rows) even))
 
 -- the tables that stand at p, read
-tables-read : (l post : List ℕ) (ts : List Table) (p : ℕ) → All Even ts → drop p l ≡ tablesNumbers ts ++ post
+pub tables-read : (l post : List ℕ) (ts : List Table) (p : ℕ) → All Even ts → drop p l ≡ tablesNumbers ts ++ post
     → (tablesIn l p (length ts) ≡ ts) × ((tablesEnd l p (length ts) ≡ p + length (tablesNumbers ts)) × (drop (tablesEnd l p (length ts)) l ≡ post))
 unfolding tablesIn tablesEnd
 tables-read l post [] p o e = (refl, (sym (add-zero p), e))
@@ -66,14 +66,6 @@ tables-read l post (t ∷ ts) p o e =
     let end = end-read l (tablesNumbers ts ++ post) t p (o .0) d in
     let i = tables-read l post ts (tableEndIn l p) (o .1) (r .1) in
     (rw (r .0, i .0), (omega (arith, i .1 .0, end, length-append (tableNumbers t) (tablesNumbers ts)), i .1 .1))
-
--- a well-formed book is of version 1
-version-one : (v : ℕ) → 1 ≤ fieldLimit v → v ≡ 1
-version-one v h = go (eqb v 1) refl
-  where
-    go : (t : Bool) → eqb v 1 ≡ t → v ≡ 1
-    go true e = eqb-true v 1 e
-    go false e = let k : 1 ≤ pick {A = ℕ} false 32 0 = rw e at h in absurd (omega arith)
 
 module _ (b : Book) where
   -- the parts of its listing, in their places
@@ -107,9 +99,8 @@ module _ (b : Book) where
         × (drop (tablesEnd (listingOf b) (2 + length (b .counts)) (length (b .tables))) (listingOf b) ≡ lastNumbers (b .version)))
     all-read = tables-read (listingOf b) (lastNumbers (b .version)) (b .tables) (2 + length (b .counts)) (tables-even (b .counts) (b .tables) (well .each)) tables-here
 
-    -- the book's version, which a listing does not name
     version-read : versionIn (listingOf b) (tablesEnd (listingOf b) (2 + length (b .counts)) (length (b .tables))) ≡ b .version
-    version-read = sym (version-one (b .version) (omega (arith, well .some, well .few)))
+    version-read = byte-front (listingOf b) (tablesEnd (listingOf b) (2 + length (b .counts)) (length (b .tables))) _ _ (all-read .1 .1)
 
     -- the listing says the book
     pub book-in : bookIn (listingOf b) ≡ b

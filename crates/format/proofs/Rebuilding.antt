@@ -12,7 +12,7 @@ use Rattle.format.proofs.Drops.{one-then, part-then}
 use Rattle.format.proofs.Views.{part-length, rows-count}
 use Rattle.format.proofs.Decode.{rows-then}
 use Rattle.format.proofs.Encode.{Even}
-use Rattle.format.specs.Listing.{tableNumbers, tablesNumbers, lastNumbers, listingOf, fieldsIn, tableCountIn, firstTable, arityIn, rowCountIn, firstRowIn, tableEndIn, tableIn, tablesIn, tablesEnd, bookIn, listingEnd}
+use Rattle.format.specs.Listing.{tableNumbers, tablesNumbers, lastNumbers, listingOf, fieldsIn, tableCountIn, firstTable, numberAt, arityIn, rowCountIn, firstRowIn, tableEndIn, tableIn, tablesIn, tablesEnd, bookIn, listingEnd}
 
 -- rows that lie within the numbers have their codes
 rows-width : (l : List ℕ) (a p n : ℕ) → p + n * a ≤ length l → All (λ r. length r ≡ a) (rowsAt l a p n)
@@ -100,7 +100,10 @@ module _ (l : List ℕ) where
 
     -- behind the tables stands what the version asks for
     last-then : lastNumbers (bookIn l .version) ≡ drop (tablesEnd l (firstTable l) (tableCountIn l)) l
-    last-then = sym (rw whole (drop-length l))
+    unfolding bookIn
+    last-then =
+        let e = tablesEnd l (firstTable l) (tableCountIn l) in
+        sym (one-then l e (e + 1) (omega arith) refl ∙ ap (λ (r : List ℕ). numberAt l e ∷ r) (ap (λ (k : ℕ). drop k l) whole ∙ drop-length l))
 
     -- it is the listing of the book that it says
     pub listing-again : listingOf (bookIn l) ≡ l

@@ -11,55 +11,55 @@ use Rattle.format.specs.Reading.{refused, accepted, pass, fail, next, st
 
 -- ---- the trailer
 
-module _ (n closing version fields tables list : ℕ) where
+module _ (n closing limit fields tables list : ℕ) where
   -- fewer than 6 bytes
-  pub trailer-1-short : n < 6 → fail 1 0 ≡ trailerTest n closing version fields tables list
+  pub trailer-1-short : n < 6 → fail 1 0 ≡ trailerTest n closing limit fields tables list
   unfolding trailerTest
   trailer-1-short h = simp lt-leb
 
   -- more bytes than the limit
-  pub trailer-1-long : 6 ≤ n → lengthLimit < n → fail 1 0 ≡ trailerTest n closing version fields tables list
+  pub trailer-1-long : 6 ≤ n → lengthLimit < n → fail 1 0 ≡ trailerTest n closing limit fields tables list
   unfolding trailerTest
   trailer-1-long h h′ = simp (le-leb, lt-leb)
 
   module _ (h1 : 6 ≤ n) (h1′ : n ≤ lengthLimit) where
     -- another closing byte
-    pub trailer-2-closing : (closing ≡ closingByte → ⊥) → fail 2 (n - 1) ≡ trailerTest n closing version fields tables list
+    pub trailer-2-closing : (closing ≡ closingByte → ⊥) → fail 2 (n - 1) ≡ trailerTest n closing limit fields tables list
     unfolding trailerTest
     trailer-2-closing h = simp (le-leb, ne-eqb)
 
     module _ (h2 : closing ≡ closingByte) where
       -- a number that is no version: it allows no field
-      pub trailer-3-version : fieldLimit version < 1 → fail 3 (n - 2) ≡ trailerTest n closing version fields tables list
+      pub trailer-3-version : limit < 1 → fail 3 (n - 2) ≡ trailerTest n closing limit fields tables list
       unfolding trailerTest
       trailer-3-version h = simp (le-leb, eq-eqb, lt-leb)
 
-      module _ (h3 : 1 ≤ fieldLimit version) where
+      module _ (h3 : 1 ≤ limit) where
         -- no field
-        pub trailer-4-none : fields < 1 → fail 4 (n - 4) ≡ trailerTest n closing version fields tables list
+        pub trailer-4-none : fields < 1 → fail 4 (n - 4) ≡ trailerTest n closing limit fields tables list
         unfolding trailerTest
         trailer-4-none h = simp (le-leb, eq-eqb, lt-leb)
 
         module _ (h4 : 1 ≤ fields) where
           -- more fields than the version allows
-          pub trailer-4-many : fieldLimit version < fields → fail 4 (n - 4) ≡ trailerTest n closing version fields tables list
+          pub trailer-4-many : limit < fields → fail 4 (n - 4) ≡ trailerTest n closing limit fields tables list
           unfolding trailerTest
           trailer-4-many h = simp (le-leb, eq-eqb, lt-leb)
 
-          module _ (h4′ : fields ≤ fieldLimit version) where
+          module _ (h4′ : fields ≤ limit) where
             -- more tables than the limit
-            pub trailer-5-tables : tableLimit < tables → fail 5 (n - 3) ≡ trailerTest n closing version fields tables list
+            pub trailer-5-tables : tableLimit < tables → fail 5 (n - 3) ≡ trailerTest n closing limit fields tables list
             unfolding trailerTest
             trailer-5-tables h = simp (le-leb, eq-eqb, lt-leb)
 
             module _ (h5 : tables ≤ tableLimit) where
               -- place, fields and trailer do not make up the length
-              pub trailer-6-place : (list + fields + 6 ≡ n → ⊥) → fail 6 (n - 6) ≡ trailerTest n closing version fields tables list
+              pub trailer-6-place : (list + fields + 6 ≡ n → ⊥) → fail 6 (n - 6) ≡ trailerTest n closing limit fields tables list
               unfolding trailerTest
               trailer-6-place h = simp (le-leb, eq-eqb, ne-eqb)
 
               -- every test of the trailer passed
-              pub trailer-pass : list + fields + 6 ≡ n → pass ≡ trailerTest n closing version fields tables list
+              pub trailer-pass : list + fields + 6 ≡ n → pass ≡ trailerTest n closing limit fields tables list
               unfolding trailerTest
               trailer-pass h = simp (le-leb, eq-eqb)
 
@@ -185,13 +185,13 @@ module _ (s : List ℕ) where
   -- the trailer is refused
   pub verdict-trailer : (number place : ℕ)
       → fail number place
-      ≡ trailerTest (length s) (byte s (length s - 1)) (versionOf s) (fieldCount s) (tableCount s) (listPlace s)
+      ≡ trailerTest (length s) (byte s (length s - 1)) (fieldLimit (versionOf s)) (fieldCount s) (tableCount s) (listPlace s)
       → fail number place ≡ verdict s
   unfolding verdict
   verdict-trailer number place e = simp (← e)
 
   module _
-      (p : pass ≡ trailerTest (length s) (byte s (length s - 1)) (versionOf s) (fieldCount s) (tableCount s) (listPlace s)) where
+      (p : pass ≡ trailerTest (length s) (byte s (length s - 1)) (fieldLimit (versionOf s)) (fieldCount s) (tableCount s) (listPlace s)) where
     -- the field list is refused
     pub verdict-list : (number place : ℕ) → fail number place ≡ listTest s (listPlace s) (fieldCount s)
         → fail number place ≡ verdict s

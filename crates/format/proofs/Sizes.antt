@@ -4,13 +4,12 @@ use mathlib.Core.List.{List, [], _∷_, _++_}
 use Prim.Native.Nat.{ℕ, _+_, _*_, _≤_}
 use native.Mathlib.Nat.{mul-le-mul-left}
 use native.Mathlib.Omega.{arith}
-use lib.Dec.{eqb}
 use lib.ListN.{length, length-append}
 use Rattle.format.specs.Basics.{All}
 use Rattle.format.specs.Format.{Table, Book, TableOk, WellFormed, fieldLimit, arityLimit, tableLimit, rowLimit, rowTotal, word, flat, tableBytes, tablesBytes, encode}
 use Rattle.format.specs.Listing.{tableNumbers, tablesNumbers, listingOf}
 use Rattle.format.specs.Writing.{bookLimit, listingLimit}
-use Rattle.format.proofs.Picks.{pick-holds}
+use Rattle.format.proofs.Limits.{limit-most}
 use Rattle.format.proofs.Encode.{tables-even, encode-length}
 use Rattle.format.proofs.Parsing.{flat-length, listing-length}
 
@@ -38,10 +37,6 @@ tables-near : (counts : List ℕ) (ts : List Table) → All (TableOk counts) ts
 tables-near counts [] o = omega arith
 tables-near counts (t ∷ ts) o =
     omega (arith, length-append (tableNumbers t) (tablesNumbers ts), table-near counts t (o .0), tables-near counts ts (o .1))
-
--- no version has more fields
-limit-most : (v : ℕ) → fieldLimit v ≤ fieldLimit 1
-limit-most v = pick-holds (λ n. n ≤ fieldLimit 1) (eqb v 1) (omega arith) (omega arith)
 
 module _ (b : Book) (well : WellFormed b) where
   -- a field, and the trailer's six bytes; tables, rows and fields within their limits

@@ -7,7 +7,7 @@ use native.Mathlib.Omega.{arith}
 use lib.Dec.{leb, ltb, eqb}
 use borrow.Author.Tests.{leb-true, eqb-true, ltb-false}
 use Rattle.format.specs.Basics.{between, firstBad}
-use Rattle.format.specs.Format.{fieldLimit, codeLimit, tableLimit, lengthLimit, closingByte, byte}
+use Rattle.format.specs.Format.{codeLimit, tableLimit, lengthLimit, closingByte, byte}
 use Rattle.format.specs.Reading.{pass, fail, trailerTest, countOk, listTest}
 use Rattle.format.proofs.Scans.{all-pass, pass-all}
 use Rattle.format.proofs.Picks.{pick-first, pick-second, between-true, within-between}
@@ -20,28 +20,28 @@ fail≢pass e = let z : _≡_ {A = ℕ} 0 1 = cc in omega arith
 -- ---- the trailer of n bytes with these numbers in it
 
 -- the conditions of refusals 1 to 6
-pub record TrailerGood (n closing version fields tables list : ℕ) : Type 0 where
+pub record TrailerGood (n closing limit fields tables list : ℕ) : Type 0 where
   pub long : 6 ≤ n
   pub short : n ≤ lengthLimit
   pub closed : closing ≡ closingByte
   pub some : 1 ≤ fields
-  pub few : fields ≤ fieldLimit version
+  pub few : fields ≤ limit
   pub tables-few : tables ≤ tableLimit
   pub whole : list + fields + 6 ≡ n
 
-module _ (n closing version fields tables list : ℕ) where
+module _ (n closing limit fields tables list : ℕ) where
   -- a trailer that passes meets them
-  pub trailer-good : trailerTest n closing version fields tables list ≡ pass → TrailerGood n closing version fields tables list
+  pub trailer-good : trailerTest n closing limit fields tables list ≡ pass → TrailerGood n closing limit fields tables list
   unfolding trailerTest
   trailer-good e =
       let e1 = pick-first (between 6 lengthLimit n) fail≢pass e in
       let e2 = pick-first (eqb closing closingByte) fail≢pass (e1 .1) in
-      let e3 = pick-first (leb 1 (fieldLimit version)) fail≢pass (e2 .1) in
-      let e4 = pick-first (between 1 (fieldLimit version) fields) fail≢pass (e3 .1) in
+      let e3 = pick-first (leb 1 limit) fail≢pass (e2 .1) in
+      let e4 = pick-first (between 1 limit fields) fail≢pass (e3 .1) in
       let e5 = pick-first (leb tables tableLimit) fail≢pass (e4 .1) in
       let e6 = pick-first (eqb (list + fields + 6) n) fail≢pass (e5 .1) in
       let length = between-true 6 lengthLimit n (e1 .0) in
-      let count = between-true 1 (fieldLimit version) fields (e4 .0) in
+      let count = between-true 1 limit fields (e4 .0) in
       record {
         long = length .0;
         short = length .1;
@@ -53,10 +53,10 @@ module _ (n closing version fields tables list : ℕ) where
       }
 
   -- a trailer that meets them passes
-  pub good-trailer : TrailerGood n closing version fields tables list → trailerTest n closing version fields tables list ≡ pass
+  pub good-trailer : TrailerGood n closing limit fields tables list → trailerTest n closing limit fields tables list ≡ pass
   good-trailer g =
       sym
-      (trailer-pass n closing version fields tables list (g .long) (g .short) (g .closed) (omega arith) (g .some) (g .few)
+      (trailer-pass n closing limit fields tables list (g .long) (g .short) (g .closed) (omega arith) (g .some) (g .few)
       (g .tables-few) (g .whole))
 
 -- ---- the field list from list on

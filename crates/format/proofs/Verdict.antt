@@ -7,7 +7,7 @@ use native.Mathlib.Omega.{arith}
 use lib.Dec.{ltb}
 use lib.ListN.{length}
 use borrow.Author.Tests.{ltb-false}
-use Rattle.format.specs.Format.{rowTotal, byte, listPlace, fieldCount, tableCount, versionOf, bookOf}
+use Rattle.format.specs.Format.{fieldLimit, rowTotal, byte, listPlace, fieldCount, tableCount, versionOf, bookOf}
 use Rattle.format.specs.Promise.{Promise, place}
 use Rattle.format.specs.Reading.{Verdict, pass, fail, andThen, Step, next, stop, trailerTest, listTest, tablesStep, lastTest, verdict}
 use Rattle.format.proofs.Picks.{pick-second}
@@ -38,12 +38,12 @@ module _ (s : List ℕ) where
   pub verdict-promise : verdict s ≡ pass → Promise s
   unfolding verdict bookOf place
   verdict-promise e =
-      let trailer = trailerTest (length s) (byte s (length s - 1)) (versionOf s) (fieldCount s) (tableCount s) (listPlace s) in
+      let trailer = trailerTest (length s) (byte s (length s - 1)) (fieldLimit (versionOf s)) (fieldCount s) (tableCount s) (listPlace s) in
       let list = listTest s (listPlace s) (fieldCount s) in
       let tables = tablesStep s (listPlace s) (fieldCount s) (tableCount s) 0 0 in
       let e1 = both-pass trailer (andThen list (lastTest (listPlace s) tables)) e in
       let e2 = both-pass list (lastTest (listPlace s) tables) (e1 .1) in
-      let t = trailer-good (length s) (byte s (length s - 1)) (versionOf s) (fieldCount s) (tableCount s) (listPlace s) (e1 .0) in
+      let t = trailer-good (length s) (byte s (length s - 1)) (fieldLimit (versionOf s)) (fieldCount s) (tableCount s) (listPlace s) (e1 .0) in
       let l = ended (listPlace s) tables (e2 .1) in
       let g = tables-good s (tableCount s) 0 0 (l .at) (l .rows) (l .ends) in
       let end : l .at ≡ place s (tableCount s) = g .end ∙ ap (place s) (zero-add (tableCount s)) in
@@ -62,7 +62,7 @@ module _ (s : List ℕ) where
 
   -- the trailer's part of the promise
   promise-trailer : Promise s
-      → TrailerGood (length s) (byte s (length s - 1)) (versionOf s) (fieldCount s) (tableCount s) (listPlace s)
+      → TrailerGood (length s) (byte s (length s - 1)) (fieldLimit (versionOf s)) (fieldCount s) (tableCount s) (listPlace s)
   promise-trailer p =
       record {
         long = omega (arith, p .whole);

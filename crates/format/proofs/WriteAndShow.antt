@@ -1,4 +1,4 @@
--- Request M-100: writing accepts exactly the listings of well-formed books, and showing undoes it. Assumes nothing.
+-- Requests M-100 and M-103: writing accepts exactly the listings of well-formed books, and showing undoes it. Assumes nothing.
 use mathlib.Core.Path.{_≡_, refl, sym, ap, subst, _∙_}
 use mathlib.Core.Logic.{_⊎_, inl, inr, _≢_, _↔_}
 use mathlib.Core.Bool.{Bool, true, false}
@@ -22,6 +22,7 @@ use Rattle.format.proofs.ListingWords.{listing-words}
 use Rattle.format.proofs.Parsing.{book-in, listing-ends}
 use Rattle.format.proofs.Rebuilding.{book-even, listing-again}
 use Rattle.format.proofs.Writable.{writable-says, says-writable}
+use Rattle.format.proofs.Unversioned.{unversioned}
 use Rattle.format.proofs.Sizes.{book-few, listing-few}
 use Rattle.format.proofs.Replies.{into-number, into-written}
 
@@ -119,6 +120,7 @@ write-and-show =
         says = book-in b well;
         writes = writes b well;
         shows = shows b well;
+        unversioned = unversioned b well;
         bytes-few = book-few b well;
         numbers-few = listing-few b well;
       };

@@ -1,6 +1,7 @@
 -- Document 01, "Examples to hold": the books. Assumes nothing.
 use Prim.Native.Nat.{ℕ}
-use mathlib.Core.List.{List, [], _∷_}
+use mathlib.Core.List.{List, [], _∷_, _++_}
+use lib.ListN.{replicate}
 
 -- E1 of document 01
 abbrev pub e1 : List ℕ
@@ -16,9 +17,13 @@ e1′ =
     ∷ 0x02 ∷ 0x00 ∷ 0x02 ∷ 0x03 ∷ 0x00 ∷ 0x00 ∷ 0x00 ∷ 0x00 ∷ 0x01 ∷ 0x01 ∷ 0x02
     ∷ 0x02 ∷ 0x03 ∷ 0x03 ∷ 0x18 ∷ 0x00 ∷ 0x03 ∷ 0x02 ∷ 0x01 ∷ 0xE5 ∷ []
 
--- E1 as its compilers keep it: 3 fields of 2, 3 and 3 codes, and 2 tables
+-- E1 as its compilers keep it: 3 fields of 2, 3 and 3 codes, 2 tables, and version 1
 abbrev pub e1Listing : List ℕ
 e1Listing =
     3 ∷ 2 ∷ 3 ∷ 3 ∷ 2
     ∷ 2 ∷ 0 ∷ 2 ∷ 4 ∷ 0 ∷ 0 ∷ 0 ∷ 1 ∷ 1 ∷ 2 ∷ 0 ∷ 1
-    ∷ 2 ∷ 1 ∷ 2 ∷ 4 ∷ 0 ∷ 0 ∷ 1 ∷ 1 ∷ 1 ∷ 2 ∷ 2 ∷ 2 ∷ []
+    ∷ 2 ∷ 1 ∷ 2 ∷ 4 ∷ 0 ∷ 0 ∷ 1 ∷ 1 ∷ 1 ∷ 2 ∷ 2 ∷ 2 ∷ 1 ∷ []
+
+-- n fields of one code, no table, in a book of version v
+abbrev pub fieldsOnly : ℕ → ℕ → List ℕ
+fieldsOnly v n = replicate n 1 ++ (0x00 ∷ 0x00 ∷ n ∷ 0x00 ∷ v ∷ 0xE5 ∷ [])

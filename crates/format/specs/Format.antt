@@ -19,9 +19,17 @@ pub record Book : Type 0 where
 
 -- ---- the limits, each written once
 
--- the most fields of a book of a version, "1 to 32"; 0 for a number that is no version
+-- the most fields of a book of any version
+abbrev pub fieldMost : ℕ
+fieldMost = 60
+
+-- "Version 1 keeps its limit of 32": the most fields where version 1 is the only one; 0 for a number that is no version
+abbrev pub fieldLimit1 : ℕ → ℕ
+fieldLimit1 v = pick (eqb v 1) 32 0
+
+-- the most fields of a book of a version, "Version 2 of the book allows 1 to 60 fields"; 0 for a number that is no version
 abbrev pub fieldLimit : ℕ → ℕ
-fieldLimit v = pick (eqb v 1) 32 0
+fieldLimit v = pick (eqb v 2) fieldMost (fieldLimit1 v)
 
 -- "its number of codes (1 to 32)"
 abbrev pub codeLimit : ℕ

@@ -1,6 +1,7 @@
 pub mod Basics
 pub mod Format
 pub mod Reading
+pub mod Versions
 pub mod Promise
 pub mod Layout
 pub mod Listing

@@ -1,5 +1,6 @@
 -- Request M-100, "a listing, a run of 16-bit numbers: how many fields, their code counts, how many tables, then for each table how many
--- fields, which, how many rows, the rows": what a book's listing is, and what book numbers say. Assumes nothing.
+-- fields, which, how many rows, the rows"; request M-103, "A compilers' listing now names its version last, as one more number": what a
+-- book's listing is, and what book numbers say. Assumes nothing.
 use Prim.Native.Nat.{ℕ, zero, suc, _+_, _*_}
 use mathlib.Core.List.{List, [], _∷_, _++_}
 use lib.ListN.{length, getD}
@@ -15,11 +16,12 @@ abbrev pub tablesNumbers : List Table → List ℕ
 tablesNumbers [] = []
 tablesNumbers (t ∷ ts) = tableNumbers t ++ tablesNumbers ts
 
--- what stands behind the tables of a book of a version: nothing, a listing names no version
+-- what stands behind the tables of a book of a version: "names its version last"
 abbrev pub lastNumbers : ℕ → List ℕ
-lastNumbers version = []
+lastNumbers version = version ∷ []
 
--- "how many fields, their code counts, how many tables, then for each table .."; its order and its repeats are the book's
+-- "how many fields, their code counts, how many tables, then for each table ..", last its version; its order and its repeats are the
+-- book's
 unfoldable pub listingOf : Book → List ℕ
 listingOf b =
     length (b .counts) ∷ (b .counts ++ (length (b .tables) ∷ (tablesNumbers (b .tables) ++ lastNumbers (b .version))))
@@ -66,13 +68,13 @@ unfoldable pub tablesEnd : List ℕ → ℕ → ℕ → ℕ
 tablesEnd l p zero = p
 tablesEnd l p (suc n) = tablesEnd l (tableEndIn l p) n
 
--- the version, where the tables end at e: a listing names none, so it is the only one
+-- the version, where the tables end at e: the number there
 abbrev pub versionIn : List ℕ → ℕ → ℕ
-versionIn l e = 1
+versionIn l e = numberAt l e
 
--- the place behind what stands behind the tables
+-- the place behind it
 abbrev pub lastEnd : ℕ → ℕ
-lastEnd e = e
+lastEnd e = e + 1
 
 -- the book that numbers say
 unfoldable pub bookIn : List ℕ → Book

@@ -42,13 +42,14 @@ abbrev pub afterStep : Step → (ℕ → ℕ → Step) → Step
 afterStep (next at rows) go = go at rows
 afterStep (stop number place) go = stop number place
 
--- 1 to 6, of n bytes with these numbers in the trailer; "2 to 5 give their byte's place"
+-- 1 to 6, of n bytes with these numbers in the trailer, limit being the most fields that their version allows, 0 where it is none;
+-- "2 to 5 give their byte's place"
 unfoldable pub trailerTest : ℕ → ℕ → ℕ → ℕ → ℕ → ℕ → Verdict
-trailerTest n closing version fields tables list =
+trailerTest n closing limit fields tables list =
     pick (between 6 lengthLimit n)
     (pick (eqb closing closingByte)
-    (pick (leb 1 (fieldLimit version))
-    (pick (between 1 (fieldLimit version) fields)
+    (pick (leb 1 limit)
+    (pick (between 1 limit fields)
     (pick (leb tables tableLimit)
     (pick (eqb (list + fields + 6) n) pass (fail 6 (n - 6)))
     (fail 5 (n - 3)))
@@ -118,19 +119,25 @@ abbrev pub lastTest : ℕ → Step → Verdict
 lastTest list (next at rows) = pick (ltb at list) (fail 13 at) pass
 lastTest list (stop number place) = fail number place
 
--- 1 to 6, of the trailer
+-- 1 to 6, of the trailer, with at most limit v fields in a book of version v
+abbrev pub trailerUnder : (ℕ → ℕ) → List ℕ → Verdict
+trailerUnder limit s =
+    trailerTest (length s) (byte s (length s - 1)) (limit (versionOf s)) (fieldCount s) (tableCount s) (listPlace s)
+
 abbrev pub trailerVerdict : List ℕ → Verdict
-trailerVerdict s =
-    trailerTest (length s) (byte s (length s - 1)) (versionOf s) (fieldCount s) (tableCount s) (listPlace s)
+trailerVerdict s = trailerUnder fieldLimit s
 
 -- 7, the tables, 13: what stands before the trailer, by the trailer's numbers
 abbrev pub bodyVerdict : List ℕ → ℕ → ℕ → ℕ → Verdict
 bodyVerdict s list fields tables =
     andThen (listTest s list fields) (lastTest list (tablesStep s list fields tables 0 0))
 
--- "Reading a book, in this order"
+-- "Reading a book, in this order", with at most limit v fields in a book of version v
+abbrev pub verdictUnder : (ℕ → ℕ) → List ℕ → Verdict
+verdictUnder limit s = andThen (trailerUnder limit s) (bodyVerdict s (listPlace s) (fieldCount s) (tableCount s))
+
 unfoldable pub verdict : List ℕ → Verdict
-verdict s = andThen (trailerVerdict s) (bodyVerdict s (listPlace s) (fieldCount s) (tableCount s))
+verdict s = verdictUnder fieldLimit s
 
 -- the numbers and places of a refusal of n bytes: 1, "place 0"; 2 to 13, "a byte of the book"
 pub data BookRefusal (n : ℕ) : ℕ → ℕ → Type 0 where
@@ -144,6 +151,10 @@ outcome (fail number place) counts = refused (length counts) number place
 -- what reading answers: the counts of the book that the bytes hold, or the first refusal
 unfoldable pub reading : List ℕ → Outcome
 reading s = outcome (verdict s) (bookCounts (bookOf s))
+
+-- what it answers with at most limit v fields in a book of version v
+abbrev pub readingUnder : (ℕ → ℕ) → List ℕ → Outcome
+readingUnder limit s = outcome (verdictUnder limit s) (bookCounts (bookOf s))
 
 -- what checking answers, for the calls that count no different rows: place of the field list, fields, tables, rows
 unfoldable pub checking : List ℕ → Outcome

@@ -1,14 +1,14 @@
--- Request M-100: what is promised of writing and showing together. The statement; proofs/WriteAndShow.antt has its proof. Assumes nothing.
+-- Requests M-100 and M-103: what is promised of writing and showing together, for books of both versions. The statement; proofs/WriteAndShow.antt has its proof. Assumes nothing.
 use Prim.Native.Nat.{ℕ, _≤_, _<_}
 use mathlib.Core.Path.{_≡_}
 use mathlib.Core.Logic.{_≢_, _↔_}
-use mathlib.Core.List.{List}
+use mathlib.Core.List.{List, [], _∷_, _++_}
 use lib.ListN.{length}
 use Rattle.format.specs.Basics.{All}
 use Rattle.format.specs.Format.{Book, WellFormed, encode}
 use Rattle.format.specs.Layout.{Bytes}
 use Rattle.format.specs.Listing.{listingOf, bookIn}
-use Rattle.format.specs.Writing.{into, written, showing, writing, bookLimit, listingLimit}
+use Rattle.format.specs.Writing.{declined, into, written, showing, writing, bookLimit, listingLimit}
 
 -- the listing of a well-formed book
 pub record HasListing (l : List ℕ) : Type 0 where
@@ -25,6 +25,8 @@ pub record WrittenAndShown (b : Book) : Type 0 where
   -- writing its listing writes its bytes, and showing its bytes shows its listing
   pub writes : (o : List ℕ) → writing (listingOf b) o ≡ into (encode b) o
   pub shows : (o : List ℕ) → showing (encode b) o ≡ into (listingOf b) o
+  -- "so one from before is refused by 20": the same numbers without the last, which names the version
+  pub unversioned : (l o : List ℕ) → listingOf b ≡ l ++ (b .version ∷ []) → writing l o ≡ declined o 20 0
   -- both have room
   pub bytes-few : length (encode b) ≤ bookLimit
   pub numbers-few : length (listingOf b) ≤ listingLimit

@@ -5,7 +5,7 @@ use mathlib.Core.Bool.{Bool, true, _&&_}
 use lib.ListN.{length, getD, take, drop}
 use lib.Dec.{ltb, eqb}
 use Rattle.format.specs.Basics.{pick}
-use Rattle.format.specs.Format.{fieldLimit, arityLimit, tableLimit, rowLimit, encode, bookOf}
+use Rattle.format.specs.Format.{fieldMost, arityLimit, tableLimit, rowLimit, encode, bookOf}
 use Rattle.format.specs.Reading.{Outcome, refused, accepted, Verdict, pass, fail, verdict, reading}
 use Rattle.format.specs.Listing.{listingOf, bookIn, listingEnd}
 
@@ -58,12 +58,13 @@ writable l = eqb (listingEnd l) (length l) && (allBytes (laidOut l) && eqb (read
 unfoldable pub writing : List ℕ → List ℕ → Reply
 writing l o = pick (writable l) (into (laidOut l) o) (declined o 20 0)
 
--- ---- the most bytes of an accepted book, and the most numbers of its listing: 64 tables on four fields, 4,096 rows of four codes
+-- ---- the most bytes of an accepted book, and the most numbers of its listing: 60 fields, 64 tables on four of them, 4,096 rows of four
+-- codes
 
 -- beside its rows a table has one byte for its number of fields, two for its number of rows; the trailer has six
 abbrev pub bookLimit : ℕ
-bookLimit = tableLimit * (3 + arityLimit) + arityLimit * rowLimit + fieldLimit 1 + 6
+bookLimit = tableLimit * (3 + arityLimit) + arityLimit * rowLimit + fieldMost + 6
 
--- beside its rows a table has two numbers; the listing has its number of fields and its number of tables
+-- beside its rows a table has two numbers; the listing has its number of fields, its number of tables and its version
 abbrev pub listingLimit : ℕ
-listingLimit = tableLimit * (2 + arityLimit) + arityLimit * rowLimit + fieldLimit 1 + 2
+listingLimit = tableLimit * (2 + arityLimit) + arityLimit * rowLimit + fieldMost + 3

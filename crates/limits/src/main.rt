@@ -1,17 +1,16 @@
 // Calls the library at its limits and one beyond, and prints a line for each answer.
 ghost use Rattle.io.specs.Counts.{Counts};
+use book::CODES;
+use book::PLACES;
 use book::Reading;
 use libc::STDOUT_FILENO;
+use report::PAIR_BYTES;
 use report::Printed;
+use report::TEXT_LIMIT;
 use sheet::Listing;
 
 // One more than a book may have.
 const BYTES: usize = 32769;
-
-// As many bytes as the lines of 1,024 alternatives take.
-const PAIR_BYTES: usize = 2048;
-
-const TEXT_BYTES: usize = 11305;
 
 // n, or the length of the bytes where that is less.
 fn within(n: usize, bytes: &[u8]) -> usize
@@ -60,13 +59,13 @@ fn put_tables(out: &mut [u8], tables: usize, rows: usize) -> usize {
 }
 
 // A book, and its length.
-fn put_book(out: &mut [u8], fields: u8, codes: u8, tables: u8, rows: usize) -> usize {
+fn put_book(out: &mut [u8], version: u8, fields: u8, codes: u8, tables: u8, rows: usize) -> usize {
     let list = put_tables(out, tables as usize, rows);
     let trailer = put_many(out, list, codes, fields as usize);
     let count = put_pair(out, trailer, list);
     let third = put(out, count, fields);
     let fourth = put(out, third, tables);
-    let fifth = put(out, fourth, 1);
+    let fifth = put(out, fourth, version);
     put(out, fifth, 0xE5)
 }
 
@@ -111,9 +110,9 @@ fn print_reading(name: &[u8], tried: u64, bytes: &[u8]) {
 }
 
 // Reading a book with these numbers.
-fn try_book(name: &[u8], tried: u64, fields: u8, codes: u8, tables: u8, rows: usize) {
+fn try_book(name: &[u8], tried: u64, version: u8, fields: u8, codes: u8, tables: u8, rows: usize) {
     let mut bytes = [0; BYTES];
-    let length = put_book(&mut bytes, fields, codes, tables, rows);
+    let length = put_book(&mut bytes, version, fields, codes, tables, rows);
     let n = within(length, &bytes);
     print_reading(name, tried, &bytes[..n]);
 }
@@ -125,12 +124,12 @@ fn try_length(length: usize) {
     print_reading(b"length", length as u64, &bytes[..n]);
 }
 
-// Listing the alternatives of a book of 32 fields of 32 codes, all answered 0, with that many bytes lent.
+// Listing the alternatives of a book of 60 fields of 32 codes, all answered 0, with that many bytes lent.
 fn try_lent(lent: usize) {
     let mut bytes = [0; BYTES];
-    let length = put_book(&mut bytes, 32, 32, 0, 0);
+    let length = put_book(&mut bytes, 2, PLACES as u8, CODES as u8, 0, 0);
     let n = within(length, &bytes);
-    let form = [0; 32];
+    let form = [0; PLACES];
     let loaded = sheet::load(&bytes[..n], &form);
     let held = loaded.sheet;
     let mut pairs = [0; PAIR_BYTES];
@@ -152,10 +151,10 @@ fn try_lent(lent: usize) {
 // Printing that book and sheet, with that many bytes lent.
 fn try_text(lent: usize) {
     let mut bytes = [0; BYTES];
-    let length = put_book(&mut bytes, 32, 32, 0, 0);
+    let length = put_book(&mut bytes, 2, PLACES as u8, CODES as u8, 0, 0);
     let n = within(length, &bytes);
-    let form = [0; 32];
-    let mut text = [0; TEXT_BYTES];
+    let form = [0; PLACES];
+    let mut text = [0; TEXT_LIMIT];
     let m = within(lent, &text);
     let printed = report::report(&bytes[..n], &form, &mut text[..m]);
     print_tried(b"text", lent as u64);
@@ -172,18 +171,22 @@ fn try_text(lent: usize) {
 }
 
 fn main() {
-    try_book(b"fields", 32, 32, 1, 0, 0);
-    try_book(b"fields", 33, 33, 1, 0, 0);
-    try_book(b"codes", 32, 1, 32, 0, 0);
-    try_book(b"codes", 33, 1, 33, 0, 0);
-    try_book(b"tables", 64, 1, 1, 64, 0);
-    try_book(b"tables", 65, 1, 1, 65, 0);
-    try_book(b"rows", 4096, 1, 1, 1, 4096);
-    try_book(b"rows", 4097, 1, 1, 1, 4097);
+    try_book(b"version", 0, 0, 1, 1, 0, 0);
+    try_book(b"version", 3, 3, 1, 1, 0, 0);
+    try_book(b"fields", 32, 1, 32, 1, 0, 0);
+    try_book(b"fields", 33, 1, 33, 1, 0, 0);
+    try_book(b"fields", 60, 2, 60, 1, 0, 0);
+    try_book(b"fields", 61, 2, 61, 1, 0, 0);
+    try_book(b"codes", 32, 1, 1, 32, 0, 0);
+    try_book(b"codes", 33, 1, 1, 33, 0, 0);
+    try_book(b"tables", 64, 1, 1, 1, 64, 0);
+    try_book(b"tables", 65, 1, 1, 1, 65, 0);
+    try_book(b"rows", 4096, 1, 1, 1, 1, 4096);
+    try_book(b"rows", 4097, 1, 1, 1, 1, 4097);
     try_length(32768);
     try_length(32769);
-    try_lent(2048);
-    try_lent(2047);
-    try_text(9634);
-    try_text(9633);
+    try_lent(3840);
+    try_lent(3839);
+    try_text(18315);
+    try_text(18314);
 }

@@ -11,7 +11,7 @@ use lib.ListN.{length, getD, length-append, List·getD-append}
 use lib.Seq.{getD-append-seam, getD-append-add}
 use lib.Dec.{T}
 use Rattle.format.specs.Basics.{pick}
-use Rattle.format.specs.Format.{Book}
+use Rattle.format.specs.Format.{Book, codeLimit}
 use Rattle.consistency.specs.Counting.{those, joinOver, tabulate}
 use Rattle.consistency.specs.Consistency.{codes}
 use Rattle.consistency.specs.Largest.{largest}
@@ -78,11 +78,11 @@ module _ (b : Book) (w : Within b) (s rest : List ℕ) where
       ap (λ (m : ℕ). bit m c) (List·getD-append (masks b s) rest 0 f (omega (arith, length-masks b s))) ∙ masks-bit b s f c
 
   -- the lines of field f
-  field-is : (f : ℕ) → f < length (b .counts) → maskLines f (getD (masks b s ++ rest) f 0) 32 ≡ linesOf b (largest b s f) f
+  field-is : (f : ℕ) → f < length (b .counts) → maskLines f (getD (masks b s ++ rest) f 0) codeLimit ≡ linesOf b (largest b s f) f
   field-is f l =
       let p : ℕ → Bool = bit (getD (masks b s ++ rest) f 0) in
       ap (map (λ (c : ℕ). record { field = f; code = c }))
-      (those-wider p (codes b f) 32 (w .small f)
+      (those-wider p (codes b f) codeLimit (w .small f)
       (λ c h. bit-is f l c ∙ not-T (largest b s f c) (λ t. omega (arith, largest-is b s .fits .of-book f c t)))
       ∙ those-ext (codes b f) p (largest b s f) (λ c h. bit-is f l c))
 

@@ -5,9 +5,10 @@ use Prim.Native.Nat.{ℕ, _*_, _≤_}
 use native.Mathlib.Omega.{arith}
 use borrow.Author.Tests.{le-ltb}
 use lib.ListN.{length, getD, drop, replicate, length-append, length-drop, length-replicate}
-use Rattle.format.specs.Format.{Book, bookOf}
+use Rattle.format.specs.Format.{Book, codeLimit, bookOf}
 use Rattle.format.specs.Reading.{Outcome, accepted}
 use Rattle.format.proofs.Accepted.{verdict-accepted}
+use Rattle.consistency.specs.Consistency.{places}
 use Rattle.consistency.specs.Counts.{total, struck, lines, lineBytes, masks}
 use Rattle.consistency.proofs.Lines.{length-lines, length-line-bytes}
 use Rattle.consistency.proofs.Masks.{length-masks}
@@ -29,17 +30,17 @@ use Rattle.report.proofs.Contents.{pairs-are, masks-are}
 
 -- the buffers lent, each of zeros
 abbrev noPairs : List ℕ
-noPairs = replicate 2048 0
+noPairs = replicate (2 * (places * codeLimit)) 0
 
 abbrev noMasks : List ℕ
-noMasks = replicate 32 0
+noMasks = replicate places 0
 
--- 2,048 bytes and 32 numbers
-pairs-lent : length noPairs ≡ 2048
-pairs-lent = length-replicate {A = ℕ} 2048 0
+-- two bytes for each code that a book may have, and a number for each place
+pairs-lent : length noPairs ≡ 2 * (places * codeLimit)
+pairs-lent = length-replicate {A = ℕ} (2 * (places * codeLimit)) 0
 
-masks-lent : length noMasks ≡ 32
-masks-lent = length-replicate {A = ℕ} 32 0
+masks-lent : length noMasks ≡ places
+masks-lent = length-replicate {A = ℕ} places 0
 
 module _ (bytes s : List ℕ) (fields : ℕ) (st : Stands bytes s fields) where
   -- the book that the bytes hold
@@ -50,13 +51,13 @@ module _ (bytes s : List ℕ) (fields : ℕ) (st : Stands bytes s fields) where
   within : Within book
   within = accepted-within bytes (verdict-accepted bytes (st .passes))
 
-  -- the lines are listed: room for 1,024 pairs is enough
+  -- the lines are listed: room for 1,920 pairs is enough
   listed : alternatives bytes s noPairs ≡ listing book s noPairs
   listed =
       list-accepts bytes s noPairs (st .passes) (st .no-fault)
       (omega (arith, total-few book (within .small) (within .few) s, pairs-lent))
 
-  -- the masks are written: room for 32 numbers is enough
+  -- the masks are written: room for 60 numbers is enough
   masked : filtered bytes s 255 noMasks ≡ done [] s (masks book s ++ drop (length (book .counts)) noMasks)
   unfolding filtered
   masked =
@@ -106,7 +107,7 @@ module _ (bytes s : List ℕ) (fields : ℕ) (st : Stands bytes s fields) where
       part-is = rw (alts-is, opens-is, st .fields-are, total-is, struck-is)
 
       -- and are long enough for them
-      pub lists-fit : length s ≡ 32 → ListsFit s fields pairs t ms
+      pub lists-fit : length s ≡ places → ListsFit s fields pairs t ms
       lists-fit long =
           let pairs-long : length pairs ≡ 2048 =
           ap length pairs-is ∙ simp (length-append, length-drop, pairs-lent, length-line-bytes, length-lines) (omega (arith, total-few book (within .small) (within .few) s)) in

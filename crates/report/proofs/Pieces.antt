@@ -8,6 +8,7 @@ use native.Mathlib.Omega.{arith}
 use borrow.Author.Tests.{eq-eqb, ne-eqb}
 use lib.ListN.{length, getD}
 use Rattle.format.specs.Basics.{pick}
+use Rattle.format.specs.Format.{codeLimit}
 use Rattle.consistency.specs.Counting.{those, joinOver, tabulate}
 use Rattle.consistency.specs.Counts.{answered, Line, bit}
 use Rattle.sheet.proofs.Upward.{join-append}
@@ -83,8 +84,8 @@ module _ (w : List ℕ) (f m : ℕ) {o : List ℕ} {at : ℕ} (c : ℕ) {o′ : 
     there : codePiece w f m c ≡ w ++ spaced (f ∷ c ∷ [])
     there = rw (eq-eqb (m / 2 ^ c % 2) 1 e)
 
-    pub code-room : c < 32 → Room o at (linesText w (maskLines f m 32)) → Room o′ r (w ++ spaced (f ∷ c ∷ []))
-    code-room l h = subst (Room o′ r) there (piece-room (λ k. linesText w (maskLines f m k)) (codePiece w f m) (mask-more w f m) c p 32 l h)
+    pub code-room : c < codeLimit → Room o at (linesText w (maskLines f m codeLimit)) → Room o′ r (w ++ spaced (f ∷ c ∷ []))
+    code-room l h = subst (Room o′ r) there (piece-room (λ k. linesText w (maskLines f m k)) (codePiece w f m) (mask-more w f m) c p codeLimit l h)
 
     pub code-on : {o″ : List ℕ} {r′ : ℕ} → Puts o′ r (w ++ spaced (f ∷ c ∷ [])) o″ r′ → Puts o at (linesText w (maskLines f m (c + 1))) o″ r′
     code-on {o″} {r′} q =
@@ -99,7 +100,7 @@ module _ (w : List ℕ) (f m : ℕ) {o : List ℕ} {at : ℕ} (c : ℕ) {o′ : 
 
 -- the text of field f, where it has no answer
 abbrev fieldPiece : List ℕ → List ℕ → List ℕ → ℕ → List ℕ
-fieldPiece w masks s f = pick (not (answered s f)) (linesText w (maskLines f (getD masks f 0) 32)) []
+fieldPiece w masks s f = pick (not (answered s f)) (linesText w (maskLines f (getD masks f 0) codeLimit)) []
 
 -- one field more
 open-more : (w masks s : List ℕ) (f : ℕ) → linesText w (openIn masks s (suc f)) ≡ linesText w (openIn masks s f) ++ fieldPiece w masks s f
@@ -108,7 +109,7 @@ open-more w masks s f =
     ∙ ap (λ (t : List ℕ). linesText w (openIn masks s f) ++ t) (last (p f))
   where
     g : ℕ → List Line
-    g k = maskLines k (getD masks k 0) 32
+    g k = maskLines k (getD masks k 0) codeLimit
 
     p : ℕ → Bool
     p k = not (answered s k)
@@ -122,14 +123,14 @@ module _ (w masks s : List ℕ) {o : List ℕ} {at : ℕ} (f : ℕ) {o′ : List
     (p : Puts o at (linesText w (openIn masks s f)) o′ r) (l : f < length s) where
   -- it has no answer
   module _ (e : getD s f 0 ≡ 255) where
-    unanswered : fieldPiece w masks s f ≡ linesText w (maskLines f (getD masks f 0) 32)
+    unanswered : fieldPiece w masks s f ≡ linesText w (maskLines f (getD masks f 0) codeLimit)
     unanswered = rw (eq-eqb (getD s f 255) 255 (sym (answer-read s f l) ∙ e))
 
-    pub field-room : (n : ℕ) → f < n → Room o at (linesText w (openIn masks s n)) → Room o′ r (linesText w (maskLines f (getD masks f 0) 32))
+    pub field-room : (n : ℕ) → f < n → Room o at (linesText w (openIn masks s n)) → Room o′ r (linesText w (maskLines f (getD masks f 0) codeLimit))
     field-room n k h =
         subst (Room o′ r) unanswered (piece-room (λ k. linesText w (openIn masks s k)) (fieldPiece w masks s) (open-more w masks s) f p n k h)
 
-    pub field-on : {o″ : List ℕ} {r′ : ℕ} → Puts o′ r (linesText w (maskLines f (getD masks f 0) 32)) o″ r′
+    pub field-on : {o″ : List ℕ} {r′ : ℕ} → Puts o′ r (linesText w (maskLines f (getD masks f 0) codeLimit)) o″ r′
         → Puts o at (linesText w (openIn masks s (f + 1))) o″ r′
     field-on {o″} {r′} q =
         piece-on (λ k. linesText w (openIn masks s k)) (fieldPiece w masks s) (open-more w masks s) f p

@@ -1,4 +1,4 @@
--- How long each line can be, and the whole text: a buffer of 11,305 bytes has room for any. Assumes nothing.
+-- How long each line can be, and the whole text: a buffer of 21,162 bytes has room for any. Assumes nothing.
 use mathlib.Core.Path.{_≡_, refl, sym, ap}
 use mathlib.Core.Bool.{Bool, true, false}
 use mathlib.Core.List.{List, [], _∷_, _++_, List·Memᴰ·head, List·Memᴰ·tail}
@@ -102,7 +102,7 @@ module _ (b : Book) (w : Within b) (s : List ℕ) where
       small l (largest-is b s .fits .of-book (l .field) (l .code) (open-are b s (largest b s) (largest-is b s) l .0 m .1 .1))
 
   module _ (tables-few : length (b .tables) ≤ tableLimit) (rows-few : rowTotal (b .tables) ≤ rowLimit) where
-    -- "book 32 64 4096 4096"
+    -- "book 60 64 4096 4096"
     book-line-short : length (bookWord ++ spaced (bookCounts b)) ≤ 21
     book-line-short =
         line-short bookWord (bookCounts b) (2 ∷ 2 ∷ 4 ∷ 4 ∷ []) (
@@ -116,8 +116,8 @@ module _ (b : Book) (w : Within b) (s : List ℕ) where
           ),
         )
 
-    -- "sheet 32 1024 33792"
-    sheet-line-short : length (sheetWord ++ spaced (howMany (length (b .counts)) (answered s) ∷ total b s ∷ struck b s ∷ [])) ≤ 20
+    -- "sheet 60 1920 117120"
+    sheet-line-short : length (sheetWord ++ spaced (howMany (length (b .counts)) (answered s) ∷ total b s ∷ struck b s ∷ [])) ≤ 21
     sheet-line-short =
         line-short sheetWord (howMany (length (b .counts)) (answered s) ∷ total b s ∷ struck b s ∷ []) (2 ∷ 4 ∷ 5 ∷ []) (
           short 1 (howMany (length (b .counts)) (answered s)) (omega (arith, many-few (length (b .counts)) (answered s), w .few)),

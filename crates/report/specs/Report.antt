@@ -1,6 +1,6 @@
 -- What the printed lines say: the open lines are exactly the unanswered fields' codes in the largest arc-consistent subdomain, each once, by
 -- field then code, and the total is the number of alt lines. How long a text can be, and what report leaves. Assumes nothing.
-use Prim.Native.Nat.{ℕ, _≤_, _<_}
+use Prim.Native.Nat.{ℕ, _+_, _*_, _≤_, _<_}
 use mathlib.Core.Path.{_≡_}
 use mathlib.Core.Logic.{_↔_}
 use mathlib.Core.Bool.{not}
@@ -31,9 +31,9 @@ OpenLinesAre = (b : Book) (s : List ℕ) → ShowsOpen b s (openLines b s)
 abbrev pub TotalIsLines : Type 0
 TotalIsLines = (b : Book) (s : List ℕ) → total b s ≡ length (lines b s)
 
--- the most bytes of a text: "book 32 64 4096 4096", "sheet 32 1024 33792", and 1,024 lines such as "open 31 31", each with its newline
+-- the most bytes of a text: "book 60 64 4096 4096", "sheet 60 1920 117120", and 1,920 lines such as "open 59 31", each with its newline
 abbrev pub textLimit : ℕ
-textLimit = 11305
+textLimit = 21 + 21 + 11 * (places * codeLimit)
 
 -- no text has more
 abbrev pub TextFits : Type 0

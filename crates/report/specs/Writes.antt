@@ -5,6 +5,7 @@ use mathlib.Core.List.{List, [], _∷_, _++_, map}
 use mathlib.Core.Bool.{not}
 use lib.ListN.{length, getD}
 use lib.Seq.{sets}
+use Rattle.format.specs.Format.{codeLimit}
 use Rattle.consistency.specs.Counting.{howMany, those, joinOver, tabulate}
 use Rattle.consistency.specs.Counts.{answered, Line, bit}
 use Rattle.report.specs.Text.{spaced, sheetWord, altWord, openWord, linesText}
@@ -32,7 +33,7 @@ maskLines f m n = map (λ (c : ℕ). record { field = f; code = c }) (those n (b
 
 -- the lines of the unanswered fields below n, by their masks, of which each has 32 bits
 abbrev pub openIn : List ℕ → List ℕ → ℕ → List Line
-openIn masks s n = joinOver (those n (λ f. not (answered s f))) (λ f. maskLines f (getD masks f 0) 32)
+openIn masks s n = joinOver (those n (λ f. not (answered s f))) (λ f. maskLines f (getD masks f 0) codeLimit)
 
 -- as many places and masks as fields, and as many pairs as lines
 pub record ListsFit (s : List ℕ) (fields : ℕ) (pairs : List ℕ) (lines : ℕ) (masks : List ℕ) : Type 0 where

@@ -8,6 +8,8 @@ ghost use Rattle.report.specs.Text.{sheetText, reportText};
 ghost use Rattle.report.specs.Report.{textLimit, shown};
 ghost use Rattle.report.specs.Writes.{Room, Puts};
 ghost use Rattle.report.specs.Held.{Stands};
+use book::CODES;
+use book::PLACES;
 use book::Reading;
 use sheet::Answer;
 use sheet::Listing;
@@ -17,13 +19,11 @@ mod lists;
 mod parts;
 mod writers;
 
-// No text is longer.
-const TEXT_LIMIT: usize = 11305;
+// No text is longer: the lines of the book and of the sheet, and a line for each code.
+pub const TEXT_LIMIT: usize = 21 + 21 + 11 * (PLACES * CODES);
 
 // As many alternatives as a book has codes, two bytes each.
-const PAIR_BYTES: usize = 2048;
-
-const FIELDS: usize = 32;
+pub const PAIR_BYTES: usize = 2 * (PLACES * CODES);
 
 const NONE_RELAXED: usize = 255;
 
@@ -39,7 +39,7 @@ fn put_held(out: &mut [u8], at: usize, book: &[u8], held: Sheet, fields: usize) 
     ensures { λ r. ⌜ Puts (now (out .entry)) at (sheetText (held .places) (bookOf (now (book .entry)))) (now (out .exit)) r ⌝ }
 {
     let mut pairs = [0; PAIR_BYTES];
-    let mut masks = [0; FIELDS];
+    let mut masks = [0; PLACES];
     let listed = held.alternatives(book, &mut pairs);
     held.filtered(book, NONE_RELAXED, &mut masks);
     let places = held.places;

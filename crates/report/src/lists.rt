@@ -2,14 +2,14 @@
 ghost use mathlib.Core.List.{[], _∷_, _++_};
 ghost use Prim.Native.Nat.{_*_, _≤_, _<_};
 ghost use lib.ListN.{length};
+ghost use Rattle.format.specs.Format.{codeLimit};
 ghost use Rattle.report.specs.Text.{spaced, linesText};
 ghost use Rattle.report.specs.Writes.{Room, Puts, pairLines, maskLines, openIn};
 use super::writers::put_line;
+use book::CODES;
 
 // A place without an answer.
 pub(crate) const NO_ANSWER: u8 = 255;
-
-const CODES: usize = 32;
 
 // A word and two numbers.
 pub(crate) fn put_two(out: &mut [u8], at: usize, word: &[u8], first: usize, second: usize) -> usize
@@ -38,8 +38,8 @@ pub(crate) fn put_pairs(out: &mut [u8], at: usize, word: &[u8], pairs: &[u8], co
 
 // A line for each code of a field whose bit is set.
 fn put_masked(out: &mut [u8], at: usize, word: &[u8], field: usize, mask: u32) -> usize
-    requires { ⌜ Room (now out) at (linesText (now word) (maskLines field mask 32)) ⌝ }
-    ensures { λ r. ⌜ Puts (now (out .entry)) at (linesText (now (word .entry)) (maskLines field mask 32)) (now (out .exit)) r ⌝ }
+    requires { ⌜ Room (now out) at (linesText (now word) (maskLines field mask codeLimit)) ⌝ }
+    ensures { λ r. ⌜ Puts (now (out .entry)) at (linesText (now (word .entry)) (maskLines field mask codeLimit)) (now (out .exit)) r ⌝ }
 {
     let mut place = at;
     let mut code = 0;

@@ -3,7 +3,7 @@ use mathlib.Core.Path.{_≡_, sym, ap, subst, _∙_}
 use mathlib.Core.List.{List}
 use Prim.Native.Nat.{ℕ, _+_, _≤_, _<_}
 use native.Mathlib.Omega.{arith}
-use lib.Dec.{ltb, eqb}
+use lib.Dec.{ltb}
 use lib.ListN.{length, List·getD-eq-default}
 use borrow.Author.Tests.{lt-ltb, le-ltb}
 use Rattle.format.specs.Format.{Book, codeLimit, byte, versionOf, bookOf}
@@ -47,8 +47,7 @@ module _ (bytes : List ℕ) (list fields : ℕ) (at : FieldsAt bytes list fields
   -- a book has no more fields than a sheet has places
   pub fields-few : fields ≤ places
   fields-few =
-      let limit = pick-holds (λ (n : ℕ). n ≤ places) (eqb (versionOf bytes) 1) {a = 32} {b = 0} (omega arith) (omega arith) in
-      omega (arith, limit, at .fields-is, verdict-promise bytes (at .passes) .few)
+      omega (arith, limit-most (versionOf bytes), at .fields-is, verdict-promise bytes (at .passes) .few)
 
   -- the book has as many fields as its trailer says
   pub fields-count : length (bookOf bytes .counts) ≡ fields

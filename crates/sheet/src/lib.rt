@@ -7,7 +7,9 @@ ghost use Rattle.calls.specs.Histories.{callsIn, sheetAfter};
 ghost use Rattle.sheet.specs.Shown.{numberOf, resultOf, listResultOf};
 ghost use Rattle.sheet.specs.Replayed.{Replayed};
 use book::Checked;
+use book::PLACES;
 use book::Refusal;
+use filter::WORDS;
 use opened::Opened;
 
 mod history;
@@ -17,7 +19,7 @@ mod opened;
 
 // One byte for each place: the answered code, or 255 for no answer.
 pub struct Sheet {
-    pub places: [u8; 32],
+    pub places: [u8; PLACES],
 }
 
 // Why a call is turned down: the reader's refusal of the book, or 14 to 19. numberOf (specs) gives each document 01's number.
@@ -95,7 +97,9 @@ impl Sheet {
     pub fn fresh() -> Sheet
         ensures { λ r. ⌜ r .places ≡ freshSheet ⌝ }
     {
-        Sheet { places: [255; 32] }
+        Sheet {
+            places: [255; PLACES],
+        }
     }
 
     // Takes all answers away. It reads no book: a sheet at fault becomes fresh.
@@ -212,7 +216,7 @@ impl Sheet {
                 tables,
                 rows,
             } => {
-                let mut marks = [0u64; 1024];
+                let mut marks = [0u64; WORDS];
                 let struck = filter::one_pass(
                     book,
                     list,
@@ -285,7 +289,7 @@ pub fn load(book: &[u8], form: &[u8]) -> Handed
             let mut places = [255; 32];
             book::copy(form, &mut places);
             let fault = opened::first_fault(book, list, fields, places);
-            if fault < opened::PLACES {
+            if fault < PLACES {
                 return refuse(Sheet::fresh(), Reason::Fault, fault);
             }
             Handed {

@@ -4,10 +4,14 @@ ghost use Prim.Native.Nat.{_+_, _*_, _≤_};
 ghost use mathlib.Core.List.{_++_};
 ghost use lib.ListN.{length, drop};
 ghost use lib.Seq.{sets};
-ghost use Rattle.format.specs.Format.{bookOf};
+ghost use Rattle.format.specs.Format.{codeLimit, bookOf};
 ghost use Rattle.consistency.specs.Counting.{howMany};
+ghost use Rattle.consistency.specs.Consistency.{places};
 ghost use Rattle.consistency.specs.Counts.{total, lines, lineBytes};
 ghost use Rattle.sheet.specs.Lists.{stands, linesBelow, InMarks, Room, Passed};
+use book::CODES;
+use book::PLACES;
+use filter::WORDS;
 
 // The own case of the first answered field, behind the case with nothing relaxed.
 const FIRST_OWN: u64 = 1;
@@ -19,14 +23,14 @@ pub(crate) fn wide(x: u8) -> usize
 }
 
 // How many of the codes below n of field f stand in case k.
-fn count_codes(marks: &[u64; 1024], k: u64, f: usize, n: usize) -> usize
+fn count_codes(marks: &[u64; WORDS], k: u64, f: usize, n: usize) -> usize
     requires { ⌜ InMarks k f n ⌝ }
     ensures { λ r. ⌜ (r ≡ howMany n (stands (now (marks .entry)) k f)) × (r ≤ n) ⌝ }
 {
     let mut count = 0;
     let mut c = 0;
     while c < n {
-        if (marks[f * 32 + c] >> k) % 2 == 1 {
+        if (marks[f * CODES + c] >> k) % 2 == 1 {
             count += 1;
         }
         c += 1;
@@ -35,14 +39,14 @@ fn count_codes(marks: &[u64; 1024], k: u64, f: usize, n: usize) -> usize
 }
 
 // The lines of the codes below n of field f that stand in case k, written from `at` on. Answers the place behind them.
-fn write_field(marks: &[u64; 1024], k: u64, f: usize, n: usize, out: &mut [u8], at: usize) -> usize
+fn write_field(marks: &[u64; WORDS], k: u64, f: usize, n: usize, out: &mut [u8], at: usize) -> usize
     requires { ⌜ InMarks k f n × Room (now out) at (howMany n (stands (now marks) k f)) ⌝ }
     ensures { λ r. ⌜ (r ≡ at + 2 * howMany n (stands (now (marks .entry)) k f)) × (now (out .exit) ≡ sets (now (out .entry)) at (lineBytes (linesBelow n (stands (now (marks .entry)) k f) f))) ⌝ }
 {
     let mut next = at;
     let mut c = 0;
     while c < n {
-        if (marks[f * 32 + c] >> k) % 2 == 1 {
+        if (marks[f * CODES + c] >> k) % 2 == 1 {
             out[next] = f as u8;
             out[next + 1] = c as u8;
             next += 2;

@@ -5,6 +5,7 @@ ghost use Prim.Native.Nat.{_≤_};
 ghost use lib.ListN.{length, take, drop};
 ghost use Rattle.format.specs.Format.{bookOf};
 ghost use Rattle.book.specs.View.{Viewed};
+ghost use Rattle.consistency.specs.Consistency.{places};
 ghost use Rattle.calls.specs.Calls.{masksInto};
 ghost use Rattle.sheet.specs.Shown.{resultOf};
 use super::Answer;
@@ -12,10 +13,11 @@ use super::Handed;
 use super::Reason;
 use super::Sheet;
 use super::refuse;
+use book::PLACES;
 
 // Copies the first n numbers. What stands behind them in out stays.
-fn copy_numbers(from: [u32; 32], n: usize, out: &mut [u32])
-    requires { ⌜ (n ≤ 32) × (n ≤ length (now out)) ⌝ }
+fn copy_numbers(from: [u32; PLACES], n: usize, out: &mut [u32])
+    requires { ⌜ (n ≤ places) × (n ≤ length (now out)) ⌝ }
     ensures { λ r. ⌜ now (out .exit) ≡ take n from ++ drop n (now (out .entry)) ⌝ }
 {
     let mut i = 0;
@@ -33,7 +35,7 @@ pub(crate) fn write_masks(
     fields: usize,
     tables: usize,
     rows: usize,
-    answers: [u8; 32],
+    answers: [u8; PLACES],
     out: &mut [u32],
 ) -> Handed
     requires { ⌜ Viewed (now book) list fields tables rows ⌝ }

@@ -8,9 +8,7 @@ ghost use Rattle.calls.specs.Calls.{faultOf};
 ghost use Rattle.sheet.specs.Opened.{FieldsAt, Opens};
 use super::Reason;
 use book::Checked;
-
-// The number of places of a sheet.
-pub(crate) const PLACES: usize = 32;
+use book::PLACES;
 
 // A book and a sheet that pass, with the numbers of a view of the book; or the first refusal and its place.
 pub(crate) enum Opened {
@@ -38,7 +36,7 @@ fn may_hold(book: &[u8], list: usize, fields: usize, p: usize, held: u8) -> bool
 }
 
 // The first place that holds neither 255 nor a code of its field, or the number of places.
-pub(crate) fn first_fault(book: &[u8], list: usize, fields: usize, places: [u8; 32]) -> usize
+pub(crate) fn first_fault(book: &[u8], list: usize, fields: usize, places: [u8; PLACES]) -> usize
     requires { ⌜ FieldsAt (now book) list fields ⌝ }
     ensures { λ r. ⌜ r ≡ faultOf (bookOf (now (book .entry))) places ⌝ }
 {
@@ -53,7 +51,7 @@ pub(crate) fn first_fault(book: &[u8], list: usize, fields: usize, places: [u8; 
 }
 
 // 1 to 13, then 14.
-pub(crate) fn open(book: &[u8], places: [u8; 32]) -> Opened
+pub(crate) fn open(book: &[u8], places: [u8; PLACES]) -> Opened
     ensures { λ r. ⌜ Opens (now (book .entry)) places r ⌝ }
 {
     let checked = book::check(book);

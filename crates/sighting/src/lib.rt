@@ -90,7 +90,7 @@ pub extern "C" fn sighting_write(listing: &[u16], out: &mut [u8], outcome: &mut 
 
 // Makes the sheet a fresh one.
 #[no_mangle]
-pub extern "C" fn sighting_fresh(sheet: &mut [u8; 32])
+pub extern "C" fn sighting_fresh(sheet: &mut [u8; PLACES])
     ensures { λ _. ⌜ now (sheet .exit) ≡ freshSheet ⌝ }
 {
     let fresh = Sheet::fresh();
@@ -100,7 +100,7 @@ pub extern "C" fn sighting_fresh(sheet: &mut [u8; 32])
 
 // Takes all answers away.
 #[no_mangle]
-pub extern "C" fn sighting_clear(sheet: &mut [u8; 32])
+pub extern "C" fn sighting_clear(sheet: &mut [u8; PLACES])
     ensures { λ _. ⌜ now (sheet .exit) ≡ cleared (now (sheet .entry)) .sheet ⌝ }
 {
     let given = Sheet { places: *sheet };
@@ -113,7 +113,7 @@ pub extern "C" fn sighting_clear(sheet: &mut [u8; 32])
 // Answers a field. Cells: place.
 #[no_mangle]
 pub extern "C" fn sighting_enter(
-    sheet: &mut [u8; 32],
+    sheet: &mut [u8; PLACES],
     book: &[u8],
     field: usize,
     code: usize,
@@ -128,7 +128,7 @@ pub extern "C" fn sighting_enter(
 // Takes the answer of a field away. Cells: place.
 #[no_mangle]
 pub extern "C" fn sighting_withdraw(
-    sheet: &mut [u8; 32],
+    sheet: &mut [u8; PLACES],
     book: &[u8],
     field: usize,
     outcome: &mut [u64; 1],
@@ -175,7 +175,7 @@ pub extern "C" fn sighting_alternatives(
 // Reads the stored form of a sheet; a refusal leaves a fresh one. Cells: place.
 #[no_mangle]
 pub extern "C" fn sighting_load(
-    sheet: &mut [u8; 32],
+    sheet: &mut [u8; PLACES],
     book: &[u8],
     form: &[u8],
     outcome: &mut [u64; 1],
@@ -204,7 +204,7 @@ pub extern "C" fn sighting_store(
 // A list of calls from a fresh sheet, then the alternatives of the sheet so reached, which is handed back. Cells: place, total, struck.
 #[no_mangle]
 pub extern "C" fn sighting_replay(
-    sheet: &mut [u8; 32],
+    sheet: &mut [u8; PLACES],
     book: &[u8],
     calls: &[u8],
     out: &mut [u8],

@@ -37,6 +37,7 @@ use denote.Triple.Table.{entered, cited}
 use denote.Triple.Walked.{says, needs, Stays, stay-none, stay-none-ref, stay-none-slice, walkOf, goes-none, goes-none-ref, goes-none-slice, Walks, ends-at, walked, walk-meets}
 use denote.Exit.{yes}
 use Rattle.format.specs.Format.{bookOf}
+use Rattle.consistency.specs.Consistency.{places}
 use Rattle.book.specs.View.{Viewed, viewOf}
 use Rattle.book.specs.declared.Book.{Book}
 use Rattle.book.proofs.Walking.{number, arg, leave}
@@ -133,7 +134,7 @@ module _ {M : Type 1} (𝓤 : URA M) (H : Heap 𝓤) (A : Atoms 𝓤) (W : Given
   goes-over : (u : Val) → Viewed (s .now) l f t n → ent 𝓤 (⋆ 𝓤 H A (‵ (OwnView u) ∷ (‵ (flft (κs .0) (qs .0)) ⊛ ‵ ftrue) ∷ Kept ∷ [])) (mean 𝓤 H A (raw (Over 𝓤 H A mem run .pre (to-over u)) ⊛ Left))
   goes-over u known =
       qed W (‵ (OwnView u) ∷ (‵ (flft (κs .0) (qs .0)) ⊛ ‵ ftrue) ∷ Kept ∷ []) ∵
-      move ! (2 ∷ []) $ split ! $ move ! (1 ∷ []) $ split ! $ fsplit ! $ use1 W (‵ OwnX ⊛ ‵ OwnX) (shr-copy 𝓤 H A W (named 1) (κs .1 .0) (Array u8 32) .twice x (pointer x ∷ [])) $ split ! $
+      move ! (2 ∷ []) $ split ! $ move ! (1 ∷ []) $ split ! $ fsplit ! $ use1 W (‵ OwnX ⊛ ‵ OwnX) (shr-copy 𝓤 H A W (named 1) (κs .1 .0) (Array u8 places) .twice x (pointer x ∷ [])) $ split ! $
       -- [what the answers own; the same; true; the other tokens; what the bytes own; what the view owns; the bytes' token]
       move ! (0 ∷ 2 ∷ []) $ fjoin ! $ move ! (4 ∷ 0 ∷ []) $ fjoin ! $ move ! (4 ∷ []) $ split ! $ move ! (0 ∷ 4 ∷ []) $ join ! $ move ! (0 ∷ 2 ∷ []) $
       -- [the tokens; what the callee's parameters own; true; what the answers own; what the bytes own]
@@ -147,9 +148,9 @@ module _ {M : Type 1} (𝓤 : URA M) (H : Heap 𝓤) (A : Atoms 𝓤) (W : Given
   said : (r : List ℕ) → ent 𝓤 (ensured 𝓤 H A plain-over.ended (plain-over.clauses 𝓤 H A mem run) κs a-over tt r) (fact 𝓤 (Filtered r))
   said r = exE 𝓤 _ (λ ws. snd∗ 𝓤 (sem 𝓤 H A (lasts plain-over.ended κs a-over ws)) (fact 𝓤 (Filtered r)))
 
-  exits : (r : List ℕ) (u : Val) → Filtered r → ent 𝓤 (⋆ 𝓤 H A (raw Tokens ∷ Left ∷ ‵ (Array u32 32 .own r (u ∷ [])) ∷ [])) (Post u)
+  exits : (r : List ℕ) (u : Val) → Filtered r → ent 𝓤 (⋆ 𝓤 H A (raw Tokens ∷ Left ∷ ‵ (Array u32 places .own r (u ∷ [])) ∷ [])) (Post u)
   exits r u e =
-      qed W (raw Tokens ∷ Left ∷ ‵ (Array u32 32 .own r (u ∷ [])) ∷ []) ∵
+      qed W (raw Tokens ∷ Left ∷ ‵ (Array u32 places .own r (u ∷ [])) ∷ []) ∵
       suffices ! _ (ends-at 𝓤 H A plain.ended stayed (plain.clauses 𝓤 H A mem run) W ((κs, qs, tt, a, at), tt) u r (tt, (tt, (tt, (tt, (tt, (tt, tt)))))) (tt, (tt, (tt, (tt, (tt, (tt, tt))))))) $
       says ! e $ frame ! $ split ! $ nothing ! $ move ! (2 ∷ 0 ∷ []) $ fjoin ! $ number ! n okn $ number ! t okt $ number ! f okf $ number ! l okl $ move ! (1 ∷ 0 ∷ []) $ fjoin ! $ done !
 
@@ -175,11 +176,11 @@ module _ {M : Type 1} (𝓤 : URA M) (H : Heap 𝓤) (A : Atoms 𝓤) (W : Given
         use3 W (raw (Over 𝓤 H A mem run .pre (to-over u)) ⊛ Left) (goes-over u known) $ split ! $
         -- [what `plain_over` asks; what is kept; _7; …]
         calls-at ! fm (Over 𝓤 H A mem run) known-over (to-over u) (arg ! 2 refl (arg ! 4 refl (no-more !))) (λ w.
-        use1 W (later (some (λ (r : List ℕ). (raw Tokens ⊛ ‵ (Array u32 32 .own r (w ∷ []))) ⊛ raw (ensured 𝓤 H A plain-over.ended (plain-over.clauses 𝓤 H A mem run) κs a-over tt r)))) (id⊢ 𝓤 _) $ await ! tt $ pick ! (λ r.
+        use1 W (later (some (λ (r : List ℕ). (raw Tokens ⊛ ‵ (Array u32 places .own r (w ∷ []))) ⊛ raw (ensured 𝓤 H A plain-over.ended (plain-over.clauses 𝓤 H A mem run) κs a-over tt r)))) (id⊢ 𝓤 _) $ await ! tt $ pick ! (λ r.
         split ! $ move ! (1 ∷ []) $ use1 W (raw (fact 𝓤 (Filtered r))) (said r) $ heard ! (Filtered r) (λ e. split ! $ move ! (1 ∷ []) $
         -- [the result; the tokens; what is kept; _7; …]
-        peeks ! (Array u32 32) (Is (Array u32 32)) (shows 𝓤 H A (Array u32 32)) r (w ∷ []) (λ is′.
-        land ! (from ! (stop !)) (init ! 17 refl (array-lawful 𝓤 H A W u32 (uint-lawful 𝓤 H A W w32) 32 .typed r _ is′ .0)) $
+        peeks ! (Array u32 places) (Is (Array u32 places)) (shows 𝓤 H A (Array u32 places)) r (w ∷ []) (λ is′.
+        land ! (from ! (stop !)) (init ! 17 refl (array-lawful 𝓤 H A W u32 (uint-lawful 𝓤 H A W w32) places .typed r _ is′ .0)) $
         returns ! (look ! 17 refl) $ leave ! 17 refl refl $ leave ! 15 refl refl $ leave ! 13 refl refl $ leave ! 11 refl refl $ leave ! 9 refl refl $ leave ! 7 refl refl $ leave ! 5 refl refl $ leave ! 3 refl refl $ free0 ! $
         keep ! (1 ∷ 2 ∷ 0 ∷ []) $ by ! (exits r w e)))))))))))))))))
 
@@ -188,7 +189,7 @@ module _ {M : Type 1} (𝓤 : URA M) (H : Heap 𝓤) (A : Atoms 𝓤) (W : Given
       → Walks 𝓤 H A plain.ended stayed (WpFn 𝓤 H C Λ code.function) (plain.clauses 𝓤 H A mem run)
   plain-walks C Λ fm known-view known-over = walked 𝓤 H A plain.ended stayed (plain.clauses 𝓤 H A mem run) (WpFn 𝓤 H C Λ code.function)
       (λ κs. (slice-vals, (uint-vals w64, (uint-vals w64, (uint-vals w64, (uint-vals w64, (ptr-vals, tt)))))))
-      (λ κs. (shr-slice-tells (named 0) (κs .0) u8, (uint-tells w64, (uint-tells w64, (uint-tells w64, (uint-tells w64, (shr-tells (named 1) (κs .1 .0) (Array u8 32), tt)))))))
+      (λ κs. (shr-slice-tells (named 0) (κs .0) u8, (uint-tells w64, (uint-tells w64, (uint-tells w64, (uint-tells w64, (shr-tells (named 1) (κs .1 .0) (Array u8 places), tt)))))))
       (λ κs qs bounds a g are. needs 𝓤 (Viewed (a .0 .now) (a .1 .0) (a .1 .1 .0) (a .1 .1 .1 .0) (a .1 .1 .1 .1 .0)) _
       (walk 𝓤 H A W mem run κs qs (a .0) (a .1 .0) (a .1 .1 .0) (a .1 .1 .1 .0) (a .1 .1 .1 .1 .0) (a .1 .1 .1 .1 .1 .0) (are .1 .0 .1) (are .1 .1 .0 .1) (are .1 .1 .1 .0 .1) (are .1 .1 .1 .1 .0 .1) C Λ fm known-view known-over (are .0)))
 

@@ -37,6 +37,7 @@ use denote.Triple.Table.{entered, cited}
 use denote.Triple.Walked.{says, needs, Stays, stay-none, stay-none-ref, walkOf, goes-none, goes-none-ref, Walks, ends-at, walked, walk-meets}
 use denote.Exit.{yes}
 use Rattle.format.specs.Format.{bookOf}
+use Rattle.consistency.specs.Consistency.{places}
 use Rattle.book.specs.View.{Viewed}
 use Rattle.book.specs.declared.Book.{Book}
 use Rattle.book.proofs.Walking.{number, arg, leave}
@@ -109,7 +110,7 @@ module _ {M : Type 1} (𝓤 : URA M) (H : Heap 𝓤) (A : Atoms 𝓤) (W : Given
   apart wt viewed =
       qed W (raw Tokens ∷ ‵ (owns (Viewing (κs .0) ∷ Answers (κs .1 .0) ∷ []) a at) ∷ []) ∵
       move ! (1 ∷ []) $ fsplit ! $ use1 W (‵ (Bytes (κs .0) .own (d .bytes) (slice (d .bytes) ∷ [])) ⊛ ‵ (Viewing (κs .0) .own d (mach ∷ []))) (bytes-out 𝓤 H A W (κs .0) d) $ split ! $
-      move ! (2 ∷ []) $ fsplit ! $ use1 W (‵ OwnX ⊛ ‵ OwnX) (shr-copy 𝓤 H A W (named 1) (κs .1 .0) (Array u8 32) .twice x (pointer x ∷ [])) $ split ! $
+      move ! (2 ∷ []) $ fsplit ! $ use1 W (‵ OwnX ⊛ ‵ OwnX) (shr-copy 𝓤 H A W (named 1) (κs .1 .0) (Array u8 places) .twice x (pointer x ∷ [])) $ split ! $
       -- [what the answers own; the same; true; what the bytes own; what the view owns; the tokens]
       move ! (0 ∷ 2 ∷ []) $ fjoin ! $ number ! (d .tables) (wt .1 .1 .1 .1 .0 .fits) $ number ! (d .fields) (wt .1 .1 .1 .0 .fits) $ number ! (d .list) (wt .1 .1 .0 .fits) $ move ! (2 ∷ 0 ∷ []) $ fjoin ! $
       -- [what the callee's parameters own; what the answers own; what the view owns; the tokens]
@@ -124,9 +125,9 @@ module _ {M : Type 1} (𝓤 : URA M) (H : Heap 𝓤) (A : Atoms 𝓤) (W : Given
   said : (r : List ℕ) → ent 𝓤 (ensured 𝓤 H A one-case.ended (one-case.clauses 𝓤 H A mem run) κs parts tt r) (fact 𝓤 (Filtered r))
   said r = exE 𝓤 _ (λ ws. snd∗ 𝓤 (sem 𝓤 H A (lasts one-case.ended κs parts ws)) (fact 𝓤 (Filtered r)))
 
-  exits : (r : List ℕ) (u : Val) → Filtered r → ent 𝓤 (⋆ 𝓤 H A (raw Tokens ∷ Kept ∷ ‵ (Array u32 32 .own r (u ∷ [])) ∷ [])) (Post u)
+  exits : (r : List ℕ) (u : Val) → Filtered r → ent 𝓤 (⋆ 𝓤 H A (raw Tokens ∷ Kept ∷ ‵ (Array u32 places .own r (u ∷ [])) ∷ [])) (Post u)
   exits r u e =
-      qed W (raw Tokens ∷ Kept ∷ ‵ (Array u32 32 .own r (u ∷ [])) ∷ []) ∵
+      qed W (raw Tokens ∷ Kept ∷ ‵ (Array u32 places .own r (u ∷ [])) ∷ []) ∵
       suffices ! _ (ends-at 𝓤 H A plain-over.ended stayed (plain-over.clauses 𝓤 H A mem run) W ((κs, qs, tt, a, at), tt) u r (tt, (tt, tt)) (tt, (tt, tt))) $
       says ! e $ frame ! $ split ! $ nothing ! $ move ! (2 ∷ 0 ∷ []) $ fjoin ! $ move ! (1 ∷ 0 ∷ []) $ fjoin ! $ done !
 
@@ -144,11 +145,11 @@ module _ {M : Type 1} (𝓤 : URA M) (H : Heap 𝓤) (A : Atoms 𝓤) (W : Given
         move ! (14 ∷ []) $ use1 W (raw (OneCase 𝓤 H A mem run .pre to) ⊛ Kept) (apart wt viewed) $ split ! $
         -- [what the callee asks; what is kept; _6; …]
         calls-at ! fm (OneCase 𝓤 H A mem run) known to (arg ! 8 refl (arg ! 6 refl (arg ! 4 refl (arg ! 2 refl (arg ! 10 refl (no-more !)))))) (λ u.
-        use1 W (later (some (λ (r : List ℕ). (raw Tokens ⊛ ‵ (Array u32 32 .own r (u ∷ []))) ⊛ raw (ensured 𝓤 H A one-case.ended (one-case.clauses 𝓤 H A mem run) κs parts tt r)))) (id⊢ 𝓤 _) $ await ! tt $ pick ! (λ r.
+        use1 W (later (some (λ (r : List ℕ). (raw Tokens ⊛ ‵ (Array u32 places .own r (u ∷ []))) ⊛ raw (ensured 𝓤 H A one-case.ended (one-case.clauses 𝓤 H A mem run) κs parts tt r)))) (id⊢ 𝓤 _) $ await ! tt $ pick ! (λ r.
         split ! $ move ! (1 ∷ []) $ use1 W (raw (fact 𝓤 (Filtered r))) (said r) $ heard ! (Filtered r) (λ e. split ! $ move ! (1 ∷ []) $
         -- [the result; the tokens; what is kept; _6; …]
-        peeks ! (Array u32 32) (Is (Array u32 32)) (shows 𝓤 H A (Array u32 32)) r (u ∷ []) (λ is.
-        land ! (from ! (stop !)) (init ! 15 refl (array-lawful 𝓤 H A W u32 (uint-lawful 𝓤 H A W w32) 32 .typed r _ is .0)) $
+        peeks ! (Array u32 places) (Is (Array u32 places)) (shows 𝓤 H A (Array u32 places)) r (u ∷ []) (λ is.
+        land ! (from ! (stop !)) (init ! 15 refl (array-lawful 𝓤 H A W u32 (uint-lawful 𝓤 H A W w32) places .typed r _ is .0)) $
         returns ! (look ! 15 refl) $ leave ! 15 refl refl $ leave ! 13 refl refl $ leave ! 11 refl refl $ leave ! 9 refl refl $ leave ! 7 refl refl $ leave ! 5 refl refl $ leave ! 3 refl refl $ free0 ! $
         keep ! (1 ∷ 2 ∷ 0 ∷ []) $ by ! (exits r u e))))))))))))
 
@@ -157,7 +158,7 @@ module _ {M : Type 1} (𝓤 : URA M) (H : Heap 𝓤) (A : Atoms 𝓤) (W : Given
       → Walks 𝓤 H A plain-over.ended stayed (WpFn 𝓤 H C Λ code.function) (plain-over.clauses 𝓤 H A mem run)
   plain-over-walks C Λ fm known = walked 𝓤 H A plain-over.ended stayed (plain-over.clauses 𝓤 H A mem run) (WpFn 𝓤 H C Λ code.function)
       (λ κs. (LL.vals (T.the-type (namedLft 2 0 tt κs)) (T′.the-laws (namedLft 2 0 tt κs)), (ptr-vals, tt)))
-      (λ κs. (LL.tells (T.the-type (namedLft 2 0 tt κs)) (T′.the-laws (namedLft 2 0 tt κs)), (shr-tells (named 1) (κs .1 .0) (Array u8 32), tt)))
+      (λ κs. (LL.tells (T.the-type (namedLft 2 0 tt κs)) (T′.the-laws (namedLft 2 0 tt κs)), (shr-tells (named 1) (κs .1 .0) (Array u8 places), tt)))
       (λ κs qs bounds a g are. needs 𝓤 (Viewed (a .0 .bytes .now) (a .0 .list) (a .0 .fields) (a .0 .tables) (a .0 .rows)) _ (walk 𝓤 H A W mem run κs qs (a .0) (a .1 .0) C Λ fm known
       (LL.lawful (T.the-type (namedLft 2 0 tt κs)) (T′.the-laws (namedLft 2 0 tt κs)) 𝓤 H A W .typed (a .0) _ (are .0) .0)))
 

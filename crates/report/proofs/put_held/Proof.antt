@@ -1,6 +1,7 @@
 -- `report::put_held` meets its contract: alternatives accepts, and what it and plain filtering write gives the sheet's text. Assumes nothing.
 use mathlib.Core.Path.{_≡_}
 use lib.ListN.{length}
+use Rattle.consistency.specs.Consistency.{places}
 use Rattle.report.proofs.HeldTexts.{lists-accept, lists-fit, part-room, part-puts}
 use borrow.Author.Needs.{needs}
 use Rattle.report.proofs.put_held.Statement.{statement}
@@ -37,7 +38,7 @@ slice-aggregate-put-sheet-3 : tie.Need-slice-aggregate-put-sheet-3
 slice-aggregate-put-sheet-3 c = search needs
 
 put-sheet-requires : tie.Need-put-sheet-requires
-put-sheet-requires c κs = let long : length (c .before .before .before .before .before .before .before .before .before .before .before .before .before .before .before .before .args .held .places) ≡ 32 = search needs in
+put-sheet-requires c κs = let long : length (c .before .before .before .before .before .before .before .before .before .before .before .before .before .before .before .before .args .held .places) ≡ places = search needs in
     let start = (c .before .before .before .before .before .before .before .before .before .before .before .before .before .before .before .before .pre) in
     let l = (c .before .before .before .before .before .before .before .before .before .before .before .before .alternatives) in
     let f = (c .before .before .before .before .before .before .before .before .before .filtered) in

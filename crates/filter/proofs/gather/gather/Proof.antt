@@ -1,6 +1,7 @@
 -- `gather::gather` meets its contract. The invariant: the numbers of the fields below f. Assumes nothing.
 use Prim.Native.Nat.{_≤_, _-_}
 use mathlib.Core.Path.{refl}
+use Rattle.consistency.specs.Consistency.{places}
 use Rattle.filter.proofs.Gathers.{Gathered, gather-none, gather-more, gather-done}
 use borrow.Author.Needs.{needs}
 use native.Mathlib.Omega.{arith}
@@ -8,10 +9,10 @@ use Rattle.filter.proofs.gather.gather.Statement.{statement}
 use Rattle.filter.proofs.gather.gather.Tie as tie
 
 abbrev Inv-loop : tie.InvT-loop
-Inv-loop marks numbers₀ f₀ numbers f = (f ≤ 32) × Gathered marks numbers f
+Inv-loop marks numbers₀ f₀ numbers f = (f ≤ places) × Gathered marks numbers f
 
 abbrev μ-loop : tie.MeasureT-loop
-μ-loop marks numbers₀ f₀ numbers f = 32 - f
+μ-loop marks numbers₀ f₀ numbers f = places - f
 
 loop-holds : tie.Need-loop-holds Inv-loop μ-loop
 loop-holds c = (omega arith, gather-none _ _ refl)

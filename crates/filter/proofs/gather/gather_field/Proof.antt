@@ -2,6 +2,7 @@
 use Prim.Native.Nat.{_≤_, _-_}
 use mathlib.Core.Path.{_≡_, refl}
 use mathlib.Core.Logic.{⊎-elim}
+use Rattle.format.specs.Format.{codeLimit}
 use Rattle.consistency.specs.Counts.{mask}
 use Rattle.filter.specs.Words.{domainOf}
 use Rattle.filter.proofs.Gathers.{number-fits, gather-set, gather-unset, mask-all}
@@ -10,10 +11,10 @@ use Rattle.filter.proofs.gather.gather_field.Statement.{statement}
 use Rattle.filter.proofs.gather.gather_field.Tie as tie
 
 abbrev Inv-loop : tie.InvT-loop
-Inv-loop marks f number₀ c₀ number c = (c ≤ 32) × (number ≡ mask c (domainOf marks 0 f))
+Inv-loop marks f number₀ c₀ number c = (c ≤ codeLimit) × (number ≡ mask c (domainOf marks 0 f))
 
 abbrev μ-loop : tie.MeasureT-loop
-μ-loop marks f number₀ c₀ number c = 32 - c
+μ-loop marks f number₀ c₀ number c = codeLimit - c
 
 loop-holds : tie.Need-loop-holds Inv-loop μ-loop
 loop-holds c = (omega arith, refl)

@@ -6,13 +6,15 @@ use Rattle.filter.proofs.pass.all_cases.Statement.{statement}
 use Rattle.filter.proofs.pass.all_cases.Tie as tie
 
 own-cases-requires : tie.Need-own-cases-requires
-own-cases-requires c κs = let n = c .before .before .pre in omega (arith, n .fields-is, fields-few _ (n .promise))
+own-cases-requires c κs = let n = c .before .before .pre .0 in omega (arith, n .fields-is, fields-few _ (n .promise))
 
 run-requires : tie.Need-run-requires
-run-requires c κs = all-cases-given _ _ _ _ _ _ _ (c .before .before .before .before .before .before .pre) (c .before .before .before .own-cases .ensures)
+run-requires c κs =
+    let p = c .before .before .before .before .before .before .pre in
+    (all-cases-given _ _ _ _ _ _ _ (p .0) (c .before .before .before .own-cases .ensures), p .1)
 
 returns : tie.Need-returns
-returns c = all-cases-done _ _ _ _ _ _ _ (c .before .before .before .before .before .before .before .pre) (c .before .before .before .before .own-cases .ensures) _ _ (c .run .ensures)
+returns c = all-cases-done _ _ _ _ _ _ _ (c .before .before .before .before .before .before .before .pre .0) (c .before .before .before .before .own-cases .ensures) _ _ (c .run .ensures)
 
 pub all-cases-spec : {M : Type 1} → statement M
 all-cases-spec = tie.close (tie.spec own-cases-requires run-requires returns)

@@ -2,6 +2,7 @@
 use Prim.Native.Nat.{_≤_, _-_}
 use mathlib.Core.Path.{refl}
 use mathlib.Core.Logic.{⊎-elim}
+use Rattle.consistency.specs.Consistency.{places}
 use Rattle.filter.proofs.Lists.{zeros}
 use Rattle.filter.proofs.CaseWords.{CasesBelow, cases-none, own-fits, cases-same, cases-answered, cases-open, cases-done}
 use native.Mathlib.Omega.{arith}
@@ -15,7 +16,7 @@ abbrev μ-loop : tie.MeasureT-loop
 μ-loop fields answers words₀ all₀ f₀ words all f = fields - f
 
 loop-holds : tie.Need-loop-holds Inv-loop μ-loop
-loop-holds c = (omega arith, cases-none _ _ (c .good .0 .1 .0 .1) refl (zeros 32))
+loop-holds c = (omega arith, cases-none _ _ (c .good .0 .1 .0 .1) refl (zeros places))
 
 array-read-if1 : tie.Need-array-read-if1 Inv-loop μ-loop
 array-read-if1 c = omega (arith, (c .before .before .pre))

@@ -13,41 +13,38 @@ Inv-loop book own all marks₀ list fields answers struck₀ f₀ marks struck f
 abbrev μ-loop : tie.MeasureT-loop
 μ-loop book own all marks₀ list fields answers struck₀ f₀ marks struck f = fields - f
 
-clear-requires : tie.Need-clear-requires Inv-loop μ-loop
-clear-requires c κs = tt
-
 loop-holds : tie.Need-loop-holds Inv-loop μ-loop
-loop-holds c = (omega arith, started-none _ _ _ _ _ (c .before .before .before .good .1 .0 .1 .0 .1) (c .clear .ensures))
+loop-holds c = (omega arith, started-none _ _ _ _ _ (c .before .good .1 .0 .1 .0 .1) (c .before .pre .1))
 
 add-k : tie.Need-add-k Inv-loop μ-loop
-add-k c = omega (arith, field-byte _ _ _ _ _ _ (c .before .before .before .before .before .pre) _ _ _ (c .before .loop .inv .1) (c .loop-test .taken))
+add-k c = omega (arith, field-byte _ _ _ _ _ _ (c .before .before .before .pre .0) _ _ _ (c .before .loop .inv .1) (c .loop-test .taken))
 
 shared-slice-read-k : tie.Need-shared-slice-read-k Inv-loop μ-loop
-shared-slice-read-k c = field-byte _ _ _ _ _ _ (c .before .before .before .before .before .before .pre) _ _ _ (c .before .before .loop .inv .1) (c .before .loop-test .taken)
+shared-slice-read-k c = field-byte _ _ _ _ _ _ (c .before .before .before .before .pre .0) _ _ _ (c .before .before .loop .inv .1) (c .before .loop-test .taken)
 
 array-read-x : tie.Need-array-read-x Inv-loop μ-loop
-array-read-x c = field-place _ _ _ _ _ _ (c .before .before .before .before .before .before .pre) _ _ _ (c .before .before .loop .inv .1) (c .before .loop-test .taken)
+array-read-x c = field-place _ _ _ _ _ _ (c .before .before .before .before .pre .0) _ _ _ (c .before .before .loop .inv .1) (c .before .loop-test .taken)
 
 mul-relaxed : tie.Need-mul-relaxed Inv-loop μ-loop
-mul-relaxed c = omega (arith, field-place _ _ _ _ _ _ (c .before .before .before .before .before .before .pre) _ _ _ (c .before .before .loop .inv .1) (c .before .loop-test .taken))
+mul-relaxed c = omega (arith, field-place _ _ _ _ _ _ (c .before .before .before .before .pre .0) _ _ _ (c .before .before .loop .inv .1) (c .before .loop-test .taken))
 
 element-copy-out-relaxed : tie.Need-element-copy-out-relaxed Inv-loop μ-loop
-element-copy-out-relaxed c = field-place _ _ _ _ _ _ (c .before .before .before .before .before .before .pre) _ _ _ (c .before .before .loop .inv .1) (c .before .loop-test .taken)
+element-copy-out-relaxed c = field-place _ _ _ _ _ _ (c .before .before .before .before .pre .0) _ _ _ (c .before .before .loop .inv .1) (c .before .loop-test .taken)
 
 start-field-requires : tie.Need-start-field-requires Inv-loop μ-loop
-start-field-requires c κs = starts-field _ _ _ _ _ _ (c .before .before .before .before .before .before .before .before .pre) _ _ _ (c .before .before .before .before .loop .inv .1) (c .before .before .before .loop-test .taken) _ refl
+start-field-requires c κs = starts-field _ _ _ _ _ _ (c .before .before .before .before .before .before .pre .0) _ _ _ (c .before .before .before .before .loop .inv .1) (c .before .before .before .loop-test .taken) _ refl
 
 add-f : tie.Need-add-f Inv-loop μ-loop
-add-f c = omega (arith, field-place _ _ _ _ _ _ (c .before .before .before .before .before .before .before .before .before .pre) _ _ _ (c .before .before .before .before .before .loop .inv .1) (c .before .before .before .before .loop-test .taken))
+add-f c = omega (arith, field-place _ _ _ _ _ _ (c .before .before .before .before .before .before .before .pre .0) _ _ _ (c .before .before .before .before .before .loop .inv .1) (c .before .before .before .before .loop-test .taken))
 
 loop-less : tie.Need-loop-less Inv-loop μ-loop
 loop-less c = omega arith
 
 loop-again : tie.Need-loop-again Inv-loop μ-loop
-loop-again c = (omega arith, started-more _ _ _ _ _ _ (c .before .before .before .before .before .before .before .before .before .pre) _ _ _ (c .before .before .before .before .before .loop .inv .1) (c .before .before .before .before .loop-test .taken) _ refl _ _ (c .start-field .ensures))
+loop-again c = (omega arith, started-more _ _ _ _ _ _ (c .before .before .before .before .before .before .before .pre .0) _ _ _ (c .before .before .before .before .before .loop .inv .1) (c .before .before .before .before .loop-test .taken) _ refl _ _ (c .start-field .ensures))
 
 returns : tie.Need-returns Inv-loop μ-loop
-returns c = started _ _ _ _ _ _ (c .before .before .before .before .before .pre) _ _ _ (c .before .loop .inv .1) (omega arith)
+returns c = started _ _ _ _ _ _ (c .before .before .before .pre .0) _ _ _ (c .before .loop .inv .1) (omega arith)
 
 pub start-spec : {M : Type 1} → statement M
 start-spec =
@@ -55,7 +52,6 @@ start-spec =
     (tie.spec
     Inv-loop
     μ-loop
-    clear-requires
     loop-holds
     add-k
     shared-slice-read-k

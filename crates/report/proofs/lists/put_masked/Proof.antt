@@ -1,5 +1,6 @@
 -- `report::lists::put_masked` meets its contract. The loop's invariant: the lines of the codes below this one are written. Assumes nothing.
 use Prim.Native.Nat.{_≤_, _-_}
+use Rattle.format.specs.Format.{codeLimit}
 use Rattle.report.specs.Text.{linesText}
 use Rattle.report.specs.Writes.{Puts, maskLines}
 use Rattle.report.proofs.Writing.{puts-none, puts-length}
@@ -10,10 +11,10 @@ use Rattle.report.proofs.lists.put_masked.Statement.{statement}
 use Rattle.report.proofs.lists.put_masked.Tie as tie
 
 abbrev Inv-loop : tie.InvT-loop
-Inv-loop out₀ at word field mask place₀ code₀ out place code = (code ≤ 32) × Puts out₀ at (linesText word (maskLines field mask code)) out place
+Inv-loop out₀ at word field mask place₀ code₀ out place code = (code ≤ codeLimit) × Puts out₀ at (linesText word (maskLines field mask code)) out place
 
 abbrev μ-loop : tie.MeasureT-loop
-μ-loop out₀ at word field mask place₀ code₀ out place code = 32 - code
+μ-loop out₀ at word field mask place₀ code₀ out place code = codeLimit - code
 
 loop-holds : tie.Need-loop-holds Inv-loop μ-loop
 loop-holds c = (search needs, puts-none _ _)

@@ -1,6 +1,7 @@
 -- `Sheet::filtered` meets its contract: each way through its tests. Assumes nothing.
 use mathlib.Core.Path.{_≡_, _∙_}
 use lib.ListN.{length}
+use Rattle.consistency.specs.Consistency.{places}
 use Rattle.sheet.proofs.Openings.{fields-few, opens-viewed, opens-ready, opens-turned}
 use Rattle.sheet.proofs.ListCases.{filtered-turned, filtered-none, filtered-15, filtered-17, filtered-relaxed}
 use borrow.Author.Needs.{needs}
@@ -51,7 +52,7 @@ refuse-requires-3 c κs = search needs
 returns-3 : tie.Need-returns-3
 returns-3 c =
     let o = opens-ready _ _ _ (c .before .before .before .before .before .before .before .«open» .ensures) _ _ _ _ (c .before .before .before .before .before .opened2 .given .1) in
-    let long : length (c .before .before .before .before .before .before .before .before .before .before .before .args .self .places) ≡ 32 = search needs in
+    let long : length (c .before .before .before .before .before .before .before .before .before .before .before .args .self .places) ≡ places = search needs in
     c .refuse3 .ensures _ ∙ filtered-17 _ _ _ _ o (c .before .before .before .if1 .left) long (c .before .before .if2 .left) (c .before .if3 .taken)
 
 array-write-answers : tie.Need-array-write-answers
@@ -72,7 +73,7 @@ same-length-2 c = search needs
 returns-5 : tie.Need-returns-5
 returns-5 c =
     let o = opens-ready _ _ _ (c .before .before .before .before .before .before .before .before .before .before .«open» .ensures) _ _ _ _ (c .before .before .before .before .before .before .before .before .opened2 .given .1) in
-    let long : length (c .before .before .before .before .before .before .before .before .before .before .before .before .before .before .args .self .places) ≡ 32 = search needs in
+    let long : length (c .before .before .before .before .before .before .before .before .before .before .before .before .before .before .args .self .places) ≡ places = search needs in
     filtered-relaxed (c .before .before .before .before .before .before .before .before .before .before .before .before .before .before .args .book .now) (c .before .before .before .before .before .before .before .before .before .before .before .before .before .before .args .self .places) (c .before .before .before .before .before .before .before .before .before .before .before .before .before .before .args .out .now) (c .before .before .before .before .before .before .before .before .before .before .before .before .before .before .args .relaxed) o (c .before .before .before .before .before .before .if1 .left) long (c .before .before .before .before .before .if2 .left) (c .before .before .before .before .if3 .left) (c .before .before .write-masks2 .ensures)
 
 pub filtered-spec : {M : Type 1} → statement M

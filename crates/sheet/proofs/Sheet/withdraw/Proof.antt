@@ -2,6 +2,7 @@
 use mathlib.Core.Path.{_≡_, _∙_}
 use mathlib.Core.List.{[]}
 use lib.ListN.{length}
+use Rattle.consistency.specs.Consistency.{places}
 use Rattle.sheet.proofs.Openings.{fields-few, opens-ready, opens-turned}
 use Rattle.sheet.proofs.CallCases.{withdrawn-turned, withdrawn-15, withdrawn-17, withdrawn-done}
 use borrow.Author.Needs.{needs}
@@ -40,7 +41,7 @@ refuse-requires-3 c κs = search needs
 returns-2 : tie.Need-returns-2
 returns-2 c =
     let o = opens-ready _ _ _ (c .before .before .before .before .before .before .«open» .ensures) _ _ _ _ (c .before .before .before .before .opened2 .given .1) in
-    let long : length (c .before .before .before .before .before .before .before .before .before .args .self .places) ≡ 32 = search needs in
+    let long : length (c .before .before .before .before .before .before .before .before .before .args .self .places) ≡ places = search needs in
     c .refuse3 .ensures [] ∙ withdrawn-17 _ _ _ _ _ o long (c .before .before .if1 .left) (c .before .if2 .taken)
 
 array-write-rest : tie.Need-array-write-rest
@@ -54,7 +55,7 @@ returns-3 c = c .refuse .ensures [] ∙ withdrawn-turned _ _ _ _ _ (opens-turned
 returns-4 : tie.Need-returns-4
 returns-4 c =
     let o = opens-ready _ _ _ (c .before .before .before .before .before .«open» .ensures) _ _ _ _ (c .before .before .before .opened2 .given .1) in
-    let long : length (c .before .before .before .before .before .before .before .before .args .self .places) ≡ 32 = search needs in
+    let long : length (c .before .before .before .before .before .before .before .before .args .self .places) ≡ places = search needs in
     withdrawn-done _ _ _ _ _ o long (c .before .if1 .left) (c .if2 .left)
 
 pub withdraw-spec : {M : Type 1} → statement M

@@ -39,7 +39,7 @@ loop-again : tie.Need-loop-again Inv-loop μ-loop
 loop-again c =
     let x = c .before .before .before .before .before .pre .0 in
     let l = c .before .loop-test .taken in
-    let long : length (c .before .before .before .before .before .args .t2) ≡ 32 = search needs in
+    let long : length (c .before .before .before .before .before .args .t2) ≡ places = search needs in
     let e = open-here x l long (c .if1 .taken) in
     let h = open-lineless x l e in
     (omega arith, same-case x l e (c .before .before .loop .inv .1), place-without x l h (c .before .before .loop .inv .2), lines-without x l h (c .before .before .before .before .before .args .out .now) (c .before .before .loop .inv .3))

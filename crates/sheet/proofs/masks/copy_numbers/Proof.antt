@@ -29,7 +29,7 @@ mul-out-2 c = search needs
 
 slice-write-out : tie.Need-slice-write-out Inv-loop μ-loop
 slice-write-out c =
-    let long : length (c .before .before .args .t1) ≡ 32 = search needs in
+    let long : length (c .before .before .args .t1) ≡ places = search needs in
     omega (arith, ap length (c .before .loop .inv .1), copied-length (c .before .before .args .t1) (c .before .before .args .out .now) (c .before .loop .i) (omega arith) (omega arith))
 
 add-i : tie.Need-add-i Inv-loop μ-loop
@@ -40,7 +40,7 @@ loop-less c = search needs
 
 loop-again : tie.Need-loop-again Inv-loop μ-loop
 loop-again c =
-    let long : length (c .before .before .args .t1) ≡ 32 = search needs in (
+    let long : length (c .before .before .args .t1) ≡ places = search needs in (
       search needs,
       ap (λ (l : List ℕ). set l (c .before .loop .i) (getD (c .before .before .args .t1) (c .before .loop .i) 0)) (c .before .loop .inv .1)
           ∙ copied-on (c .before .before .args .t1) (c .before .before .args .out .now) (c .before .loop .i) (omega arith) (omega arith),
@@ -48,7 +48,7 @@ loop-again c =
 
 same-length : tie.Need-same-length Inv-loop μ-loop
 same-length c =
-    let long : length (c .before .before .args .t1) ≡ 32 = search needs in
+    let long : length (c .before .before .args .t1) ≡ places = search needs in
     ap length (c .before .loop .inv .1) ∙ copied-length (c .before .before .args .t1) (c .before .before .args .out .now) (c .before .loop .i) (omega arith) (omega arith)
 
 returns : tie.Need-returns Inv-loop μ-loop

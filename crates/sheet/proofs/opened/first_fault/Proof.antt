@@ -6,6 +6,7 @@ use borrow.Author.Tests.{not-true, not-false}
 use Rattle.format.specs.Basics.{firstBad}
 use Rattle.format.specs.Format.{bookOf}
 use Rattle.format.proofs.Scans.{bad-on, bad-here, bad-none}
+use Rattle.consistency.specs.Consistency.{places}
 use Rattle.calls.specs.Calls.{placeOk, faultOf}
 use Rattle.sheet.proofs.Places.{place-test}
 use borrow.Author.Needs.{needs}
@@ -13,10 +14,10 @@ use Rattle.sheet.proofs.opened.first_fault.Statement.{statement}
 use Rattle.sheet.proofs.opened.first_fault.Tie as tie
 
 abbrev Inv-loop : tie.InvT-loop
-Inv-loop book list fields places p₀ p = (p ≤ 32) × (firstBad (placeOk (bookOf book) places) p 32 ≡ faultOf (bookOf book) places)
+Inv-loop book list fields held p₀ p = (p ≤ places) × (firstBad (placeOk (bookOf book) held) p places ≡ faultOf (bookOf book) held)
 
 abbrev μ-loop : tie.MeasureT-loop
-μ-loop book list fields places p₀ p = 32 - p
+μ-loop book list fields held p₀ p = places - p
 
 loop-holds : tie.Need-loop-holds Inv-loop μ-loop
 loop-holds c = (search needs, refl)
@@ -30,7 +31,7 @@ may-hold-requires c κs = search needs
 returns : tie.Need-returns Inv-loop μ-loop
 returns c =
     let a = (c .before .before .before .before .before .args) in
-    let long : length (a .t4) ≡ 32 = search needs in
+    let long : length (a .t4) ≡ places = search needs in
     let h = c .before .before .loop-test .taken in
     let test = place-test (a .t4) long _ h (bookOf (a .book .now)) _ (c .before .may-hold .ensures) in
     bad-here _ _ _ h (test ∙ not-true _ (c .if1 .taken)) ∙ c .before .before .before .loop .inv .1
@@ -44,7 +45,7 @@ loop-less c = search needs
 loop-again : tie.Need-loop-again Inv-loop μ-loop
 loop-again c =
     let a = (c .before .before .before .before .before .args) in
-    let long : length (a .t4) ≡ 32 = search needs in
+    let long : length (a .t4) ≡ places = search needs in
     let h = c .before .before .loop-test .taken in
     let test = place-test (a .t4) long _ h (bookOf (a .book .now)) _ (c .before .may-hold .ensures) in
     (search needs, bad-on _ _ _ h (test ∙ not-false _ (c .if1 .left)) ∙ c .before .before .before .loop .inv .1)

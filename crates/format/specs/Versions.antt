@@ -1,0 +1,18 @@
+-- Request M-103, "every version 1 book reads as before". The statement; proofs/Limits.antt has its proof. Assumes nothing.
+use Prim.Native.Nat.{ℕ}
+use mathlib.Core.Path.{_≡_}
+use mathlib.Core.Logic.{_≢_}
+use mathlib.Core.List.{List}
+use Rattle.format.specs.Format.{fieldLimit1, versionOf}
+use Rattle.format.specs.Reading.{verdict, reading, verdictUnder, readingUnder}
+
+-- the verdict, which every call goes by, and what reading answers are those under version 1's limits alone
+pub record ReadsAsBefore (s : List ℕ) : Type 0 where
+  pub verdicts : verdict s ≡ verdictUnder fieldLimit1 s
+  pub answers : reading s ≡ readingUnder fieldLimit1 s
+
+pub record Request103 : Type 0 where
+  -- bytes that name version 1, accepted or not
+  pub version-1 : (s : List ℕ) → versionOf s ≡ 1 → ReadsAsBefore s
+  -- and all other bytes that do not name version 2: what is answered anew is for these alone
+  pub others : (s : List ℕ) → versionOf s ≢ 2 → ReadsAsBefore s
