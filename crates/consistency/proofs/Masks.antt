@@ -17,7 +17,7 @@ use Rattle.consistency.specs.Counting.{anyBelow}
 use Rattle.consistency.specs.Consistency.{codes}
 use Rattle.consistency.specs.Largest.{largest}
 use Rattle.consistency.specs.Counts.{bit, mask, masks}
-use Rattle.consistency.proofs.Booleans.{T-ext, below-suc, below-less, and-in, and-right, or-left, or-right}
+use Rattle.consistency.proofs.Booleans.{T-ext, T-false, below-suc, below-less, and-in, and-right, or-left, or-right}
 use Rattle.consistency.proofs.Sums.{length-tabulate, tabulate-at}
 use Rattle.consistency.proofs.Largest.{largest-is}
 
@@ -84,6 +84,13 @@ one-more-some m k y false h rest = or-left y false (rest (λ e. h (add-zero m �
 pub mask-some : (n : ℕ) (p : ℕ → Bool) → mask n p ≢ 0 → T (anyBelow n p)
 mask-some zero p h = absurd (h refl)
 mask-some (suc n) p h = one-more-some (mask n p) (2 ^ n) (anyBelow n p) (p n) h (mask-some n p)
+
+-- 0 where there is no such number
+pub mask-none : (n : ℕ) (p : ℕ → Bool) → ((c : ℕ) → T (p c) → ⊥) → mask n p ≡ 0
+mask-none zero p h = refl
+mask-none (suc n) p h =
+    let none : p n ≡ false = T-false (h n) in
+    rw (mask-none n p h, none)
 
 -- 0 has none
 pub zero-bit : (c : ℕ) → bit 0 c ≡ false

@@ -1,12 +1,16 @@
 -- A whole pass: what its parts ask of each other, and what it leaves. Assumes nothing.
 use mathlib.Core.Path.{_≡_, refl, sym, ap, _∙_, subst}
+use mathlib.Core.Bool.{Bool}
 use mathlib.Core.List.{List, [], _∷_}
 use Prim.Native.Nat.{ℕ, zero, suc, _-_, _*_, _^_, _≤_, _<_}
 use native.Mathlib.Nat.{le-refl, le-trans, suc-mul, mul-le-mul}
+use native.Mathlib.Decide.{decLt}
 use native.Mathlib.Omega.{arith}
 use lib.ListN.{length, getD, replicate}
 use lib.Count.{ones, ones-ones}
 use lib.Dec.{T, ltb, ltb→lt, lt→ltb}
+use borrow.Author.Tests.{lt-ltb, le-ltb}
+use Rattle.format.specs.Basics.{pick}
 use Rattle.format.specs.Format.{codeLimit, tableLimit, tableCount, bookOf}
 use Rattle.format.proofs.Views.{counts-count}
 use Rattle.book.specs.View.{Numbered}
@@ -14,7 +18,9 @@ use Rattle.consistency.specs.Counting.{sumBelow, tabulate}
 use Rattle.consistency.specs.Consistency.{places, codes}
 use Rattle.consistency.specs.Largest.{largest}
 use Rattle.consistency.specs.Counts.{bit, mask, struck}
-use Rattle.consistency.proofs.Masks.{mask-ext}
+use Rattle.consistency.proofs.Largest.{largest-is}
+use Rattle.consistency.proofs.CodeCounts.{field-in}
+use Rattle.consistency.proofs.Masks.{mask-ext, mask-none}
 use Rattle.filter.specs.Words.{wordAt, domainOf}
 use Rattle.filter.specs.Cases.{casesOf, marksOf, plainOf}
 use Rattle.filter.specs.Revise.{Room}
@@ -28,7 +34,7 @@ use Rattle.filter.proofs.Lists.{zeros, tabulate-ext}
 use Rattle.filter.proofs.StartDomains.{started-of-book}
 use Rattle.filter.proofs.Words.{domain-bit}
 use Rattle.filter.proofs.CaseMarks.{marks-bit}
-use Rattle.filter.proofs.Gathers.{maskOf}
+use Rattle.filter.proofs.Gathers.{maskOf, maskBelow}
 use Rattle.filter.proofs.Ends.{marks-ended, count-ended, outside-struck}
 
 -- a sum of n numbers, none above m
@@ -118,5 +124,24 @@ module _ (s : List ℕ) (list fields tables : ℕ) (a own : List ℕ) (h : Numbe
         domain-bit N 0 f c m ∙ ap (λ (M : List ℕ). bit (wordAt M f c) 0) (y .marks (a ∷ []) (one-case a own z))
         ∙ marks-bit (bookOf s) (a ∷ []) 0 f c (omega arith) l m)
 
-    pub one-case-done : (n : List ℕ) → n ≡ tabulate (maskOf N) places 0 → n ≡ plainOf (bookOf s) a
-    one-case-done n e = e ∙ tabulate-ext (maskOf N) (λ f. mask codeLimit (largest (bookOf s) a f)) places number-is
+    -- 0 where the book has no field
+    none-there : (f : ℕ) → fields ≤ f → mask codeLimit (largest (bookOf s) a f) ≡ 0
+    none-there f l =
+        mask-none codeLimit (largest (bookOf s) a f)
+        (λ c t.
+        omega (
+          arith,
+          field-in (bookOf s) f c (largest-is (bookOf s) a .fits .of-book f c t),
+          counts-count s (h .promise .whole),
+          h .fields-is,
+        ))
+
+    number-below : (f : ℕ) → f < places → maskBelow N fields f ≡ mask codeLimit (largest (bookOf s) a f)
+    number-below f l = at (decLt f fields)
+      where
+        at : Dec (f < fields) → maskBelow N fields f ≡ mask codeLimit (largest (bookOf s) a f)
+        at (yes m) = ap (λ (t : Bool). pick t (maskOf N f) 0) (lt-ltb f fields m) ∙ number-is f l
+        at (no n) = ap (λ (t : Bool). pick t (maskOf N f) 0) (le-ltb f fields (omega arith)) ∙ sym (none-there f (omega arith))
+
+    pub one-case-done : (n : List ℕ) → n ≡ tabulate (maskBelow N fields) places 0 → n ≡ plainOf (bookOf s) a
+    one-case-done n e = e ∙ tabulate-ext (maskBelow N fields) (λ f. mask codeLimit (largest (bookOf s) a f)) places number-below

@@ -1,6 +1,8 @@
 // The marks of one case as numbers, one a field.
 ghost use mathlib.Core.Path.{_≡_};
-ghost use Prim.Native.Nat.{_<_};
+ghost use Prim.Native.Nat.{_≤_, _<_};
+ghost use lib.Dec.{ltb};
+ghost use Rattle.format.specs.Basics.{pick};
 ghost use Rattle.format.specs.Format.{codeLimit};
 ghost use Rattle.consistency.specs.Counting.{tabulate};
 ghost use Rattle.consistency.specs.Consistency.{places};
@@ -24,12 +26,13 @@ fn gather_field(marks: &[u64; WORDS], f: usize) -> u32
     number
 }
 
-// The marks of case 0, a number for each field.
-pub(crate) fn gather(marks: &[u64; WORDS]) -> [u32; PLACES]
-    ensures { λ r. ⌜ r ≡ tabulate (λ f. mask codeLimit (domainOf (now (marks .entry)) 0 f)) places 0 ⌝ }
+// The marks of case 0, a number for each field; 0 for places that the book lacks.
+pub(crate) fn gather(marks: &[u64; WORDS], fields: usize) -> [u32; PLACES]
+    requires { ⌜ fields ≤ places ⌝ }
+    ensures { λ r. ⌜ r ≡ tabulate (λ f. pick (ltb f fields) (mask codeLimit (domainOf (now (marks .entry)) 0 f)) 0) places 0 ⌝ }
 {
     let mut numbers = [0u32; PLACES];
-    for f in 0..PLACES {
+    for f in 0..fields {
         numbers[f] = gather_field(marks, f);
     }
     numbers

@@ -4,7 +4,6 @@ ghost use mathlib.Core.Path.{_≡_};
 ghost use Rattle.format.specs.Format.{bookOf};
 ghost use Rattle.book.specs.View.{Viewed};
 ghost use Rattle.consistency.specs.Counts.{struck};
-ghost use Rattle.filter.specs.Words.{noMarks};
 ghost use Rattle.filter.specs.Cases.{casesOf, marksOf, plainOf};
 ghost use Rattle.filter.specs.Summaries.{emptyCases};
 use book::Book;
@@ -19,11 +18,14 @@ mod start;
 mod summary;
 mod support;
 
+// A word of marks for each place and code.
+pub const WORDS: usize = PLACES * CODES;
+
 // Every bit of a word of cases.
 const EVERY_CASE: u64 = 18446744073709551615;
 
 // The one pass over a view of an accepted book: the marks of all cases, and the number struck.
-fn one_pass_over<'a>(book: Book<'a>, answers: &[u8; 32], marks: &mut [u64; 1024]) -> u32
+fn one_pass_over<'a>(book: Book<'a>, answers: &[u8; PLACES], marks: &mut [u64; WORDS]) -> u32
     requires { ⌜ Viewed (now (book .bytes)) (book .list) (book .fields) (book .tables) (book .rows) ⌝ }
     ensures marks { λ r. ⌜ now (marks .exit) ≡ marksOf (bookOf (now (book .entry .bytes))) (casesOf (bookOf (now (book .entry .bytes))) (now (answers .entry))) ⌝ }
     ensures count { λ r. ⌜ r ≡ struck (bookOf (now (book .entry .bytes))) (now (answers .entry)) ⌝ }
@@ -46,7 +48,7 @@ fn plain_over<'a>(book: Book<'a>, answers: &[u8; PLACES]) -> [u32; PLACES]
     pass::one_case(book.bytes, book.list, book.fields, book.tables, answers)
 }
 
-// The one pass over the view that these bytes and numbers make. The words lent are 0.
+// The one pass over the view that these bytes and numbers make.
 pub fn one_pass(
     bytes: &[u8],
     list: usize,
@@ -56,7 +58,7 @@ pub fn one_pass(
     answers: &[u8; PLACES],
     marks: &mut [u64; WORDS],
 ) -> u32
-    requires { ⌜ Viewed (now bytes) list fields tables rows × (now marks ≡ noMarks) ⌝ }
+    requires { ⌜ Viewed (now bytes) list fields tables rows ⌝ }
     ensures marks { λ r. ⌜ now (marks .exit) ≡ marksOf (bookOf (now (bytes .entry))) (casesOf (bookOf (now (bytes .entry))) (now (answers .entry))) ⌝ }
     ensures count { λ r. ⌜ r ≡ struck (bookOf (now (bytes .entry))) (now (answers .entry)) ⌝ }
 {
@@ -83,7 +85,7 @@ pub fn plain(
 }
 
 // The cases in which some field of the book is empty, as a word: bit k for case k.
-pub fn empty_cases(marks: &[u64; 1024], fields: usize) -> u64
+pub fn empty_cases(marks: &[u64; WORDS], fields: usize) -> u64
     ensures { λ r. ⌜ r ≡ emptyCases (now (marks .entry)) fields ⌝ }
 {
     let mut full = EVERY_CASE;

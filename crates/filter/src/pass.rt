@@ -11,11 +11,13 @@ use super::gather::gather;
 use super::queue::first_tables;
 use super::queue::propagate;
 use super::queue::survey;
+use super::start::clear;
 use super::start::own_cases;
 use super::start::start;
 use book::PLACES;
 
-// Filters the cases that own and all say, all at once: the marks of each, and how many are struck.
+// Filters the cases that own and all say, all at once: the marks of each, and how many are struck. The words lent are 0, so that those of
+// places that the book lacks need not be visited.
 fn run(
     bytes: &[u8],
     list: usize,
@@ -46,10 +48,11 @@ pub(crate) fn all_cases(
     answers: &[u8; PLACES],
     marks: &mut [u64; WORDS],
 ) -> u32
-    requires { ⌜ Numbered (now bytes) list fields tables × (now marks ≡ noMarks) ⌝ }
+    requires { ⌜ Numbered (now bytes) list fields tables ⌝ }
     ensures marks { λ r. ⌜ now (marks .exit) ≡ marksOf (bookOf (now (bytes .entry))) (casesOf (bookOf (now (bytes .entry))) (now (answers .entry))) ⌝ }
     ensures count { λ r. ⌜ r ≡ struck (bookOf (now (bytes .entry))) (now (answers .entry)) ⌝ }
 {
+    clear(marks);
     let cases = own_cases(*answers, fields);
     let own = cases.words;
     run(bytes, list, fields, tables, answers, &own, cases.all, marks)
@@ -69,5 +72,5 @@ pub(crate) fn one_case(
     let own = [0u64; PLACES];
     let mut marks = [0u64; WORDS];
     run(bytes, list, fields, tables, answers, &own, 1, &mut marks);
-    gather(&marks)
+    gather(&marks, fields)
 }

@@ -68,8 +68,14 @@ fn start_field(marks: &mut [u64; WORDS], f: usize, k: u8, x: u8, all: u64, own: 
     struck
 }
 
-// All marks that the answers allow, and the count of those that they forbid. It is lent words that are 0, so that it need not clear those
-// of places that the book lacks.
+// No mark.
+pub(crate) fn clear(marks: &mut [u64; WORDS])
+    ensures { λ r. ⌜ now (marks .exit) ≡ noMarks ⌝ }
+{
+    *marks = [0u64; WORDS];
+}
+
+// All marks that the answers allow, in words that are 0, and the count of those that they forbid.
 pub(crate) fn start(
     book: &[u8],
     answers: [u8; PLACES],

@@ -109,9 +109,9 @@ module _ (bytes s : List ℕ) (fields : ℕ) (st : Stands bytes s fields) where
       -- and are long enough for them
       pub lists-fit : length s ≡ places → ListsFit s fields pairs t ms
       lists-fit long =
-          let pairs-long : length pairs ≡ 2048 =
+          let pairs-long : length pairs ≡ 2 * (places * codeLimit) =
           ap length pairs-is ∙ simp (length-append, length-drop, pairs-lent, length-line-bytes, length-lines) (omega (arith, total-few book (within .small) (within .few) s)) in
-          let masks-long : length ms ≡ 32 =
+          let masks-long : length ms ≡ places =
           ap length masks-is ∙ simp (length-append, length-drop, masks-lent, length-masks) (omega (arith, within .few)) in
           record {
             in-places = omega (arith, st .fields-are, within .few);

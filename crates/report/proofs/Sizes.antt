@@ -119,11 +119,11 @@ module _ (b : Book) (w : Within b) (s : List ℕ) where
     -- "sheet 60 1920 117120"
     sheet-line-short : length (sheetWord ++ spaced (howMany (length (b .counts)) (answered s) ∷ total b s ∷ struck b s ∷ [])) ≤ 21
     sheet-line-short =
-        line-short sheetWord (howMany (length (b .counts)) (answered s) ∷ total b s ∷ struck b s ∷ []) (2 ∷ 4 ∷ 5 ∷ []) (
+        line-short sheetWord (howMany (length (b .counts)) (answered s) ∷ total b s ∷ struck b s ∷ []) (2 ∷ 4 ∷ 6 ∷ []) (
           short 1 (howMany (length (b .counts)) (answered s)) (omega (arith, many-few (length (b .counts)) (answered s), w .few)),
           (
             short 3 (total b s) (omega (arith, total-few b (w .small) (w .few) s)),
-            (short 4 (struck b s) (omega (arith, struck-few b (w .small) (w .few) s)), tt),
+            (short 5 (struck b s) (omega (arith, struck-few b (w .small) (w .few) s)), tt),
           ),
         )
 

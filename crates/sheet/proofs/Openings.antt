@@ -8,7 +8,8 @@ use lib.ListN.{length, List·getD-eq-default}
 use borrow.Author.Tests.{lt-ltb, le-ltb}
 use Rattle.format.specs.Format.{Book, codeLimit, byte, versionOf, bookOf}
 use Rattle.format.specs.Reading.{refused, Verdict, pass, fail, andThen, verdict, checking}
-use Rattle.format.proofs.Picks.{pick-holds, pick-first, pick-second}
+use Rattle.format.proofs.Limits.{limit-most}
+use Rattle.format.proofs.Picks.{pick-first, pick-second}
 use Rattle.format.proofs.Trailer.{fail≢pass}
 use Rattle.format.proofs.Verdict.{verdict-promise, promise-verdict}
 use Rattle.format.proofs.Views.{counts-count, counts-view}

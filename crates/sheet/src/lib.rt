@@ -286,7 +286,7 @@ pub fn load(book: &[u8], form: &[u8]) -> Handed
             if form.len() != fields {
                 return refuse(Sheet::fresh(), Reason::Length, 0);
             }
-            let mut places = [255; 32];
+            let mut places = [255; PLACES];
             book::copy(form, &mut places);
             let fault = opened::first_fault(book, list, fields, places);
             if fault < PLACES {

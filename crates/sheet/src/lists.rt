@@ -59,14 +59,14 @@ fn write_field(marks: &[u64; WORDS], k: u64, f: usize, n: usize, out: &mut [u8],
 // The number of alternatives of the answered fields: of those whose own case is not one of the cases `empty`.
 pub(crate) fn count_lines(
     book: &[u8],
-    answers: [u8; 32],
-    marks: &[u64; 1024],
+    answers: [u8; PLACES],
+    marks: &[u64; WORDS],
     empty: u64,
     list: usize,
     fields: usize,
 ) -> usize
     requires { ⌜ Passed (now book) answers (now marks) empty list fields ⌝ }
-    ensures { λ r. ⌜ (r ≡ total (bookOf (now (book .entry))) answers) × (r ≤ 1024) ⌝ }
+    ensures { λ r. ⌜ (r ≡ total (bookOf (now (book .entry))) answers) × (r ≤ places * codeLimit) ⌝ }
 {
     let mut sum = 0;
     let mut k = FIRST_OWN;
@@ -90,8 +90,8 @@ pub(crate) fn count_lines(
 // All lines, written from the first byte on.
 pub(crate) fn write_lines(
     book: &[u8],
-    answers: [u8; 32],
-    marks: &[u64; 1024],
+    answers: [u8; PLACES],
+    marks: &[u64; WORDS],
     empty: u64,
     list: usize,
     fields: usize,

@@ -4,6 +4,7 @@ ghost use Prim.Native.Nat.{ℕ};
 ghost use Rattle.format.specs.Reading.{accepted, refused};
 ghost use Rattle.sheet.specs.Shown.{shown, shownListing, resultOf, listResultOf};
 ghost use Rattle.sighting.specs.Exported.{Tells, Exports};
+use book::PLACES;
 use sheet::Answer;
 use sheet::Handed;
 use sheet::HandedList;
@@ -42,7 +43,7 @@ pub(crate) fn tell_list(listing: Listing, outcome: &mut [u64; 3]) -> u64
 }
 
 // The answer and the sheet of a call that counts nothing; whatever the buffer holds.
-pub(crate) fn hand(handed: Handed, sheet: &mut [u8; 32], outcome: &mut [u64; 1]) -> u64
+pub(crate) fn hand(handed: Handed, sheet: &mut [u8; PLACES], outcome: &mut [u64; 1]) -> u64
     ensures { λ r. ⌜ ((o : List ℕ) → Exports r (now (outcome .exit)) (now (sheet .exit)) o (resultOf handed o)) ⌝ }
 {
     let next = handed.sheet;
@@ -53,7 +54,7 @@ pub(crate) fn hand(handed: Handed, sheet: &mut [u8; 32], outcome: &mut [u64; 1])
 }
 
 // The answer and the sheet of a call that counts alternatives; whatever the buffer holds.
-pub(crate) fn hand_list(handed: HandedList, sheet: &mut [u8; 32], outcome: &mut [u64; 3]) -> u64
+pub(crate) fn hand_list(handed: HandedList, sheet: &mut [u8; PLACES], outcome: &mut [u64; 3]) -> u64
     ensures { λ r. ⌜ ((o : List ℕ) → Exports r (now (outcome .exit)) (now (sheet .exit)) o (listResultOf handed o)) ⌝ }
 {
     let next = handed.sheet;

@@ -1,5 +1,5 @@
 // The library for other languages: each call of the crates below, exported with numbers, slices and arrays alone.
-// A sheet is an array of 32 bytes. A call that changes answers writes it whole with the sheet that it hands back; one that hands it back as
+// A sheet is an array of 60 bytes. A call that changes answers writes it whole with the sheet that it hands back; one that hands it back as
 // given only reads it, so that it may be shared. A call returns its outcome's number, 0 where it is accepted, and writes the place and the
 // counts into the cells lent for them. A field or a code is any number: one that the book lacks has its refusal.
 ghost use mathlib.Core.Path.{_≡_};
@@ -14,6 +14,7 @@ ghost use Rattle.calls.specs.Histories.{sheetAfter, callsIn};
 ghost use Rattle.report.specs.Text.{reportText};
 ghost use Rattle.sheet.specs.Replayed.{Replayed};
 ghost use Rattle.sighting.specs.Exported.{Tells, Exports, Replies, resultTold};
+use book::PLACES;
 use book::Reading;
 use handed::hand;
 use handed::hand_list;
@@ -142,7 +143,7 @@ pub extern "C" fn sighting_withdraw(
 // Plain filtering with one answer relaxed, or none for 255. Cells: place.
 #[no_mangle]
 pub extern "C" fn sighting_filtered(
-    sheet: &[u8; 32],
+    sheet: &[u8; PLACES],
     book: &[u8],
     relaxed: usize,
     out: &mut [u32],
@@ -159,7 +160,7 @@ pub extern "C" fn sighting_filtered(
 // The alternatives of the answered fields. Cells: place, total, struck.
 #[no_mangle]
 pub extern "C" fn sighting_alternatives(
-    sheet: &[u8; 32],
+    sheet: &[u8; PLACES],
     book: &[u8],
     out: &mut [u8],
     outcome: &mut [u64; 3],
@@ -188,7 +189,7 @@ pub extern "C" fn sighting_load(
 // Writes the stored form of a sheet. Cells: place.
 #[no_mangle]
 pub extern "C" fn sighting_store(
-    sheet: &[u8; 32],
+    sheet: &[u8; PLACES],
     book: &[u8],
     out: &mut [u8],
     outcome: &mut [u64; 1],

@@ -48,7 +48,6 @@ use Rattle.book.proofs.view.Symbol as view-def
 use Rattle.book.proofs.view.Symbol.{name as #book·view}
 use Rattle.book.proofs.view.Met as view-thm
 use Rattle.consistency.specs.Counts.{struck}
-use Rattle.filter.specs.Words.{noMarks}
 use Rattle.filter.specs.Cases.{casesOf, marksOf}
 use Rattle.filter.proofs.ViewCalls.{AnswersS, MarksS, Bytes, Viewing, Answers, Marks, slice, pointer, says-both, View, to-view, Ensured, view-asks, view-said}
 use Rattle.filter.proofs.one_pass_over as one-pass-over
@@ -128,7 +127,7 @@ module _ {M : Type 1} (𝓤 : URA M) (H : Heap 𝓤) (A : Atoms 𝓤) (W : Given
 
   -- what the contract asks
   abbrev Asked : Type 0
-  Asked = Viewed (s .now) l f t n × (y .now ≡ noMarks)
+  Asked = Viewed (s .now) l f t n
 
   goes-view : ent 𝓤 (onEntry 𝓤 H A one-pass.signature κs qs a at) (mean 𝓤 H A (raw (View 𝓤 H A mem run .pre to-v) ⊛ Kept))
   goes-view =
@@ -202,7 +201,7 @@ module _ {M : Type 1} (𝓤 : URA M) (H : Heap 𝓤) (A : Atoms 𝓤) (W : Given
   one-pass-walks C Λ fm known-view known-over = walked 𝓤 H A one-pass.ended stayed (one-pass.clauses 𝓤 H A mem run) (WpFn 𝓤 H C Λ code.function)
       (λ κs. (slice-vals, (uint-vals w64, (uint-vals w64, (uint-vals w64, (uint-vals w64, (ptr-vals, (ptr-vals, tt))))))))
       (λ κs. (shr-slice-tells (named 0) (κs .0) u8, (uint-tells w64, (uint-tells w64, (uint-tells w64, (uint-tells w64, (shr-tells (named 1) (κs .1 .0) (Array u8 places), (mut-tells (named 2) (κs .1 .1 .0) (Array u64 (places * codeLimit)), tt))))))))
-      (λ κs qs bounds a g are. needs 𝓤 (Viewed (a .0 .now) (a .1 .0) (a .1 .1 .0) (a .1 .1 .1 .0) (a .1 .1 .1 .1 .0) × (a .1 .1 .1 .1 .1 .1 .0 .now ≡ noMarks)) _
+      (λ κs qs bounds a g are. needs 𝓤 (Viewed (a .0 .now) (a .1 .0) (a .1 .1 .0) (a .1 .1 .1 .0) (a .1 .1 .1 .1 .0)) _
       (walk 𝓤 H A W mem run κs qs (a .0) (a .1 .0) (a .1 .1 .0) (a .1 .1 .1 .0) (a .1 .1 .1 .1 .0) (a .1 .1 .1 .1 .1 .0) (a .1 .1 .1 .1 .1 .1 .0) (are .1 .0 .1) (are .1 .1 .0 .1) (are .1 .1 .1 .0 .1) (are .1 .1 .1 .1 .0 .1) C Λ fm known-view known-over (are .0)))
 
 one-pass-meets : {M : Type 1} (𝓤 : URA M) (H : Heap 𝓤) (A : Atoms 𝓤) → Given 𝓤 H A → (mem : Memory → SProp 𝓤) (run : Routine → Fun 𝓤) (𝓣 : Tables 𝓤 H)

@@ -45,7 +45,6 @@ use Rattle.book.proofs.Walking.{number, arg, leave}
 use Rattle.book.proofs.Book as T
 use Rattle.book.proofs.Book.Laws as T′
 use Rattle.consistency.specs.Counts.{struck}
-use Rattle.filter.specs.Words.{noMarks}
 use Rattle.filter.specs.Cases.{casesOf, marksOf}
 use Rattle.filter.proofs.ViewCalls.{AnswersS, MarksS, Bytes, Viewing, Answers, Marks, slice, pointer, says-both, bytes-out}
 use Rattle.filter.proofs.pass.all_cases as all-cases
@@ -109,7 +108,7 @@ module _ {M : Type 1} (𝓤 : URA M) (H : Heap 𝓤) (A : Atoms 𝓤) (W : Given
 
   -- what the contract asks
   abbrev Asked : Type 0
-  Asked = Viewed (d .bytes .now) (d .list) (d .fields) (d .tables) (d .rows) × (y .now ≡ noMarks)
+  Asked = Viewed (d .bytes .now) (d .list) (d .fields) (d .tables) (d .rows)
 
   -- what the parameters own gives what the callee asks, and what is kept
   apart : Typed → Asked
@@ -122,7 +121,7 @@ module _ {M : Type 1} (𝓤 : URA M) (H : Heap 𝓤) (A : Atoms 𝓤) (W : Given
       move ! (0 ∷ 2 ∷ []) $ fjoin ! $ number ! (d .tables) (wt .1 .1 .1 .1 .0 .fits) $ number ! (d .fields) (wt .1 .1 .1 .0 .fits) $ number ! (d .list) (wt .1 .1 .0 .fits) $ move ! (2 ∷ 0 ∷ []) $ fjoin ! $
       -- [what the callee's parameters own; what the answers own; what the view owns; the tokens]
       move ! (3 ∷ 0 ∷ []) $ use2 W (raw (AllCases 𝓤 H A mem run .pre to))
-      (qed W (raw Tokens ∷ ‵ (owns (Bytes (κs .0) ∷ usize ∷ usize ∷ usize ∷ Answers (κs .1 .0) ∷ Marks (κs .1 .1 .0) ∷ []) parts at-parts) ∷ []) ∵ says ! (asked .0 .numbers, asked .1) $ frame ! $ done !) $
+      (qed W (raw Tokens ∷ ‵ (owns (Bytes (κs .0) ∷ usize ∷ usize ∷ usize ∷ Answers (κs .1 .0) ∷ Marks (κs .1 .1 .0) ∷ []) parts at-parts) ∷ []) ∵ says ! (asked .numbers) $ frame ! $ done !) $
       frame ! $ move ! (1 ∷ 0 ∷ []) $ done !
 
   -- the two clauses, and what says the last marks
@@ -172,7 +171,7 @@ module _ {M : Type 1} (𝓤 : URA M) (H : Heap 𝓤) (A : Atoms 𝓤) (W : Given
   one-pass-over-walks C Λ fm known = walked 𝓤 H A one-pass-over.ended stayed (one-pass-over.clauses 𝓤 H A mem run) (WpFn 𝓤 H C Λ code.function)
       (λ κs. (LL.vals (T.the-type (namedLft 3 0 tt κs)) (T′.the-laws (namedLft 3 0 tt κs)), (ptr-vals, (ptr-vals, tt))))
       (λ κs. (LL.tells (T.the-type (namedLft 3 0 tt κs)) (T′.the-laws (namedLft 3 0 tt κs)), (shr-tells (named 1) (κs .1 .0) (Array u8 places), (mut-tells (named 2) (κs .1 .1 .0) (Array u64 (places * codeLimit)), tt))))
-      (λ κs qs bounds a g are. needs 𝓤 (Viewed (a .0 .bytes .now) (a .0 .list) (a .0 .fields) (a .0 .tables) (a .0 .rows) × (a .1 .1 .0 .now ≡ noMarks)) _ (walk 𝓤 H A W mem run κs qs (a .0) (a .1 .0) (a .1 .1 .0) C Λ fm known
+      (λ κs qs bounds a g are. needs 𝓤 (Viewed (a .0 .bytes .now) (a .0 .list) (a .0 .fields) (a .0 .tables) (a .0 .rows)) _ (walk 𝓤 H A W mem run κs qs (a .0) (a .1 .0) (a .1 .1 .0) C Λ fm known
       (LL.lawful (T.the-type (namedLft 3 0 tt κs)) (T′.the-laws (namedLft 3 0 tt κs)) 𝓤 H A W .typed (a .0) _ (are .0) .0)))
 
 one-pass-over-meets : {M : Type 1} (𝓤 : URA M) (H : Heap 𝓤) (A : Atoms 𝓤) → Given 𝓤 H A → (mem : Memory → SProp 𝓤) (run : Routine → Fun 𝓤) (𝓣 : Tables 𝓤 H)

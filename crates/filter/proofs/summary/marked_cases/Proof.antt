@@ -1,15 +1,16 @@
 -- `summary::marked_cases` meets its contract. The invariant: the or of the words of the codes below c. Assumes nothing.
 use Prim.Native.Nat.{_≤_, _-_}
+use Rattle.format.specs.Format.{codeLimit}
 use Rattle.filter.proofs.Emptied.{MarkedBelow, marked-none, marked-more, marked-all, marked-nowhere}
 use native.Mathlib.Omega.{arith}
 use Rattle.filter.proofs.summary.marked_cases.Statement.{statement}
 use Rattle.filter.proofs.summary.marked_cases.Tie as tie
 
 abbrev Inv-loop : tie.InvT-loop
-Inv-loop marks f cases₀ c₀ cases c = (c ≤ 32) × MarkedBelow marks f c cases
+Inv-loop marks f cases₀ c₀ cases c = (c ≤ codeLimit) × MarkedBelow marks f c cases
 
 abbrev μ-loop : tie.MeasureT-loop
-μ-loop marks f cases₀ c₀ cases c = 32 - c
+μ-loop marks f cases₀ c₀ cases c = codeLimit - c
 
 returns : tie.Need-returns Inv-loop μ-loop
 returns c = marked-nowhere (c .before .args .marks .now) (c .before .args .f) (c .if1 .taken)

@@ -2,6 +2,7 @@
 use mathlib.Core.Path.{_≡_, sym, _∙_}
 use lib.ListN.{length}
 use lib.Seq.{length-take-le}
+use Rattle.consistency.specs.Consistency.{places}
 use Rattle.sheet.proofs.Openings.{fields-few, opens-ready, opens-turned}
 use Rattle.sheet.proofs.CallCases.{stored-turned, stored-18, stored-done}
 use borrow.Author.Needs.{needs}
@@ -33,14 +34,14 @@ array-share-prefix-places : tie.Need-array-share-prefix-places
 array-share-prefix-places c =
     let o = opens-ready _ _ _ (c .before .before .before .before .«open» .ensures) _ _ _ _ (c .before .before .opened2 .given .1) in
     let few = fields-few _ _ _ (o .at) in
-    let long : length (c .before .before .before .before .before .before .before .before .args .self .places) ≡ 32 = search needs in
+    let long : length (c .before .before .before .before .before .before .before .before .args .self .places) ≡ places = search needs in
     omega arith
 
 slice-aggregate-copy : tie.Need-slice-aggregate-copy
 slice-aggregate-copy c =
     let o = opens-ready _ _ _ (c .before .before .before .before .before .«open» .ensures) _ _ _ _ (c .before .before .before .opened2 .given .1) in
     let few = fields-few _ _ _ (o .at) in
-    let long : length (c .before .before .before .before .before .before .before .before .before .args .self .places) ≡ 32 = search needs in
+    let long : length (c .before .before .before .before .before .before .before .before .before .args .self .places) ≡ places = search needs in
     sym (length-take-le _ (c .before .before .before .before .before .before .before .before .before .args .self .places) (omega arith))
 
 copy-requires : tie.Need-copy-requires
@@ -56,7 +57,7 @@ returns-3 : tie.Need-returns-3
 returns-3 c =
     let o = opens-ready _ _ _ (c .before .before .before .before .before .before .before .before .before .«open» .ensures) _ _ _ _ (c .before .before .before .before .before .before .before .opened2 .given .1) in
     let few = fields-few _ _ _ (o .at) in
-    let long : length (c .before .before .before .before .before .before .before .before .before .before .before .before .before .args .self .places) ≡ 32 = search needs in
+    let long : length (c .before .before .before .before .before .before .before .before .before .before .before .before .before .args .self .places) ≡ places = search needs in
     stored-done _ _ _ _ _ o (omega arith) (c .before .before .before .before .before .if1 .left) _ (c .before .before .copy .ensures)
 
 pub store-spec : {M : Type 1} → statement M

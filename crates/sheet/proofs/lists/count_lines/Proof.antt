@@ -6,6 +6,7 @@ use lib.ListN.{length}
 use borrow.Author.Tests.{eq-eqb, ne-eqb}
 use Rattle.format.specs.Format.{bookOf}
 use Rattle.format.proofs.Verdict.{verdict-promise}
+use Rattle.consistency.specs.Consistency.{places}
 use Rattle.filter.specs.Cases.{ownCase}
 use Rattle.sheet.proofs.Openings.{fields-few}
 use Rattle.sheet.proofs.Fields.{totalBelow}
@@ -37,7 +38,7 @@ loop-again : tie.Need-loop-again Inv-loop μ-loop
 loop-again c =
     let x = (c .before .before .before .before .pre) in
     let l = c .before .loop-test .taken in
-    let long : length (c .before .before .before .before .args .t2) ≡ 32 = search needs in
+    let long : length (c .before .before .before .before .args .t2) ≡ places = search needs in
     let e = open-here x l long (c .if1 .taken) in
     (omega arith, same-case x l e (c .before .before .loop .inv .1), total-without x l (open-lineless x l e) (c .before .before .loop .inv .2))
 
@@ -57,7 +58,7 @@ loop-again-2 : tie.Need-loop-again-2 Inv-loop μ-loop
 loop-again-2 c =
     let x = (c .before .before .before .before .before .pre) in
     let l = c .before .before .loop-test .taken in
-    let long : length (c .before .before .before .before .before .args .t2) ≡ 32 = search needs in
+    let long : length (c .before .before .before .before .before .args .t2) ≡ places = search needs in
     let e = answered-here x l long (c .before .if1 .left) in (
       omega arith,
       next-case x l e (c .before .before .before .loop .inv .1),
@@ -92,7 +93,7 @@ loop-again-3 : tie.Need-loop-again-3 Inv-loop μ-loop
 loop-again-3 c =
     let x = (c .before .before .before .before .before .before .before .before .pre) in
     let l = c .before .before .before .before .before .loop-test .taken in
-    let long : length (c .before .before .before .before .before .before .before .before .args .t2) ≡ 32 = search needs in
+    let long : length (c .before .before .before .before .before .before .before .before .args .t2) ≡ places = search needs in
     let e = answered-here x l long (c .before .before .before .before .if1 .left) in (
       omega arith,
       next-case x l e (c .before .before .before .before .before .before .loop .inv .1),

@@ -7,6 +7,7 @@ use lib.Seq.{sets, length-sets}
 use borrow.Author.Tests.{eq-eqb, ne-eqb}
 use Rattle.format.specs.Format.{bookOf}
 use Rattle.format.proofs.Verdict.{verdict-promise}
+use Rattle.consistency.specs.Consistency.{places}
 use Rattle.filter.specs.Cases.{ownCase}
 use Rattle.sheet.proofs.Openings.{fields-few}
 use Rattle.sheet.proofs.Fields.{totalBelow, bytesBelow}
@@ -60,7 +61,7 @@ loop-again-2 : tie.Need-loop-again-2 Inv-loop μ-loop
 loop-again-2 c =
     let x = c .before .before .before .before .before .before .pre .0 in
     let l = c .before .before .loop-test .taken in
-    let long : length (c .before .before .before .before .before .before .args .t2) ≡ 32 = search needs in
+    let long : length (c .before .before .before .before .before .before .args .t2) ≡ places = search needs in
     let e = answered-here x l long (c .before .if1 .left) in
     let h = unmended-lineless x l (c .before .before .before .loop .inv .1) e (eq-eqb _ _ (c .if2 .taken)) in
     (omega arith, next-case x l e (c .before .before .before .loop .inv .1), place-without x l h (c .before .before .before .loop .inv .2), lines-without x l h (c .before .before .before .before .before .before .args .out .now) (c .before .before .before .loop .inv .3))
@@ -78,7 +79,7 @@ write-field-requires : tie.Need-write-field-requires Inv-loop μ-loop
 write-field-requires c κs =
     let x = c .before .before .before .before .before .before .before .before .before .pre .0 in
     let l = c .before .before .before .before .before .loop-test .taken in
-    let long : length (c .before .before .before .before .before .before .before .before .before .args .t2) ≡ 32 = search needs in
+    let long : length (c .before .before .before .before .before .before .before .before .before .args .t2) ≡ places = search needs in
     let e = answered-here x l long (c .before .before .before .before .if1 .left) in (
       in-marks x l (c .before .before .before .before .before .before .loop .inv .1) (c .before .wide .ensures),
       lines-fit x l (c .before .before .before .before .before .before .loop .inv .1) (c .before .wide .ensures) e (ne-eqb _ _ (c .before .before .before .if2 .left)) (c .before .before .before .before .before .before .before .before .before .args .out .now) (c .before .before .before .before .before .before .before .before .before .pre .1) (c .before .before .before .before .before .before .loop .inv .2) (c .before .before .before .before .before .before .loop .inv .3),
@@ -97,7 +98,7 @@ loop-again-3 : tie.Need-loop-again-3 Inv-loop μ-loop
 loop-again-3 c =
     let x = c .before .before .before .before .before .before .before .before .before .before .before .before .pre .0 in
     let l = c .before .before .before .before .before .before .before .before .loop-test .taken in
-    let long : length (c .before .before .before .before .before .before .before .before .before .before .before .before .args .t2) ≡ 32 = search needs in
+    let long : length (c .before .before .before .before .before .before .before .before .before .before .before .before .args .t2) ≡ places = search needs in
     let e = answered-here x l long (c .before .before .before .before .before .before .before .if1 .left) in
     let d = ne-eqb _ _ (c .before .before .before .before .before .before .if2 .left) in (
       omega arith,

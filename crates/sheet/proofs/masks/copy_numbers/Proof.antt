@@ -3,6 +3,7 @@ use mathlib.Core.Path.{_≡_, refl, ap, _∙_}
 use mathlib.Core.List.{List, _++_}
 use Prim.Native.Nat.{ℕ, _≤_, _-_}
 use lib.ListN.{length, getD, take, drop, set}
+use Rattle.consistency.specs.Consistency.{places}
 use Rattle.format.proofs.Copying.{copied-on, copied-length}
 use borrow.Author.Needs.{needs}
 use native.Mathlib.Omega.{arith}
