@@ -84,7 +84,7 @@ tables-requires c κs = search needs
 
 returns-8 : tie.Need-returns-8
 returns-8 c = let counts = counts-pass (c .before .before .before .before .before .before .before .before .before .before .before .before .before .before .before .before .before .args .listing .now) _ _ (c .before .before .before .before .before .before .before .before .before .before .before .wide .ensures) (c .before .before .before .before .before .before .wide2 .ensures) _ (c .before .before .all-bytes .ensures) (not-false _ (c .before .if7 .left)) in
-    c .tables .ensures ∙ tables-decide (c .before .before .before .before .before .before .before .before .before .before .before .before .before .before .before .before .before .args .listing .now) _ _ (c .before .before .before .before .before .before .before .before .before .before .before .wide .ensures) (c .before .before .before .before .before .before .wide2 .ensures) (omega (arith, c .before .before .before .before .before .before .before .before .before .before .before .before .before .if2 .left, c .before .before .before .before .before .before .before .before .before .before .before .wide .ensures)) (omega (arith, c .before .before .before .before .before .before .before .before .if4 .left, c .before .before .before .before .before .before .wide2 .ensures)) (c .before .before .before .if6 .left) (c .before .before .before .before .before .if5 .left) counts
+    c .tables .ensures ∙ tables-decide (c .before .before .before .before .before .before .before .before .before .before .before .before .before .before .before .before .before .args .listing .now) _ _ (c .before .before .before .before .before .before .before .before .before .before .before .wide .ensures) (c .before .before .before .before .before .before .wide2 .ensures) (omega (arith, c .before .before .before .before .before .before .before .before .before .before .before .before .before .if2 .left, c .before .before .before .before .before .before .before .before .before .before .before .wide .ensures)) (omega (arith, c .before .before .before .before .before .before .before .before .if4 .left, c .before .before .before .before .before .before .wide2 .ensures)) (omega (arith, c .before .before .before .if6 .left)) (c .before .before .before .before .before .if5 .left) counts
 
 pub fits-spec : {M : Type 1} → statement M
 fits-spec =
