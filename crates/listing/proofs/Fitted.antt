@@ -14,7 +14,7 @@ use Rattle.format.proofs.Elements.{all-append, all-split}
 use Rattle.format.proofs.Picks.{both-true, both-pass, same-test}
 use Rattle.format.proofs.Views.{part-length}
 use Rattle.format.proofs.Encode.{encode-length}
-use Rattle.format.specs.Listing.{numberAt, fieldsIn, tableCountIn, arityIn, rowCountIn, firstRowIn, tableEndIn, tableIn, tablesIn, tablesEnd, lastEnd, bookIn, listingEnd}
+use Rattle.format.specs.Listing.{numberAt, fieldsIn, tableCountIn, firstTable, arityIn, rowCountIn, firstRowIn, tableEndIn, tableIn, tablesIn, tablesEnd, versionIn, lastEnd, bookIn, listingEnd}
 use Rattle.format.specs.Writing.{allBytes, laidOut, bookLimit}
 use Rattle.listing.specs.Fits.{tableFits, tablesFit, fits}
 use Rattle.listing.specs.Bounds.{TablesLay, TrailerLays}
@@ -22,7 +22,7 @@ use Rattle.format.proofs.ByteTests.{bytes-true, true-bytes}
 use Rattle.format.proofs.Storing.{sets-then}
 use Rattle.format.proofs.Sizes.{tables-longer}
 use Rattle.format.proofs.Parsing.{listing-length}
-use Rattle.format.proofs.Rebuilding.{ends-rise, head-within, counts-length, tables-length, listing-again}
+use Rattle.format.proofs.Rebuilding.{ends-rise, counts-length, tables-length, listing-again}
 use Rattle.listing.proofs.Laying.{bytes-parts, bytes-small}
 
 -- ---- tables that pass
@@ -84,17 +84,27 @@ module _ (l : List ℕ) where
 abbrev laidTables : List ℕ → ℕ → ℕ → List ℕ
 laidTables l f t = tablesBytes (tablesIn l (2 + f) t)
 
+-- the version, the listing's last number
+abbrev lastNumber : List ℕ → ℕ
+lastNumber l = numberAt l (length l - 1)
+
 module _ (l : List ℕ) (f t : ℕ) (ef : f ≡ fieldsIn l) (et : t ≡ numberAt l (1 + f)) (whole : listingEnd l ≡ length l) where
   count-is : t ≡ tableCountIn l
   count-is = et ∙ ap (λ (x : ℕ). numberAt l (1 + x)) ef
 
-  laid-parts : laidOut l
-      ≡ laidTables l f t ++ (part l 1 f ++ (trailer (length (laidTables l f t)) f t 1))
-  unfolding encode trailerBytes bookIn
-  laid-parts = rw (counts-length l whole, tables-length l whole, count-is, ef)
+  version-is : versionIn l (tablesEnd l (firstTable l) (tableCountIn l)) ≡ lastNumber l
+  version-is =
+      let last : tablesEnd l (firstTable l) (tableCountIn l) ≡ length l - 1 = omega arith in
+      ap (numberAt l) last
 
-  fields-within : 2 + f ≤ length l
-  fields-within = omega (arith, head-within l whole)
+  laid-parts : laidOut l
+      ≡ laidTables l f t ++ (part l 1 f ++ (trailer (length (laidTables l f t)) f t (lastNumber l)))
+  unfolding encode trailerBytes bookIn
+  laid-parts = rw (counts-length l whole, tables-length l whole, version-is, count-is, ef)
+
+  -- the numbers of fields and of tables, the code counts and the version
+  pub fields-within : 3 + f ≤ length l
+  fields-within = omega (arith, ends-rise l (tableCountIn l) (firstTable l))
 
   counts-run : length (part l 1 f) ≡ f
   counts-run = part-length l 1 f (omega (arith, fields-within))
@@ -102,10 +112,10 @@ module _ (l : List ℕ) (f t : ℕ) (ef : f ≡ fieldsIn l) (et : t ≡ numberAt
   laid-size : length (laidOut l) ≡ length (laidTables l f t) + f + 6
   laid-size =
       rw laid-parts
-      (omega (arith, counts-run, length-append (laidTables l f t) (part l 1 f ++ (trailer (length (laidTables l f t)) f t 1)), length-append (part l 1 f) (trailer (length (laidTables l f t)) f t 1)))
+      (omega (arith, counts-run, length-append (laidTables l f t) (part l 1 f ++ (trailer (length (laidTables l f t)) f t (lastNumber l))), length-append (part l 1 f) (trailer (length (laidTables l f t)) f t (lastNumber l))))
 
-  -- four bytes more than numbers, and one for each table
-  pub laid-longer : length (laidOut l) ≡ length l + t + 4
+  -- three bytes more than numbers, and one for each table
+  pub laid-longer : length (laidOut l) ≡ length l + t + 3
   laid-longer =
       omega (
         arith,
@@ -119,19 +129,19 @@ module _ (l : List ℕ) (f t : ℕ) (ef : f ≡ fieldsIn l) (et : t ≡ numberAt
       )
 
   -- the bytes are bytes exactly where each part's are
-  pub parts-bytes : Bytes (laidOut l) → Bytes (laidTables l f t) × (Bytes (part l 1 f) × ((f < 256) × (t < 256)))
+  pub parts-bytes : Bytes (laidOut l) → Bytes (laidTables l f t) × (Bytes (part l 1 f) × ((f < 256) × ((t < 256) × (lastNumber l < 256))))
   parts-bytes b =
-      let s = all-split (λ x. x < 256) (laidTables l f t) (part l 1 f ++ (trailer (length (laidTables l f t)) f t 1)) (rw laid-parts at b) in
-      let c = all-split (λ x. x < 256) (part l 1 f) (trailer (length (laidTables l f t)) f t 1) (s .1) in
-      (s .0, (c .0, (c .1 .1 .1 .0, c .1 .1 .1 .1 .0)))
+      let s = all-split (λ x. x < 256) (laidTables l f t) (part l 1 f ++ (trailer (length (laidTables l f t)) f t (lastNumber l))) (rw laid-parts at b) in
+      let c = all-split (λ x. x < 256) (part l 1 f) (trailer (length (laidTables l f t)) f t (lastNumber l)) (s .1) in
+      (s .0, (c .0, (c .1 .1 .1 .0, (c .1 .1 .1 .1 .0, c .1 .1 .1 .1 .1 .0))))
 
-  bytes-of-parts : Bytes (laidTables l f t) → Bytes (part l 1 f) → f < 256 → t < 256 → length (laidTables l f t) < 65536
+  bytes-of-parts : Bytes (laidTables l f t) → Bytes (part l 1 f) → f < 256 → t < 256 → lastNumber l < 256 → length (laidTables l f t) < 65536
       → Bytes (laidOut l)
-  bytes-of-parts b c hf ht hl =
+  bytes-of-parts b c hf ht hv hl =
       rw laid-parts
-      (all-append (λ x. x < 256) (laidTables l f t) (part l 1 f ++ (trailer (length (laidTables l f t)) f t 1)) b
-      (all-append (λ x. x < 256) (part l 1 f) (trailer (length (laidTables l f t)) f t 1) c
-      (omega arith, (omega arith, (hf, (ht, (omega arith, (omega arith, tt))))))))
+      (all-append (λ x. x < 256) (laidTables l f t) (part l 1 f ++ (trailer (length (laidTables l f t)) f t (lastNumber l))) b
+      (all-append (λ x. x < 256) (part l 1 f) (trailer (length (laidTables l f t)) f t (lastNumber l)) c
+      (omega arith, (omega arith, (hf, (ht, (hv, (omega arith, tt))))))))
 
 -- ---- all of the tests
 
@@ -166,9 +176,9 @@ unfit l n = go (fits l) refl
     go true e = absurd (n (fitted l e))
     go false e = sym e
 
--- where the numbers of fields and of tables and the code counts pass, the tables decide
-module _ (l : List ℕ) (f t : ℕ) (ef : f ≡ fieldsIn l) (et : t ≡ numberAt l (1 + f)) (hf : f ≤ 255) (ht : t ≤ 255) (short : length l + t + 4 ≤ bookLimit)
-    (counts : Bytes (part l 1 f))
+-- where the numbers of fields and of tables, the version and the code counts pass, the tables decide
+module _ (l : List ℕ) (f t : ℕ) (ef : f ≡ fieldsIn l) (et : t ≡ numberAt l (1 + f)) (hf : f ≤ 255) (ht : t ≤ 255) (hv : lastNumber l ≤ 255)
+    (short : length l + t + 3 ≤ bookLimit) (counts : Bytes (part l 1 f))
   where
     end-is : lastEnd (tablesEnd l (2 + f) t) ≡ listingEnd l
     end-is = rw (et, ef)
@@ -182,7 +192,7 @@ module _ (l : List ℕ) (f t : ℕ) (ef : f ≡ fieldsIn l) (et : t ≡ numberAt
         fits-of l
         (record {
           whole = w;
-          bytes = bytes-of-parts l f t ef et w (p .1) counts (omega arith) (omega arith) (omega arith);
+          bytes = bytes-of-parts l f t ef et w (p .1) counts (omega arith) (omega arith) (omega arith) (omega arith);
           short = omega arith;
         })
 
@@ -216,29 +226,31 @@ module _ (l : List ℕ) (f t : ℕ) (ef : f ≡ fieldsIn l) (et : t ≡ numberAt
     lay-counts out h =
         (omega (arith, fields-within l f t ef et (g .whole)), omega (arith, lay-size, g .short), parts-bytes l f t ef et (g .whole) (g .bytes) .1 .0)
 
-    pub lay-last : (out : List ℕ) → bookLimit ≤ length out → TrailerLays out (list + f) list f t
-    lay-last out h =
+    pub lay-last : (out : List ℕ) → bookLimit ≤ length out → (v : ℕ) → v ≡ lastNumber l → TrailerLays out (list + f) list f t v
+    lay-last out h v ev =
         let p = parts-bytes l f t ef et (g .whole) (g .bytes) in
         record {
           place-small = omega (arith, lay-size, g .short);
           fields-small = p .1 .1 .0;
-          tables-small = p .1 .1 .1;
+          tables-small = p .1 .1 .1 .0;
+          version-small = omega (arith, p .1 .1 .1 .1);
           room = omega (arith, lay-size, g .short);
         }
 
     -- stored in three steps
-    pub all-stored : (o o₁ o₂ o₃ : List ℕ) → o₁ ≡ sets o 0 (laidTables l f t) → o₂ ≡ sets o₁ list (part l 1 f)
-        → o₃ ≡ sets o₂ (list + f) (trailer list f t 1) → o₃ ≡ sets o 0 (laidOut l)
-    all-stored o o₁ o₂ o₃ e₁ e₂ e₃ =
+    pub all-stored : (v : ℕ) → v ≡ lastNumber l → (o o₁ o₂ o₃ : List ℕ) → o₁ ≡ sets o 0 (laidTables l f t) → o₂ ≡ sets o₁ list (part l 1 f)
+        → o₃ ≡ sets o₂ (list + f) (trailer list f t v) → o₃ ≡ sets o 0 (laidOut l)
+    all-stored v ev o o₁ o₂ o₃ e₁ e₂ e₃ =
         let w = g .whole in
         let n : list + length (part l 1 f) ≡ list + f = ap (λ (k : ℕ). list + k) (counts-run l f t ef et w) in
         let m : 0 + length (laidTables l f t) ≡ list = omega (arith, el) in
         e₃
-        ∙ ap (λ (x : List ℕ). sets x (list + f) (trailer list f t 1)) e₂
-        ∙ sets-then o₁ list (list + f) (part l 1 f) (trailer list f t 1) n
-        ∙ ap (λ (x : List ℕ). sets x list (part l 1 f ++ (trailer list f t 1))) e₁
-        ∙ sets-then o 0 list (laidTables l f t) (part l 1 f ++ (trailer list f t 1)) m
-        ∙ ap (λ (k : ℕ). sets o 0 (laidTables l f t ++ (part l 1 f ++ (trailer k f t 1)))) el
+        ∙ ap (λ (x : List ℕ). sets x (list + f) (trailer list f t v)) e₂
+        ∙ sets-then o₁ list (list + f) (part l 1 f) (trailer list f t v) n
+        ∙ ap (λ (x : List ℕ). sets x list (part l 1 f ++ (trailer list f t v))) e₁
+        ∙ sets-then o 0 list (laidTables l f t) (part l 1 f ++ (trailer list f t v)) m
+        ∙ ap (λ (k : ℕ). sets o 0 (laidTables l f t ++ (part l 1 f ++ (trailer k f t v)))) el
+        ∙ ap (λ (x : ℕ). sets o 0 (laidTables l f t ++ (part l 1 f ++ (trailer (length (laidTables l f t)) f t x)))) ev
         ∙ ap (sets o 0) (sym (laid-parts l f t ef et w))
 
 -- ---- the test of the code counts

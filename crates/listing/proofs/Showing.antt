@@ -1,13 +1,13 @@
 -- A table's numbers as parts of the book's bytes, and how many they are. Assumes nothing.
 use mathlib.Core.Path.{_≡_, refl, sym, ap, _∙_}
-use mathlib.Core.List.{List, [], _∷_, _++_, append-nil}
+use mathlib.Core.List.{List, [], _∷_, _++_}
 use Prim.Native.Nat.{ℕ, suc, _+_, _-_, _*_, _≤_, _<_}
 use native.Mathlib.Nat.{sub-zero}
 use native.Mathlib.Numerals.{add-one}
 use native.Mathlib.Omega.{arith}
 use lib.ListN.{length, drop, set, length-append}
 use lib.Seq.{sets}
-use Rattle.format.specs.Format.{byte, part, le16, arityAt, rowsOf, firstRow, tableEnd, tableAt, tablesAt, tableCount, bookOf}
+use Rattle.format.specs.Format.{byte, part, le16, arityAt, rowsOf, firstRow, tableEnd, tableAt, tablesAt, versionOf, bookOf}
 use Rattle.format.specs.Promise.{place}
 use Rattle.format.proofs.Decode.{list-length}
 use Rattle.format.proofs.Parsing.{listing-length}
@@ -131,19 +131,20 @@ module _ (s : List ℕ) (list fields tables : ℕ) (v : Numbered s list fields t
   counts-within = omega (arith, v .list-is, v .fields-is, v .promise .whole)
 
   -- its numbers
-  listing-parts : listingOf (bookOf s) ≡ fields ∷ (part s list fields ++ (tables ∷ tablesNumbers (tablesAt s 0 tables)))
+  listing-parts : listingOf (bookOf s)
+      ≡ fields ∷ (part s list fields ++ (tables ∷ (tablesNumbers (tablesAt s 0 tables) ++ (versionOf s ∷ []))))
   unfolding listingOf bookOf
-  listing-parts =
-      rw (counts-count s (v .promise .whole), tables-count s, append-nil (tablesNumbers (tablesAt s 0 (tableCount s))), v .tables-is, v .fields-is, v .list-is)
+  listing-parts = rw (counts-count s (v .promise .whole), tables-count s, v .tables-is, v .fields-is, v .list-is)
 
   -- how many they are
-  pub listing-size : length (listingOf (bookOf s)) ≡ 2 + fields + length (tablesNumbers (tablesAt s 0 tables))
+  pub listing-size : length (listingOf (bookOf s)) ≡ 3 + fields + length (tablesNumbers (tablesAt s 0 tables))
   listing-size =
       let l = part-length s list fields counts-within in
-      rw listing-parts (omega (arith, length-append (part s list fields) (tables ∷ tablesNumbers (tablesAt s 0 tables))))
+      rw listing-parts
+      (omega (arith, length-append (part s list fields) (tables ∷ (tablesNumbers (tablesAt s 0 tables) ++ (versionOf s ∷ []))), length-append (tablesNumbers (tablesAt s 0 tables)) (versionOf s ∷ [])))
 
-  -- one less for each table than the bytes of tables and field list, and the two numbers of fields and of tables
-  pub listing-count : (2 + fields + list - tables ≡ length (listingOf (bookOf s))) × (tables ≤ 2 + fields + list)
+  -- one less for each table than the bytes of tables and field list, and the three numbers of fields, of tables and of the version
+  pub listing-count : (3 + fields + list - tables ≡ length (listingOf (bookOf s))) × (tables ≤ list)
   listing-count =
       let b = bookOf s in
       let l = list-length s (v .promise) in
@@ -153,14 +154,22 @@ module _ (s : List ℕ) (list fields tables : ℕ) (v : Numbered s list fields t
       let w = listing-length b in
       (omega (arith, v .list-is, v .fields-is, v .tables-is), omega (arith, v .list-is, v .tables-is))
 
-  -- stored in four steps
+  -- the version's place, behind the tables
+  last-place : 2 + fields + length (tablesNumbers (tablesAt s 0 tables)) ≡ 2 + fields + list - tables
+  last-place = omega (arith, listing-size, listing-count .0)
+
+  -- stored in five steps
   pub book-stored : (o : List ℕ) → length (listingOf (bookOf s)) ≤ length o
-      → sets (set (sets (set o 0 fields) 1 (part s list fields)) (1 + fields) tables) (2 + fields) (tablesNumbers (tablesAt s 0 tables))
+      → set (sets (set (sets (set o 0 fields) 1 (part s list fields)) (1 + fields) tables) (2 + fields) (tablesNumbers (tablesAt s 0 tables)))
+      (2 + fields + list - tables) (versionOf s)
       ≡ listingOf (bookOf s) ++ drop (length (listingOf (bookOf s))) o
   book-stored o h =
       let e : suc (1 + fields) ≡ 2 + fields = omega arith in
       let l : 1 + length (part s list fields) ≡ 1 + fields = ap (λ (k : ℕ). 1 + k) (part-length s list fields counts-within) in
-      let stored : sets (set (sets (set o 0 fields) 1 (part s list fields)) (1 + fields) tables) (2 + fields) (tablesNumbers (tablesAt s 0 tables))
+      let last = sets-then (set (sets (set o 0 fields) 1 (part s list fields)) (1 + fields) tables) (2 + fields) (2 + fields + list - tables)
+      (tablesNumbers (tablesAt s 0 tables)) (versionOf s ∷ []) last-place in
+      let stored : sets (set (sets (set o 0 fields) 1 (part s list fields)) (1 + fields) tables) (2 + fields) (tablesNumbers (tablesAt s 0 tables) ++ (versionOf s ∷ []))
       ≡ sets o 0 (listingOf (bookOf s)) =
-      rw (← e, listing-parts) (sets-then (set o 0 fields) 1 (1 + fields) (part s list fields) (tables ∷ tablesNumbers (tablesAt s 0 tables)) l) in
-      stored ∙ sets-front o (listingOf (bookOf s)) h
+      rw (← e, listing-parts)
+      (sets-then (set o 0 fields) 1 (1 + fields) (part s list fields) (tables ∷ (tablesNumbers (tablesAt s 0 tables) ++ (versionOf s ∷ []))) l) in
+      last ∙ stored ∙ sets-front o (listingOf (bookOf s)) h

@@ -7,10 +7,11 @@ use native.Mathlib.Nat.{mul-le-mul}
 use native.Mathlib.Omega.{arith}
 use lib.ListN.{length}
 use lib.Dec.{eqb}
-use borrow.Author.Tests.{le-leb, lt-leb, lt-ltb}
+use borrow.Author.Tests.{le-leb, lt-leb, lt-ltb, eqb-true, eq-eqb, ne-eqb}
 use Rattle.format.specs.Format.{part}
 use Rattle.format.specs.Listing.{numberAt, arityIn, rowCountIn, tableEndIn}
 use Rattle.format.specs.Writing.{allBytes}
+use Rattle.format.proofs.Picks.{same-test}
 use Rattle.listing.specs.Fits.{tableFits, tablesFit}
 use Rattle.listing.specs.Answers.{stepBy}
 use Rattle.listing.specs.declared.tests.Step.the-variants.{Next, Stop}
@@ -79,6 +80,17 @@ module _ (l : List ℕ) (at left : ℕ) where
   pub fit-stop : 0 < left → Stop ≡ stepBy (tableFits l at) (tableEndIn l at) → false ≡ tablesFit l at left
   fit-stop h d = rw (one-fits (left - 1) (omega arith), stopped (tableFits l at) (tableEndIn l at) d)
 
-  pub fit-end : left ≤ 0 → eqb at (length l) ≡ tablesFit l at left
+  -- with no table left, the version alone is behind them
+  ended : left ≤ 0 → eqb (at + 1) (length l) ≡ tablesFit l at left
   unfolding tablesFit
-  fit-end h = let d : left ≡ 0 = omega arith in rw d
+  ended h = let d : left ≡ 0 = omega arith in rw d
+
+  pub fit-short : left ≤ 0 → length l ≤ at → false ≡ tablesFit l at left
+  fit-short h k = sym (ne-eqb (at + 1) (length l) (λ e. omega arith)) ∙ ended h
+
+  pub fit-end : left ≤ 0 → at < length l → eqb (length l - at) 1 ≡ tablesFit l at left
+  fit-end h k =
+      same-test (eqb (length l - at) 1) (eqb (at + 1) (length l))
+      (λ e. eq-eqb (at + 1) (length l) (omega (arith, eqb-true (length l - at) 1 e)))
+      (λ e. eq-eqb (length l - at) 1 (omega (arith, eqb-true (at + 1) (length l) e)))
+      ∙ ended h

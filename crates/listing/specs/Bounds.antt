@@ -30,8 +30,9 @@ pub record TablesLay (l : List ℕ) (at n : ℕ) (out : List ℕ) : Type 0 where
   pub room : length (tablesBytes (tablesIn l at n)) ≤ length out
 
 -- the trailer's numbers fit their bytes, and its six bytes fit behind at
-pub record TrailerLays (out : List ℕ) (at list fields tables : ℕ) : Type 0 where
+pub record TrailerLays (out : List ℕ) (at list fields tables version : ℕ) : Type 0 where
   pub place-small : list < 65536
   pub fields-small : fields < 256
   pub tables-small : tables < 256
+  pub version-small : version < 256
   pub room : at + 6 ≤ length out

@@ -15,7 +15,7 @@ tableFits l p =
     && (allBytes (part l p (1 + arityIn l p))
     && (ltb (rowCountIn l p) 65536 && allBytes (part l (firstRowIn l p) (rowCountIn l p * arityIn l p))))
 
--- n tables from p on, and nothing left over
+-- n tables from p on, the version behind them, and nothing left over
 unfoldable pub tablesFit : List ℕ → ℕ → ℕ → Bool
 tablesFit l p zero = eqb (lastEnd p) (length l)
 tablesFit l p (suc n) = tableFits l p && tablesFit l (tableEndIn l p) n

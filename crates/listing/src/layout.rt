@@ -13,8 +13,6 @@ ghost use Rattle.listing.specs.Bounds.{TableLays, TablesLay, TrailerLays
 use super::tests::wide;
 use book::CLOSING_BYTE;
 
-const VERSION: u8 = 1;
-
 // Writes the n numbers from `from` on, each a byte, from `to` on.
 fn narrow(listing: &[u16], from: usize, n: usize, out: &mut [u8], to: usize)
     requires { ⌜ (from + n ≤ length (now listing)) × (to + n ≤ length (now out)) × Bytes (part (now listing) from n) ⌝ }
@@ -60,15 +58,15 @@ fn lay_tables(listing: &[u16], first: usize, tables: usize, out: &mut [u8]) -> u
 }
 
 // Writes the trailer, from `at` on.
-fn lay_trailer(out: &mut [u8], at: usize, list: usize, fields: usize, tables: usize)
-    requires { ⌜ TrailerLays (now out) at list fields tables ⌝ }
-    ensures { λ _. ⌜ now (out .exit) ≡ sets (now (out .entry)) at (trailer list fields tables 1) ⌝ }
+fn lay_trailer(out: &mut [u8], at: usize, list: usize, fields: usize, tables: usize, version: usize)
+    requires { ⌜ TrailerLays (now out) at list fields tables version ⌝ }
+    ensures { λ _. ⌜ now (out .exit) ≡ sets (now (out .entry)) at (trailer list fields tables version) ⌝ }
 {
     out[at] = (list % 256) as u8;
     out[at + 1] = (list / 256) as u8;
     out[at + 2] = fields as u8;
     out[at + 3] = tables as u8;
-    out[at + 4] = VERSION;
+    out[at + 4] = version as u8;
     out[at + 5] = CLOSING_BYTE;
 }
 
@@ -79,8 +77,9 @@ pub(crate) fn lay_out(listing: &[u16], out: &mut [u8]) -> usize
 {
     let fields = wide(listing[0]);
     let tables = wide(listing[1 + fields]);
+    let version = wide(listing[listing.len() - 1]);
     let list = lay_tables(listing, 2 + fields, tables, out);
     narrow(listing, 1, fields, out, list);
-    lay_trailer(out, list + fields, list, fields, tables);
+    lay_trailer(out, list + fields, list, fields, tables, version);
     list + fields + 6
 }

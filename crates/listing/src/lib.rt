@@ -1,18 +1,19 @@
-// Listings: a book shown as the run of numbers that the compilers keep, and a book written from one. Request M-100.
+// Listings: a book shown as the run of numbers that the compilers keep, and a book written from one. Requests M-100 and M-103.
 ghost use mathlib.Core.Path.{_≡_};
 ghost use mathlib.Core.Logic.{_≢_, _↔_};
 ghost use Rattle.format.specs.Writing.{showing, writing};
 ghost use Rattle.format.specs.WriteAndShow.{HasListing};
 ghost use Rattle.listing.specs.Answers.{showed, wrote};
 use book::Checked;
+use book::PLACES;
 use book::Refusal;
 
 mod layout;
 mod numbers;
 mod tests;
 
-// The most bytes of an accepted book.
-const BOOK_LIMIT: usize = 16870;
+// The most bytes of an accepted book: 64 tables with seven beside their rows, 4,096 rows of four codes, the field list, the trailer.
+const BOOK_LIMIT: usize = 64 * 7 + 4096 * 4 + PLACES + 6;
 
 // What show answers: how many numbers it wrote, the reader's refusal of the book and its place, or that fewer are lent.
 pub enum Shown {
@@ -41,7 +42,7 @@ pub fn show(book: &[u8], out: &mut [u16]) -> Shown
             tables,
             rows: _,
         } => {
-            let count = 2 + fields + list - tables;
+            let count = 3 + fields + list - tables;
             if out.len() < count {
                 return Shown::TooShort;
             }

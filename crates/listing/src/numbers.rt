@@ -59,7 +59,7 @@ fn show_tables(book: &[u8], tables: usize, out: &mut [u16], first: usize)
     }
 }
 
-// Writes the listing of an accepted book, of these numbers in its trailer.
+// Writes the listing of an accepted book, of these numbers in its trailer. The version, the trailer's last byte but one, stands last.
 pub(crate) fn show_book(book: &[u8], list: usize, fields: usize, tables: usize, out: &mut [u16])
     requires { ⌜ Numbered (now book) list fields tables × (length (listingOf (bookOf (now book))) ≤ length (now out)) ⌝ }
     ensures { λ _. ⌜ now (out .exit) ≡ listingOf (bookOf (now (book .entry))) ++ drop (length (listingOf (bookOf (now (book .entry))))) (now (out .entry)) ⌝ }
@@ -68,4 +68,5 @@ pub(crate) fn show_book(book: &[u8], list: usize, fields: usize, tables: usize, 
     widen(book, list, fields, out, 1);
     out[1 + fields] = tables as u16;
     show_tables(book, tables, out, 2 + fields);
+    out[2 + fields + list - tables] = book[book.len() - 2] as u16;
 }

@@ -66,7 +66,7 @@ fn table(listing: &[u16], at: usize) -> Step
     Step::Next(end)
 }
 
-// The tables from `at` on, with nothing behind them.
+// The tables from `at` on, with one number behind them, the version.
 fn tables(listing: &[u16], at: usize, count: usize) -> bool
     ensures { λ r. ⌜ r ≡ tablesFit (now (listing .entry)) at count ⌝ }
 {
@@ -84,22 +84,26 @@ fn tables(listing: &[u16], at: usize, count: usize) -> bool
         }
         left -= 1;
     }
-    next == listing.len()
+    if listing.len() <= next {
+        return false;
+    }
+    listing.len() - next == 1
 }
 
-// The whole listing. Each table has one byte more than numbers, and the trailer four more than the numbers of fields and of tables.
+// The whole listing. Each table has one byte more than numbers, and the trailer three more than the numbers of fields and of tables and
+// the version.
 pub(crate) fn fits(listing: &[u16]) -> bool
     ensures { λ r. ⌜ r ≡ fits (now (listing .entry)) ⌝ }
 {
     let n = listing.len();
-    if n < 2 {
+    if n < 3 {
         return false;
     }
     if BYTE_LIMIT < listing[0] {
         return false;
     }
     let fields = wide(listing[0]);
-    if n < 2 + fields {
+    if n < 3 + fields {
         return false;
     }
     let count = 1 + fields;
@@ -107,7 +111,10 @@ pub(crate) fn fits(listing: &[u16]) -> bool
         return false;
     }
     let number = wide(listing[count]);
-    if BOOK_LIMIT < n + number + 4 {
+    if BOOK_LIMIT < n + number + 3 {
+        return false;
+    }
+    if BYTE_LIMIT < listing[n - 1] {
         return false;
     }
     if !all_bytes(listing, 1, count) {

@@ -1,7 +1,7 @@
 -- `listing::tests::tables` meets its contract. The loop's invariant: the answer from here is the answer from the start. Assumes nothing.
 use mathlib.Core.Path.{_≡_, refl, sym, _∙_}
 use Rattle.listing.specs.Fits.{tablesFit}
-use Rattle.listing.proofs.Testing.{fit-next, fit-stop, fit-end}
+use Rattle.listing.proofs.Testing.{fit-next, fit-stop, fit-short, fit-end}
 use borrow.Author.Needs.{needs}
 use Rattle.listing.proofs.tests.tables.Statement.{statement}
 use Rattle.listing.proofs.tests.tables.Tie as tie
@@ -37,7 +37,13 @@ loop-again : tie.Need-loop-again Inv-loop μ-loop
 loop-again c = fit-next (c .before .before .before .before .before .before .before .args .listing .now) (c .before .before .before .before .before .loop .next) (c .before .before .before .before .before .loop .left) (c .before .before .before .before .loop-test .taken) _ (sym (c .before .step .given .1) ∙ c .before .before .before .table .ensures) ∙ c .before .before .before .before .before .loop .inv
 
 returns-2 : tie.Need-returns-2 Inv-loop μ-loop
-returns-2 c = fit-end (c .before .before .before .args .listing .now) (c .before .loop .next) (c .before .loop .left) (c .loop-test .left) ∙ c .before .loop .inv
+returns-2 c = fit-short (c .before .before .before .before .args .listing .now) (c .before .before .loop .next) (c .before .before .loop .left) (c .before .loop-test .left) (c .if1 .taken) ∙ c .before .before .loop .inv
+
+sub-result : tie.Need-sub-result Inv-loop μ-loop
+sub-result c = search needs
+
+returns-3 : tie.Need-returns-3 Inv-loop μ-loop
+returns-3 c = fit-end (c .before .before .before .before .args .listing .now) (c .before .before .loop .next) (c .before .before .loop .left) (c .before .loop-test .left) (c .if1 .left) ∙ c .before .before .loop .inv
 
 pub tables-spec : {M : Type 1} → statement M
 tables-spec =
@@ -53,4 +59,6 @@ tables-spec =
     sub-left
     loop-less
     loop-again
-    returns-2)
+    returns-2
+    sub-result
+    returns-3)
