@@ -6,12 +6,6 @@ ghost use Rattle.format.specs.Layout.{HasLayout};
 ghost use Rattle.book.specs.Shown.{numberOf, shown, shownCheck};
 ghost use Rattle.book.specs.View.{viewOf};
 
-// The most fields of a book of any version, and the number of places of a sheet.
-pub const PLACES: usize = 60;
-
-// The most codes of a field.
-pub const CODES: usize = 32;
-
 mod bytes;
 mod copies;
 mod different;
@@ -23,6 +17,15 @@ pub use copies::copy;
 
 // The last byte of every book.
 pub const CLOSING_BYTE: u8 = 0xE5;
+
+// The most fields of a book of version 1.
+pub const FIELDS_OF_VERSION_1: usize = 32;
+
+// The most fields of a book of any version, that is of version 2: a sheet has a place for each.
+pub const PLACES: usize = 60;
+
+// The most codes of a field.
+pub const CODES: usize = 32;
 
 // Why bytes are no book. numberOf (specs) gives each kind document 01's number.
 pub enum Refusal {

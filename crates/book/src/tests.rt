@@ -7,6 +7,7 @@ ghost use Rattle.format.specs.Reading.{trailerVerdict, listTest, rowsStep, tabl
 ghost use Rattle.book.specs.Shown.{verdictOf, stepOf};
 ghost use Rattle.book.specs.Bounds.{BodyFits, HeadFits};
 use super::CLOSING_BYTE;
+use super::FIELDS_OF_VERSION_1;
 use super::PLACES;
 use super::Refusal;
 use super::bytes::byte;
@@ -14,8 +15,6 @@ use super::bytes::pair;
 use super::scans;
 
 const LENGTH_LIMIT: usize = 32768;
-
-const FIELDS_OF_VERSION_1: usize = 32;
 
 const TABLE_LIMIT: usize = 64;
 

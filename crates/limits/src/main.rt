@@ -1,16 +1,21 @@
 // Calls the library at its limits and one beyond, and prints a line for each answer.
 ghost use Rattle.io.specs.Counts.{Counts};
 use book::CODES;
+use book::FIELDS_OF_VERSION_1;
 use book::PLACES;
 use book::Reading;
 use libc::STDOUT_FILENO;
 use report::PAIR_BYTES;
 use report::Printed;
 use report::TEXT_LIMIT;
+use sheet::Answer;
 use sheet::Listing;
 
 // One more than a book may have.
 const BYTES: usize = 32769;
+
+// One more than a stored sheet may have.
+const FORM_BYTES: usize = PLACES + 1;
 
 // n, or the length of the bytes where that is less.
 fn within(n: usize, bytes: &[u8]) -> usize
@@ -110,11 +115,31 @@ fn print_reading(name: &[u8], tried: u64, bytes: &[u8]) {
 }
 
 // Reading a book with these numbers.
-fn try_book(name: &[u8], tried: u64, version: u8, fields: u8, codes: u8, tables: u8, rows: usize) {
+fn try_book(
+    name: &[u8],
+    tried: usize,
+    version: u8,
+    fields: u8,
+    codes: u8,
+    tables: u8,
+    rows: usize,
+) {
     let mut bytes = [0; BYTES];
     let length = put_book(&mut bytes, version, fields, codes, tables, rows);
     let n = within(length, &bytes);
-    print_reading(name, tried, &bytes[..n]);
+    print_reading(name, tried as u64, &bytes[..n]);
+}
+
+fn try_version(version: usize) {
+    try_book(b"version", version, version as u8, 1, 1, 0, 0);
+}
+
+fn try_fields(name: &[u8], fields: usize, version: u8) {
+    try_book(name, fields, version, fields as u8, 1, 0, 0);
+}
+
+fn try_codes(codes: usize) {
+    try_book(b"codes", codes, 1, 1, codes as u8, 0, 0);
 }
 
 // Reading that many zeros.
@@ -124,10 +149,34 @@ fn try_length(length: usize) {
     print_reading(b"length", length as u64, &bytes[..n]);
 }
 
-// Listing the alternatives of a book of 60 fields of 32 codes, all answered 0, with that many bytes lent.
+// A book with the most fields and the most codes, and its length.
+fn put_widest(out: &mut [u8]) -> usize {
+    put_book(out, 2, PLACES as u8, CODES as u8, 0, 0)
+}
+
+// Loading a stored sheet of that many bytes for it, all 0 but for x at one place.
+fn try_stored(stored: usize, x: u8, at: usize) {
+    let mut bytes = [0; BYTES];
+    let length = put_widest(&mut bytes);
+    let n = within(length, &bytes);
+    let mut form = [0; FORM_BYTES];
+    put(&mut form, at, x);
+    let m = within(stored, &form);
+    let loaded = sheet::load(&bytes[..n], &form[..m]);
+    print_tried(b"stored", stored as u64);
+    let answer = loaded.answer;
+    match answer {
+        Answer::Refused(reason, place) => print_refused(sheet::number(reason), place),
+        Answer::Done => {
+            io::write_all(STDOUT_FILENO, b": loaded\n");
+        }
+    }
+}
+
+// Listing the alternatives of that book, all answered 0, with that many bytes lent.
 fn try_lent(lent: usize) {
     let mut bytes = [0; BYTES];
-    let length = put_book(&mut bytes, 2, PLACES as u8, CODES as u8, 0, 0);
+    let length = put_widest(&mut bytes);
     let n = within(length, &bytes);
     let form = [0; PLACES];
     let loaded = sheet::load(&bytes[..n], &form);
@@ -151,7 +200,7 @@ fn try_lent(lent: usize) {
 // Printing that book and sheet, with that many bytes lent.
 fn try_text(lent: usize) {
     let mut bytes = [0; BYTES];
-    let length = put_book(&mut bytes, 2, PLACES as u8, CODES as u8, 0, 0);
+    let length = put_widest(&mut bytes);
     let n = within(length, &bytes);
     let form = [0; PLACES];
     let mut text = [0; TEXT_LIMIT];
@@ -171,22 +220,28 @@ fn try_text(lent: usize) {
 }
 
 fn main() {
-    try_book(b"version", 0, 0, 1, 1, 0, 0);
-    try_book(b"version", 3, 3, 1, 1, 0, 0);
-    try_book(b"fields", 32, 1, 32, 1, 0, 0);
-    try_book(b"fields", 33, 1, 33, 1, 0, 0);
-    try_book(b"fields", 60, 2, 60, 1, 0, 0);
-    try_book(b"fields", 61, 2, 61, 1, 0, 0);
-    try_book(b"codes", 32, 1, 1, 32, 0, 0);
-    try_book(b"codes", 33, 1, 1, 33, 0, 0);
+    try_version(0);
+    try_version(1);
+    try_version(2);
+    try_version(3);
+    try_fields(b"version 1, fields", FIELDS_OF_VERSION_1, 1);
+    try_fields(b"version 1, fields", FIELDS_OF_VERSION_1 + 1, 1);
+    try_fields(b"version 2, fields", PLACES, 2);
+    try_fields(b"version 2, fields", PLACES + 1, 2);
+    try_codes(CODES);
+    try_codes(CODES + 1);
     try_book(b"tables", 64, 1, 1, 1, 64, 0);
     try_book(b"tables", 65, 1, 1, 1, 65, 0);
     try_book(b"rows", 4096, 1, 1, 1, 1, 4096);
     try_book(b"rows", 4097, 1, 1, 1, 1, 4097);
     try_length(32768);
     try_length(32769);
-    try_lent(3840);
-    try_lent(3839);
+    try_stored(PLACES - 1, 0, 0);
+    try_stored(PLACES, 0, 0);
+    try_stored(PLACES, CODES as u8, PLACES - 1);
+    try_stored(PLACES + 1, 0, 0);
+    try_lent(PAIR_BYTES);
+    try_lent(PAIR_BYTES - 1);
     try_text(18315);
     try_text(18314);
 }
