@@ -130,16 +130,16 @@ fn try_book(
     print_reading(name, tried as u64, &bytes[..n]);
 }
 
-fn try_version(version: usize) {
-    try_book(b"version", version, version as u8, 1, 1, 0, 0);
+fn try_version(version: u8) {
+    try_book(b"version", version as usize, version, 1, 1, 0, 0);
 }
 
-fn try_fields(name: &[u8], fields: usize, version: u8) {
-    try_book(name, fields, version, fields as u8, 1, 0, 0);
+fn try_fields(name: &[u8], fields: u8, version: u8) {
+    try_book(name, fields as usize, version, fields, 1, 0, 0);
 }
 
-fn try_codes(codes: usize) {
-    try_book(b"codes", codes, 1, 1, codes as u8, 0, 0);
+fn try_codes(codes: u8) {
+    try_book(b"codes", codes as usize, 1, 1, codes, 0, 0);
 }
 
 // Reading that many zeros.
@@ -224,12 +224,12 @@ fn main() {
     try_version(1);
     try_version(2);
     try_version(3);
-    try_fields(b"version 1, fields", FIELDS_OF_VERSION_1, 1);
-    try_fields(b"version 1, fields", FIELDS_OF_VERSION_1 + 1, 1);
-    try_fields(b"version 2, fields", PLACES, 2);
-    try_fields(b"version 2, fields", PLACES + 1, 2);
-    try_codes(CODES);
-    try_codes(CODES + 1);
+    try_fields(b"version 1, fields", FIELDS_OF_VERSION_1 as u8, 1);
+    try_fields(b"version 1, fields", (FIELDS_OF_VERSION_1 + 1) as u8, 1);
+    try_fields(b"version 2, fields", PLACES as u8, 2);
+    try_fields(b"version 2, fields", (PLACES + 1) as u8, 2);
+    try_codes(CODES as u8);
+    try_codes((CODES + 1) as u8);
     try_book(b"tables", 64, 1, 1, 1, 64, 0);
     try_book(b"tables", 65, 1, 1, 1, 65, 0);
     try_book(b"rows", 4096, 1, 1, 1, 1, 4096);
