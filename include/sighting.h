@@ -57,7 +57,7 @@
 #include <stddef.h>
 #include <stdint.h>
 
-/* A sheet: for each of 60 places the answered code, or SIGHTING_NO_ANSWER. */
+/* A sheet: for each of 60 places the answered code, or SIGHTING_NO_ANSWER. It has as many for a book of either version. */
 #define SIGHTING_SHEET_BYTES 60
 
 /* In a sheet: no answer. As `relaxed` of sighting_filtered: no field. */
@@ -66,12 +66,12 @@
 /*
  * How many elements of `out` suffice for every book, sheet and listing: a call that is lent as many never returns 18. Each is proved.
  */
-#define SIGHTING_PAIRS_BYTES 2048      /* sighting_alternatives, sighting_replay */
-#define SIGHTING_NUMBERS 32            /* sighting_filtered */
-#define SIGHTING_STORED_BYTES 32       /* sighting_store */
-#define SIGHTING_REPORT_BYTES 11305    /* sighting_report */
-#define SIGHTING_LISTING_NUMBERS 16802 /* sighting_show */
-#define SIGHTING_BOOK_BYTES 16870      /* sighting_write */
+#define SIGHTING_PAIRS_BYTES 3840      /* sighting_alternatives, sighting_replay */
+#define SIGHTING_NUMBERS 60            /* sighting_filtered */
+#define SIGHTING_STORED_BYTES 60       /* sighting_store */
+#define SIGHTING_REPORT_BYTES 21162    /* sighting_report */
+#define SIGHTING_LISTING_NUMBERS 16831 /* sighting_show */
+#define SIGHTING_BOOK_BYTES 16898      /* sighting_write */
 
 /* The three kinds of call in a list for sighting_replay. */
 #define SIGHTING_CALL_ENTER 0
@@ -169,15 +169,17 @@ uint64_t sighting_report(const uint8_t *book, size_t book_len, const uint8_t *fo
 
 /*
  * Shows a book's listing: the number of fields and each field's number of codes; the number of tables; for each table its number of
- * fields, the fields, its number of rows, and the rows' codes. Tables and rows stand in the book's order, repeated rows too.
+ * fields, the fields, its number of rows, and the rows' codes; last the book's version. Tables and rows stand in the book's order,
+ * repeated rows too.
  *   outcome[2]  place, how many numbers were written
  * Refusals: 1 to 13, 18 where out_len is below the length of the listing.
  */
 uint64_t sighting_show(const uint8_t *book, size_t book_len, uint16_t *out, size_t out_len, uint64_t *outcome);
 
 /*
- * Writes the bytes of the book that a listing says, in the listing's order and with its repeated rows; the version is 1. It is the way
- * back from sighting_show: writing what a book shows gives the book's bytes, and the bytes written show the listing.
+ * Writes the bytes of the book that a listing says, in the listing's order, with its repeated rows and of its version. It is the way
+ * back from sighting_show: writing what a book shows gives the book's bytes, and the bytes written show the listing. A listing that
+ * ends without a version, as they did before version 2, is refused by 20.
  *   outcome[2]  place, how many bytes were written
  * Refusals: 20, 18 where out_len is below the length of the book.
  */

@@ -48,6 +48,7 @@
 //!     2, // tables
 //!     2, 0, 2, 4, 0, 0, 0, 1, 1, 2, 0, 1, // two fields, 0 and 2; 4 rows
 //!     2, 1, 2, 4, 0, 0, 1, 1, 1, 2, 2, 2, // two fields, 1 and 2; 4 rows
+//!     1, // version
 //! ];
 //! let mut book = [0; sighting::BOOK_BYTES];
 //! let bytes = write(&listing, &mut book)? as usize;
@@ -69,28 +70,28 @@ mod refusal;
 pub use refusal::Refusal;
 
 /// The bytes of a sheet, as in `include/sighting.h`.
-pub const SHEET_BYTES: usize = 32;
+pub const SHEET_BYTES: usize = 60;
 
 /// In a sheet: no answer.
 pub const NO_ANSWER: u8 = 255;
 
 /// So many bytes suffice for [`Sheet::alternatives`] and [`Sheet::replay`], whatever the book and the sheet.
-pub const PAIRS_BYTES: usize = 2048;
+pub const PAIRS_BYTES: usize = 3840;
 
 /// So many numbers suffice for [`Sheet::filtered`].
-pub const NUMBERS: usize = 32;
+pub const NUMBERS: usize = 60;
 
 /// So many bytes suffice for [`Sheet::store`].
-pub const STORED_BYTES: usize = 32;
+pub const STORED_BYTES: usize = 60;
 
 /// So many bytes suffice for [`report`].
-pub const REPORT_BYTES: usize = 11305;
+pub const REPORT_BYTES: usize = 21162;
 
 /// So many numbers suffice for [`show`].
-pub const LISTING_NUMBERS: usize = 16802;
+pub const LISTING_NUMBERS: usize = 16831;
 
 /// So many bytes suffice for [`write`].
-pub const BOOK_BYTES: usize = 16870;
+pub const BOOK_BYTES: usize = 16898;
 
 /// What a book has. A row that is repeated in its table counts once among the different rows.
 #[derive(Clone, Copy, Debug, PartialEq, Eq)]
@@ -165,7 +166,8 @@ pub fn report(book: &[u8], form: &[u8], out: &mut [u8]) -> Result<u64, Refusal> 
 }
 
 /// Shows a book's listing, and answers how many numbers it has: the number of fields and each field's number of codes; the number of
-/// tables; for each table its number of fields, the fields, its number of rows, and the rows' codes. Refusals: 1 to 13, 18.
+/// tables; for each table its number of fields, the fields, its number of rows, and the rows' codes; last its version. Refusals: 1 to 13,
+/// 18.
 pub fn show(book: &[u8], out: &mut [u16]) -> Result<u64, Refusal> {
     let mut cells = [0; 2];
     // SAFETY: each pointer has its slice's length beside it; two cells are lent.
@@ -175,7 +177,8 @@ pub fn show(book: &[u8], out: &mut [u16]) -> Result<u64, Refusal> {
 }
 
 /// Writes the bytes of the book that a listing says, and answers how many they are. It is the way back from [`show`]: writing what a
-/// book shows gives the book's bytes, and the bytes written show the listing. Refusals: 20, 18.
+/// book shows gives the book's bytes, and the bytes written show the listing. Refusals: 20, also for a listing that ends without a
+/// version, 18.
 pub fn write(listing: &[u16], out: &mut [u8]) -> Result<u64, Refusal> {
     let mut cells = [0; 2];
     // SAFETY: each pointer has its slice's length beside it; two cells are lent.
@@ -195,7 +198,7 @@ fn relaxed_number(relaxed: Option<usize>) -> usize {
     }
 }
 
-/// The answers: for each of 32 places the answered code, or [`NO_ANSWER`].
+/// The answers: for each of 60 places the answered code, or [`NO_ANSWER`].
 #[derive(Clone, Copy, Debug, PartialEq, Eq)]
 pub struct Sheet([u8; SHEET_BYTES]);
 

@@ -15,8 +15,8 @@ pub struct Refusal {
 const MEANINGS: [&str; 20] = [
     "the book has fewer than 6 or more than 32,768 bytes",
     "the closing byte is not 0xE5",
-    "the version is not 1",
-    "the number of fields is not 1 to 32",
+    "the version is neither 1 nor 2",
+    "the number of fields is not 1 to 32 (version 1) or 1 to 60 (version 2)",
     "the number of tables is above 64",
     "the place of the field list does not agree with the length",
     "a field has not 1 to 32 codes",
@@ -62,6 +62,6 @@ mod tests {
         assert_eq!(meaning(19), "the stored sheet's length is not the number of fields");
         assert_eq!(meaning(20), "no book has this listing");
         assert_eq!((meaning(0), meaning(21)), ("no refusal has this number", "no refusal has this number"));
-        assert_eq!(Refusal { number: 3, place: 33 }.to_string(), "refused 3 at 33: the version is not 1");
+        assert_eq!(Refusal { number: 3, place: 33 }.to_string(), "refused 3 at 33: the version is neither 1 nor 2");
     }
 }
