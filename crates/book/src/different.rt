@@ -16,12 +16,15 @@ const FEW: usize = 64;
 // Up to so many rows are compared where they stand: gathering them takes longer. Measured.
 const SMALL: usize = 16;
 
+// The bits of a row's word, a byte for each code that a row may have.
+const WORD_BITS: usize = 32;
+
 // The bits of a word that arity codes take. By a difference and not case by case, so that a loop has nothing to decide.
 fn row_mask(arity: usize) -> usize
     requires { ⌜ arity ≤ arityLimit ⌝ }
     ensures { λ r. ⌜ r ≡ mask arity ⌝ }
 {
-    4294967296 - (1 << (32 - 8 * arity))
+    4294967296 - (1 << (WORD_BITS - 8 * arity))
 }
 
 // The row of arity codes at p as a word: the first code in the highest byte, zeros behind the last. Four bytes are read in any case,
