@@ -1,28 +1,20 @@
 -- Gathering the marks of case 0 into numbers, code by code and field by field. Assumes nothing.
-use mathlib.Core.Path.{_≡_, refl, sym, ap, ap₂, _∙_}
+use mathlib.Core.Path.{_≡_, sym, ap, ap₂, _∙_}
 use mathlib.Core.Logic.{_≢_}
 use mathlib.Core.Bool.{Bool, true, false}
 use mathlib.Core.List.{List}
 use Prim.Native.Nat.{ℕ, suc, _+_, _*_, _/_, _%_, _^_, _≤_, _<_}
-use native.Mathlib.Nat.{add-zero, zero-add, one-mul, pow-suc}
+use native.Mathlib.Nat.{add-zero, one-mul, pow-suc}
 use native.Mathlib.Numerals.{add-one}
-use native.Mathlib.Decide.{decLt}
 use native.Mathlib.Omega.{arith}
-use borrow.Author.Count.{below-more}
 use borrow.Author.Tests.{eq-eqb, ne-eqb, lt-ltb, le-ltb}
-use lib.ListN.{length, getD, set, replicate, length-set}
-use lib.Seq.{ext-getD, getD-set-same, getD-set-other}
 use lib.Pow.{pow-mono, shl-exact}
 use lib.Dec.{lit<, ltb}
 use Rattle.format.specs.Basics.{pick}
 use Rattle.format.specs.Format.{codeLimit}
-use Rattle.consistency.specs.Counting.{tabulate}
-use Rattle.consistency.specs.Consistency.{places}
 use Rattle.consistency.specs.Counts.{mask}
-use Rattle.consistency.proofs.Sums.{length-tabulate, tabulate-at}
 use Rattle.consistency.proofs.Masks.{mask-lt}
 use Rattle.filter.specs.Words.{wordAt, domainOf}
-use Rattle.filter.proofs.Lists.{zeros}
 use Rattle.filter.proofs.Words.{domain-bit}
 
 -- the marks of case 0 of field f, as a number
@@ -66,33 +58,10 @@ mask-all M f c n e d = e ∙ ap (λ (k : ℕ). mask k (domainOf M 0 f)) d
 abbrev pub maskBelow : List ℕ → ℕ → ℕ → ℕ
 maskBelow M n f = pick (ltb f n) (maskOf M f) 0
 
--- the numbers of the fields below f, and no other
-pub record Gathered (M N : List ℕ) (f : ℕ) : Type 0 where
-  pub size : length N ≡ places
-  pub numbers : (g : ℕ) → g < f → getD N g 0 ≡ maskOf M g
-  pub rest : (g : ℕ) → f ≤ g → getD N g 0 ≡ 0
+module _ (M : List ℕ) (fields : ℕ) where
+  -- it is there below n, and 0 from n on
+  pub gathered : (f n : ℕ) → f < fields → n ≡ maskOf M f → n ≡ maskBelow M fields f
+  gathered f n l e = e ∙ sym (ap (λ (t : Bool). pick t (maskOf M f) 0) (lt-ltb f fields l))
 
--- no field yet, one more, all
-pub gather-none : (M : List ℕ) → Gathered M (replicate places 0) 0
-gather-none M = record { size = refl; numbers = λ g h. absurd (omega arith); rest = λ g h. zeros places g }
-
-pub gather-more : (M N : List ℕ) (f n : ℕ) → Gathered M N f → f < places → n ≡ maskOf M f → Gathered M (set N f n) (f + 1)
-gather-more M N f n x l e =
-    record {
-      size = length-set N f n ∙ x .size;
-      numbers =
-          below-more (λ (g : ℕ). getD (set N f n) g 0 ≡ maskOf M g) f
-          (λ g h. getD-set-other N f g n 0 (λ (q : g ≡ f). omega arith) ∙ x .numbers g h)
-          (getD-set-same N f n 0 (omega (arith, x .size)) ∙ e);
-      rest = λ g h. getD-set-other N f g n 0 (λ (q : g ≡ f). omega arith) ∙ x .rest g (omega arith);
-    }
-
-pub gather-done : (M N : List ℕ) (n f : ℕ) → Gathered M N f → f ≤ n → n ≤ f → N ≡ tabulate (maskBelow M n) places 0
-gather-done M N n f x l m =
-    ext-getD 0 N (tabulate (maskBelow M n) places 0) (x .size ∙ sym (length-tabulate (maskBelow M n) places 0))
-    (λ g h.
-    at g (decLt g n) ∙ sym (tabulate-at (maskBelow M n) places 0 g 0 (omega (arith, x .size)) ∙ ap (maskBelow M n) (zero-add g)))
-  where
-    at : (g : ℕ) → Dec (g < n) → getD N g 0 ≡ maskBelow M n g
-    at g (yes h) = x .numbers g (omega arith) ∙ sym (ap (λ (t : Bool). pick t (maskOf M g) 0) (lt-ltb g n h))
-    at g (no h) = x .rest g (omega arith) ∙ sym (ap (λ (t : Bool). pick t (maskOf M g) 0) (le-ltb g n (omega arith)))
+  pub none-behind : (f : ℕ) → fields ≤ f → (g : ℕ) → f ≤ g → maskBelow M fields g ≡ 0
+  none-behind f l g m = ap (λ (t : Bool). pick t (maskOf M g) 0) (le-ltb g fields (omega arith))

@@ -1,11 +1,13 @@
--- Elements of lists: of an array of zeros, of a sheet, of a list of values. Assumes nothing.
+-- Elements of lists: of an array of zeros, also filled one by one, of a sheet, of a list of values. Assumes nothing.
 use mathlib.Core.Path.{_≡_, refl, sym, ap, _∙_, subst}
 use mathlib.Core.List.{List, [], _∷_}
-use Prim.Native.Nat.{ℕ, zero, suc, _<_}
+use Prim.Native.Nat.{ℕ, zero, suc, _+_, _≤_, _<_}
 use native.Mathlib.Nat.{zero-add}
+use native.Mathlib.Decide.{decLt}
 use native.Mathlib.Omega.{arith}
-use lib.ListN.{length, getD, replicate}
-use lib.Seq.{ext-getD}
+use lib.ListN.{length, getD, set, replicate, length-set, length-replicate}
+use lib.Seq.{ext-getD, getD-set-same, getD-set-other}
+use borrow.Author.Count.{below-more}
 use Rattle.consistency.specs.Counting.{tabulate}
 use Rattle.consistency.specs.Consistency.{answer}
 use Rattle.consistency.proofs.Sums.{length-tabulate, tabulate-at}
@@ -36,3 +38,36 @@ tabulate-ext g h n e =
   where
     at : (f : ℕ → ℕ) {k : ℕ} → k < n → getD (tabulate f n 0) k 0 ≡ f k
     at f {k} m = tabulate-at f n 0 k 0 m ∙ ap f (zero-add k)
+
+-- ---- n zeros, filled from the front
+
+-- below f the values of g, and 0 from there on
+pub record Filled (g : ℕ → ℕ) (n : ℕ) (N : List ℕ) (f : ℕ) : Type 0 where
+  pub size : length N ≡ n
+  pub front : (k : ℕ) → k < f → getD N k 0 ≡ g k
+  pub rest : (k : ℕ) → f ≤ k → getD N k 0 ≡ 0
+
+module _ (g : ℕ → ℕ) (n : ℕ) where
+  -- none yet, one more, all that are not 0
+  pub filled-none : Filled g n (replicate n 0) 0
+  filled-none = record { size = length-replicate {A = ℕ} n 0; front = λ k l. absurd (omega arith); rest = λ k l. zeros n k }
+
+  pub filled-more : (N : List ℕ) (f x : ℕ) → Filled g n N f → f < n → x ≡ g f → Filled g n (set N f x) (f + 1)
+  filled-more N f x y l e =
+      record {
+        size = length-set N f x ∙ y .size;
+        front =
+            below-more (λ (k : ℕ). getD (set N f x) k 0 ≡ g k) f
+            (λ k m. getD-set-other N f k x 0 (λ (q : k ≡ f). omega arith) ∙ y .front k m)
+            (getD-set-same N f x 0 (omega (arith, y .size)) ∙ e);
+        rest = λ k m. getD-set-other N f k x 0 (λ (q : k ≡ f). omega arith) ∙ y .rest k (omega arith);
+      }
+
+  pub filled-all : (N : List ℕ) (f : ℕ) → Filled g n N f → ((k : ℕ) → f ≤ k → g k ≡ 0) → N ≡ tabulate g n 0
+  filled-all N f y z =
+      ext-getD 0 N (tabulate g n 0) (y .size ∙ sym (length-tabulate g n 0))
+      (λ k l. at k (decLt k f) ∙ sym (tabulate-at g n 0 k 0 (omega (arith, y .size)) ∙ ap g (zero-add k)))
+    where
+      at : (k : ℕ) → Dec (k < f) → getD N k 0 ≡ g k
+      at k (yes m) = y .front k m
+      at k (no m) = y .rest k (omega arith) ∙ sym (z k (omega arith))

@@ -1,13 +1,9 @@
 -- A well-formed book is written in bytes. Assumes nothing.
-use mathlib.Core.Path.{_≡_, refl}
-use mathlib.Core.Bool.{Bool, true, false}
 use mathlib.Core.List.{List, [], _∷_, _++_}
 use Prim.Native.Nat.{ℕ, _≤_, _<_}
 use native.Mathlib.Omega.{arith}
 use lib.ListN.{length, getD}
-use lib.Dec.{eqb}
-use borrow.Author.Tests.{eqb-true}
-use Rattle.format.specs.Basics.{pick, All}
+use Rattle.format.specs.Basics.{All}
 use Rattle.format.specs.Format.{Table, Book, RowOk, TableOk, WellFormed, fieldLimit, codeLimit, closingByte, rowTotal, word, flat, tableBytes, tablesBytes, trailerBytes, encode}
 use Rattle.format.specs.Layout.{Bytes}
 use Rattle.format.proofs.Elements.{all-at, all-of, all-or, all-append}

@@ -1,15 +1,12 @@
 -- A book's listing says that book, and ends where it ends. Assumes nothing.
 use mathlib.Core.Path.{_≡_, refl, sym, _∙_}
-use mathlib.Core.Bool.{Bool, true, false}
 use mathlib.Core.List.{List, [], _∷_, _++_, append-assoc}
-use Prim.Native.Nat.{ℕ, _+_, _*_, _≤_}
+use Prim.Native.Nat.{ℕ, _+_, _*_}
 use native.Mathlib.Nat.{add-zero, zero-mul, suc-mul}
 use native.Mathlib.Omega.{arith}
-use lib.Dec.{eqb}
 use lib.ListN.{length, drop, length-append}
-use borrow.Author.Tests.{eqb-true}
-use Rattle.format.specs.Basics.{pick, All}
-use Rattle.format.specs.Format.{Table, Book, WellFormed, fieldLimit, flat}
+use Rattle.format.specs.Basics.{All}
+use Rattle.format.specs.Format.{Table, Book, WellFormed, flat}
 use Rattle.format.proofs.Drops.{byte-front, part-front, drop-behind}
 use Rattle.format.proofs.Encode.{Even, tables-even, rows-read}
 use Rattle.format.specs.Listing.{tableNumbers, tablesNumbers, lastNumbers, listingOf, fieldsIn, tableCountIn, arityIn, rowCountIn, tableEndIn, tableIn, tablesIn, tablesEnd, versionIn, bookIn, listingEnd}

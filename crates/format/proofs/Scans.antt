@@ -1,4 +1,4 @@
--- Laws of firstBad: one place on, a stop, the end; the test holds at each place before the answer and fails at it, so the end is reached
+-- Laws of firstBad: one place on, a stop, the end; another test that says the same; the test holds at each place before the answer and fails at it, so the end is reached
 -- exactly where the test holds at each place. Assumes nothing.
 use mathlib.Core.Path.{_≡_, refl, subst}
 use mathlib.Core.Bool.{Bool, true, false}
@@ -80,3 +80,14 @@ module _ (ok : ℕ → Bool) where
   pass-all i e h p =
       let r : scan ok i (e - i) ≡ i + (e - i) = pass-scan (e - i) i (λ k l u. p k l (omega arith)) in
       omega arith
+
+-- the answer turns on the test at the places looked at alone
+module _ (ok ok′ : ℕ → Bool) where
+  scan-ext : (n i : ℕ) → ((k : ℕ) → i ≤ k → k < i + n → ok k ≡ ok′ k) → scan ok i n ≡ scan ok′ i n
+  unfolding scan
+  scan-ext zero i e = refl
+  scan-ext (suc n) i e = rw (e i (omega arith) (omega arith), scan-ext n (i + 1) (λ k l u. e k (omega arith) (omega arith)))
+
+  pub bad-ext : (i e : ℕ) → i ≤ e → ((k : ℕ) → i ≤ k → k < e → ok k ≡ ok′ k) → firstBad ok i e ≡ firstBad ok′ i e
+  unfolding firstBad
+  bad-ext i e h p = scan-ext (e - i) i (λ k l u. p k l (omega arith))

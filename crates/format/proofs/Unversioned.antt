@@ -3,10 +3,10 @@ use mathlib.Core.Path.{_≡_, refl, sym, ap, _∙_}
 use mathlib.Core.List.{List, [], _∷_, _++_, append-assoc, append-nil}
 use Prim.Native.Nat.{ℕ, _+_}
 use native.Mathlib.Omega.{arith}
-use lib.ListN.{length, take, drop, length-append}
+use lib.ListN.{length, drop, length-append}
 use borrow.Author.Tests.{ne-eqb}
 use Rattle.format.specs.Format.{Book, WellFormed}
-use Rattle.format.specs.Listing.{tablesNumbers, listingOf, fieldsIn, tableCountIn, listingEnd}
+use Rattle.format.specs.Listing.{tablesNumbers, listingOf, tableCountIn, listingEnd}
 use Rattle.format.specs.Writing.{declined, writable, writing}
 use Rattle.format.proofs.Drops.{byte-front, drop-behind}
 use Rattle.format.proofs.Encode.{tables-even}

@@ -1,11 +1,11 @@
 // The refusals with which every call on a sheet and a book begins: 1 to 13 of the book, then 14 of the sheet.
 ghost use mathlib.Core.Path.{_≡_};
-ghost use mathlib.Core.Bool.{_||_};
-ghost use lib.Dec.{ltb, eqb};
+ghost use Rattle.format.specs.Basics.{firstBad};
 ghost use Rattle.format.specs.Format.{bookOf};
-ghost use Rattle.consistency.specs.Consistency.{codes};
+ghost use Rattle.consistency.specs.Counting.{allBelow};
+ghost use Rattle.consistency.specs.Consistency.{places};
 ghost use Rattle.calls.specs.Calls.{faultOf};
-ghost use Rattle.sheet.specs.Opened.{FieldsAt, Opens};
+ghost use Rattle.sheet.specs.Opened.{mayHold, codeCounts, holds, FieldsAt, Opens};
 use super::Reason;
 use book::Checked;
 use book::PLACES;
@@ -21,28 +21,48 @@ pub(crate) enum Opened {
     Turned(Reason, usize),
 }
 
-// Whether place p may hold this byte: 255, or a code of field p. A place without a field has no codes.
-fn may_hold(book: &[u8], list: usize, fields: usize, p: usize, held: u8) -> bool
-    requires { ⌜ FieldsAt (now book) list fields ⌝ }
-    ensures { λ r. ⌜ r ≡ (eqb held 255 || ltb held (codes (bookOf (now (book .entry))) p)) ⌝ }
+// Whether a place may hold this byte: 255, or a code of its field, which has so many.
+fn may_hold(byte: u8, count: u8) -> bool
+    ensures { λ r. ⌜ r ≡ mayHold byte count ⌝ }
 {
-    if held == 255 {
+    if byte == 255 {
         return true;
     }
-    if fields <= p {
-        return false;
-    }
-    held < book[list + p]
+    byte < count
 }
 
-// The first place that holds neither 255 nor a code of its field, or the number of places.
-pub(crate) fn first_fault(book: &[u8], list: usize, fields: usize, places: [u8; PLACES]) -> usize
+// The number of codes of each place's field; 0 for a place without one.
+fn code_counts(book: &[u8], list: usize, fields: usize) -> [u8; PLACES]
     requires { ⌜ FieldsAt (now book) list fields ⌝ }
-    ensures { λ r. ⌜ r ≡ faultOf (bookOf (now (book .entry))) places ⌝ }
+    ensures { λ r. ⌜ r ≡ codeCounts (bookOf (now (book .entry))) ⌝ }
+{
+    let mut counts = [0; PLACES];
+    for p in 0..fields {
+        counts[p] = book[list + p];
+    }
+    counts
+}
+
+// Whether each place may hold what it holds. It looks at all of them in any case: without a way out of the loop many are tested at a time.
+fn all_hold(held: [u8; PLACES], counts: [u8; PLACES]) -> bool
+    ensures { λ r. ⌜ r ≡ allBelow places (holds counts held) ⌝ }
+{
+    let mut faults: u8 = 0;
+    for p in 0..PLACES {
+        if !may_hold(held[p], counts[p]) {
+            faults = 1;
+        }
+    }
+    faults == 0
+}
+
+// The first place that may not, or the number of places.
+fn first_bad(held: [u8; PLACES], counts: [u8; PLACES]) -> usize
+    ensures { λ r. ⌜ r ≡ firstBad (holds counts held) 0 places ⌝ }
 {
     let mut p = 0;
     while p < PLACES {
-        if !may_hold(book, list, fields, p, places[p]) {
+        if !may_hold(held[p], counts[p]) {
             return p;
         }
         p += 1;
@@ -50,9 +70,21 @@ pub(crate) fn first_fault(book: &[u8], list: usize, fields: usize, places: [u8; 
     p
 }
 
+// The first place that holds neither 255 nor a code of its field, or the number of places. Most sheets have none.
+pub(crate) fn first_fault(book: &[u8], list: usize, fields: usize, held: [u8; PLACES]) -> usize
+    requires { ⌜ FieldsAt (now book) list fields ⌝ }
+    ensures { λ r. ⌜ r ≡ faultOf (bookOf (now (book .entry))) held ⌝ }
+{
+    let counts = code_counts(book, list, fields);
+    if all_hold(held, counts) {
+        return PLACES;
+    }
+    first_bad(held, counts)
+}
+
 // 1 to 13, then 14.
-pub(crate) fn open(book: &[u8], places: [u8; PLACES]) -> Opened
-    ensures { λ r. ⌜ Opens (now (book .entry)) places r ⌝ }
+pub(crate) fn open(book: &[u8], held: [u8; PLACES]) -> Opened
+    ensures { λ r. ⌜ Opens (now (book .entry)) held r ⌝ }
 {
     let checked = book::check(book);
     match checked {
@@ -63,7 +95,7 @@ pub(crate) fn open(book: &[u8], places: [u8; PLACES]) -> Opened
             tables,
             rows,
         } => {
-            let fault = first_fault(book, list, fields, places);
+            let fault = first_fault(book, list, fields, held);
             if fault < PLACES {
                 return Opened::Turned(Reason::Fault, fault);
             }

@@ -5,25 +5,16 @@ use native.Mathlib.Omega.{arith}
 use borrow.Author.Needs.{needs}
 use Rattle.filter.proofs.pass.all_cases.Statement.{statement}
 use Rattle.filter.proofs.pass.all_cases.Tie as tie
-use Rattle.filter.proofs.pass.all_cases.Reads as reads
-use Rattle.filter.proofs.pass.all_cases.Lts as lts
-use Rattle.filter.proofs.pass.run.Reads as run-reads
-use Rattle.filter.proofs.start.clear.Reads as clear-reads
-use Rattle.filter.proofs.start.own_cases.Reads as own-cases-reads
 
--- src/pass.rt:55:5
 clear-requires : tie.Need-clear-requires
 clear-requires c κs = search needs
 
--- src/pass.rt:56:9
 own-cases-requires : tie.Need-own-cases-requires
 own-cases-requires c κs = let n = (c .before .before .before .before .pre) in omega (arith, n .fields-is, fields-few _ (n .promise))
 
--- src/pass.rt:58:5
 run-requires : tie.Need-run-requires
 run-requires c κs = (all-cases-given _ _ _ _ _ _ _ ((c .before .before .before .before .before .before .before .before .pre)) (c .before .before .before .own-cases .ensures), c .before .before .before .before .before .clear .ensures)
 
--- src/pass.rt:43:1
 returns : tie.Need-returns
 returns c = all-cases-done _ _ _ _ _ _ _ ((c .before .before .before .before .before .before .before .before .before .pre)) (c .before .before .before .before .own-cases .ensures) _ _ (c .run .ensures)
 

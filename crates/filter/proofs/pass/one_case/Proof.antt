@@ -5,23 +5,15 @@ use Rattle.filter.proofs.Limits.{fields-few}
 use Rattle.filter.proofs.Lists.{zeros}
 use Rattle.filter.proofs.Passes.{one-case-given, one-case-done}
 use native.Mathlib.Omega.{arith}
-use borrow.Author.Needs.{needs}
 use Rattle.filter.proofs.pass.one_case.Statement.{statement}
 use Rattle.filter.proofs.pass.one_case.Tie as tie
-use Rattle.filter.proofs.pass.one_case.Reads as reads
-use Rattle.filter.proofs.pass.one_case.Lts as lts
-use Rattle.filter.proofs.gather.gather.Reads as gather-reads
-use Rattle.filter.proofs.pass.run.Reads as run-reads
 
--- src/pass.rt:74:5
 run-requires : tie.Need-run-requires
 run-requires c κs = (one-case-given _ _ _ _ _ _ ((c .before .before .before .pre)) (zeros places), refl)
 
--- src/pass.rt:75:5
 gather-requires : tie.Need-gather-requires
 gather-requires c κs = let n = (c .before .before .before .before .before .pre) in omega (arith, n .fields-is, fields-few _ (n .promise))
 
--- src/pass.rt:62:1
 returns : tie.Need-returns
 returns c = one-case-done _ _ _ _ _ _ ((c .before .before .before .before .before .before .pre)) (zeros places) _ _ (c .before .before .run .ensures) _ (c .gather .ensures)
 

@@ -2,10 +2,7 @@
 use Rattle.filter.proofs.Bits.{ones-many}
 use Rattle.filter.proofs.revise.cases_in.Statement.{statement}
 use Rattle.filter.proofs.revise.cases_in.Tie as tie
-use Rattle.filter.proofs.revise.cases_in.Reads as reads
-use Rattle.filter.proofs.revise.cases_in.Lts as lts
 
--- src/revise.rt:82:1
 returns : tie.Need-returns
 returns c = (ones-many 64 _ (c .fits .word .fits), c .fits .word .fits)
 

@@ -8,8 +8,6 @@ use borrow.Author.Needs.{needs}
 use native.Mathlib.Omega.{arith}
 use Rattle.filter.proofs.revise.looking.Statement.{statement}
 use Rattle.filter.proofs.revise.looking.Tie as tie
-use Rattle.filter.proofs.revise.looking.Reads as reads
-use Rattle.filter.proofs.revise.looking.Lts as lts
 
 abbrev Inv-loop : tie.InvT-loop
 Inv-loop marks f k cases₀ waiting₀ c₀ cases waiting c = (c ≤ k) × Counted cases waiting × Looks marks f c cases × (waiting ≤ c)
@@ -17,47 +15,36 @@ Inv-loop marks f k cases₀ waiting₀ c₀ cases waiting c = (c ≤ k) × Count
 abbrev μ-loop : tie.MeasureT-loop
 μ-loop marks f k cases₀ waiting₀ c₀ cases waiting c = k - c
 
--- src/revise.rt:29:5
 loop-holds : tie.Need-loop-holds Inv-loop μ-loop
 loop-holds c = (omega arith, counted-none, looks-none _ _, omega arith)
 
--- src/revise.rt:30:26
 mul-word : tie.Need-mul-word Inv-loop μ-loop
 mul-word c = search needs
 
--- src/revise.rt:30:26
 add-word : tie.Need-add-word Inv-loop μ-loop
 add-word c = search needs
 
--- src/revise.rt:30:20
 mul-word-2 : tie.Need-mul-word-2 Inv-loop μ-loop
 mul-word-2 c = search needs
 
--- src/revise.rt:30:20
 element-copy-out-word : tie.Need-element-copy-out-word Inv-loop μ-loop
 element-copy-out-word c = search needs
 
--- src/revise.rt:31:9
 mul-cases : tie.Need-mul-cases Inv-loop μ-loop
 mul-cases c = search needs
 
--- src/revise.rt:31:9
 array-write-cases : tie.Need-array-write-cases Inv-loop μ-loop
 array-write-cases c = search needs
 
--- src/revise.rt:33:23
 add-waiting : tie.Need-add-waiting Inv-loop μ-loop
 add-waiting c = search needs
 
--- src/revise.rt:29:9
 add-c : tie.Need-add-c Inv-loop μ-loop
 add-c c = search needs
 
--- src/revise.rt:29:5
 loop-less : tie.Need-loop-less Inv-loop μ-loop
 loop-less c = search needs
 
--- src/revise.rt:29:5
 loop-again : tie.Need-loop-again Inv-loop μ-loop
 loop-again c = (
   omega arith,
@@ -67,7 +54,6 @@ loop-again c = (
   ⊎-elim (λ w. omega (arith, w .1, c .before .before .before .loop .inv .3)) (λ w. omega (arith, w .1, c .before .before .before .loop .inv .3)) (c .if1 .came),
 )
 
--- src/revise.rt:23:1
 returns : tie.Need-returns Inv-loop μ-loop
 returns c = (looks-all _ (c .before .loop .inv .2) (c .before .loop .inv .0) (c .loop-test .left), c .before .loop .inv .1)
 

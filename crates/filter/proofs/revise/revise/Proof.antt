@@ -2,25 +2,16 @@
 use Rattle.filter.proofs.Revisions.{field-in, few, count-in, revised}
 use Rattle.filter.proofs.revise.revise.Statement.{statement}
 use Rattle.filter.proofs.revise.revise.Tie as tie
-use Rattle.filter.proofs.revise.revise.Reads as reads
-use Rattle.filter.proofs.revise.revise.Lts as lts
-use Rattle.filter.proofs.revise.looking.Reads as looking-reads
-use Rattle.filter.proofs.revise.strike.Reads as strike-reads
-use Rattle.filter.proofs.revise.unsupported.Reads as unsupported-reads
 
--- src/revise.rt:115:9
 looking-requires : tie.Need-looking-requires
 looking-requires c κs = (field-in (c .before .before .pre), few (c .before .before .pre))
 
--- src/revise.rt:116:16
 unsupported-requires : tie.Need-unsupported-requires
 unsupported-requires c κs = (c .before .before .before .before .pre .table, (c .before .before .before .before .pre .column, c .before .looking .ensures .1))
 
--- src/revise.rt:117:5
 strike-requires : tie.Need-strike-requires
 strike-requires c κs = (c .before .before .before .before .before .before .before .pre .marks .words, (field-in (c .before .before .before .before .before .before .before .pre), (few (c .before .before .before .before .before .before .before .pre), count-in (c .before .before .before .before .before .before .before .pre))))
 
--- src/revise.rt:103:1
 returns : tie.Need-returns
 returns c = revised (c .before .before .before .before .before .before .before .before .pre) (c .before .before .before .before .before .looking .ensures .0) (c .before .before .before .unsupported .ensures) (c .strike .ensures)
 

@@ -7,9 +7,6 @@ use borrow.Author.Needs.{needs}
 use native.Mathlib.Omega.{arith}
 use Rattle.filter.proofs.revise.strike.Statement.{statement}
 use Rattle.filter.proofs.revise.strike.Tie as tie
-use Rattle.filter.proofs.revise.strike.Reads as reads
-use Rattle.filter.proofs.revise.strike.Lts as lts
-use Rattle.filter.proofs.revise.cases_in.Reads as cases-in-reads
 
 abbrev Inv-loop : tie.InvT-loop
 Inv-loop marks₀ left f k s count₀ c₀ marks count c = (c ≤ k) × (count ≤ 1000000 + 64 * c) × Struck marks₀ marks left f c s count
@@ -17,71 +14,54 @@ Inv-loop marks₀ left f k s count₀ c₀ marks count c = (c ≤ k) × (count �
 abbrev μ-loop : tie.MeasureT-loop
 μ-loop marks₀ left f k s count₀ c₀ marks count c = k - c
 
--- src/revise.rt:94:5
 loop-holds : tie.Need-loop-holds Inv-loop μ-loop
 loop-holds c = (omega arith, omega (arith, c .pre .1 .1 .1), struck-none)
 
--- src/revise.rt:95:20
 mul-gone : tie.Need-mul-gone Inv-loop μ-loop
 mul-gone c = search needs
 
--- src/revise.rt:95:20
 element-copy-out-gone : tie.Need-element-copy-out-gone Inv-loop μ-loop
 element-copy-out-gone c = search needs
 
--- src/revise.rt:96:35
 mul-marks : tie.Need-mul-marks Inv-loop μ-loop
 mul-marks c = search needs
 
--- src/revise.rt:96:35
 add-marks : tie.Need-add-marks Inv-loop μ-loop
 add-marks c = search needs
 
--- src/revise.rt:96:29
 mul-marks-2 : tie.Need-mul-marks-2 Inv-loop μ-loop
 mul-marks-2 c = search needs
 
--- src/revise.rt:96:29
 element-copy-out-marks : tie.Need-element-copy-out-marks Inv-loop μ-loop
 element-copy-out-marks c = search needs
 
--- src/revise.rt:96:15
 mul-marks-3 : tie.Need-mul-marks-3 Inv-loop μ-loop
 mul-marks-3 c = search needs
 
--- src/revise.rt:96:15
 add-marks-2 : tie.Need-add-marks-2 Inv-loop μ-loop
 add-marks-2 c = search needs
 
--- src/revise.rt:96:9
 mul-marks-4 : tie.Need-mul-marks-4 Inv-loop μ-loop
 mul-marks-4 c = search needs
 
--- src/revise.rt:96:9
 element-write-marks : tie.Need-element-write-marks Inv-loop μ-loop
 element-write-marks c = search needs
 
--- src/revise.rt:97:25
 cases-in-requires : tie.Need-cases-in-requires Inv-loop μ-loop
 cases-in-requires c κs = tt
 
--- src/revise.rt:97:17
 add-count : tie.Need-add-count Inv-loop μ-loop
 add-count c = omega (arith, count-next (c .before .before .before .before .loop .c) _ (getD (c .before .before .before .before .before .args .left .now) (c .before .before .before .before .loop .c) 0) _ (c .before .before .before .before .loop .inv .1) (c .cases-in .ensures .0), c .before .before .before .before .before .pre .1 .1 .0)
 
--- src/revise.rt:94:9
 add-c : tie.Need-add-c Inv-loop μ-loop
 add-c c = search needs
 
--- src/revise.rt:94:5
 loop-less : tie.Need-loop-less Inv-loop μ-loop
 loop-less c = search needs
 
--- src/revise.rt:94:5
 loop-again : tie.Need-loop-again Inv-loop μ-loop
 loop-again c = (omega arith, count-next (c .before .before .before .before .loop .c) _ (getD (c .before .before .before .before .before .args .left .now) (c .before .before .before .before .loop .c) 0) _ (c .before .before .before .before .loop .inv .1) (c .cases-in .ensures .0), struck-next (c .before .before .before .before .loop .c) (c .before .before .before .before .before .pre .0) (c .before .before .before .before .before .pre .1 .0) (omega (arith, c .before .before .before .before .before .pre .1 .1 .0)) (c .before .before .before .before .loop .inv .2) (c .cases-in .ensures .1) (c .cases-in .ensures .0))
 
--- src/revise.rt:89:1
 returns : tie.Need-returns Inv-loop μ-loop
 returns c = struck-all _ (c .before .loop .inv .2) (c .before .loop .inv .0) (c .loop-test .left)
 

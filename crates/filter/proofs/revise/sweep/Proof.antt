@@ -6,10 +6,6 @@ use Rattle.filter.proofs.Sweeps.{SweptTo, swept-none, head-in, shape-is
 use native.Mathlib.Omega.{arith}
 use Rattle.filter.proofs.revise.sweep.Statement.{statement}
 use Rattle.filter.proofs.revise.sweep.Tie as tie
-use Rattle.filter.proofs.revise.sweep.Reads as reads
-use Rattle.filter.proofs.revise.sweep.Lts as lts
-use Rattle.filter.proofs.revise.revise.Reads as revise-reads
-use Rattle.filter.proofs.support.wide.Reads as wide-reads
 
 abbrev Inv-loop : tie.InvT-loop
 Inv-loop book marks₀ watch list i at s queue arity rows first struck₀ tables₀ j₀ marks struck tables j = (j ≤ arity) × SweptTo book watch marks₀ marks i at j s struck queue tables
@@ -17,126 +13,96 @@ Inv-loop book marks₀ watch list i at s queue arity rows first struck₀ tables
 abbrev μ-loop : tie.MeasureT-loop
 μ-loop book marks₀ watch list i at s queue arity rows first struck₀ tables₀ j₀ marks struck tables j = arity - j
 
--- src/revise.rt:135:22
 shared-slice-read-wide : tie.Need-shared-slice-read-wide Inv-loop μ-loop
 shared-slice-read-wide c = omega (arith, head-in (c .before .before .pre))
 
--- src/revise.rt:135:9
 wide-requires : tie.Need-wide-requires Inv-loop μ-loop
 wide-requires c κs = tt
 
--- src/revise.rt:136:26
 add-wide : tie.Need-add-wide Inv-loop μ-loop
 add-wide c = omega (arith, head-in (c .before .before .before .pre), c .before .before .before .pre .promise .short)
 
--- src/revise.rt:136:26
 add-wide-2 : tie.Need-add-wide-2 Inv-loop μ-loop
 add-wide-2 c = omega (arith, head-in (c .before .before .before .pre), c .wide .ensures, c .before .before .before .pre .promise .short)
 
--- src/revise.rt:136:21
 shared-slice-read-wide-2 : tie.Need-shared-slice-read-wide-2 Inv-loop μ-loop
 shared-slice-read-wide-2 c = omega (arith, head-in (c .before .before .before .before .pre), c .before .wide .ensures)
 
--- src/revise.rt:136:16
 wide-requires-2 : tie.Need-wide-requires-2 Inv-loop μ-loop
 wide-requires-2 c κs = tt
 
--- src/revise.rt:136:61
 add-wide-3 : tie.Need-add-wide-3 Inv-loop μ-loop
 add-wide-3 c = omega (arith, head-in (c .before .before .before .before .before .pre), c .before .before .before .before .before .pre .promise .short)
 
--- src/revise.rt:136:61
 add-wide-4 : tie.Need-add-wide-4 Inv-loop μ-loop
 add-wide-4 c = omega (arith, head-in (c .before .before .before .before .before .pre), c .before .before .wide .ensures, c .before .before .before .before .before .pre .promise .short)
 
--- src/revise.rt:136:56
 shared-slice-read-wide-3 : tie.Need-shared-slice-read-wide-3 Inv-loop μ-loop
 shared-slice-read-wide-3 c = omega (arith, head-in (c .before .before .before .before .before .before .pre), c .before .before .before .wide .ensures)
 
--- src/revise.rt:136:51
 wide-requires-3 : tie.Need-wide-requires-3 Inv-loop μ-loop
 wide-requires-3 c κs = tt
 
--- src/revise.rt:136:45
 mul-rows : tie.Need-mul-rows Inv-loop μ-loop
 mul-rows c = omega (arith, rows-in (c .before .before .before .before .before .before .before .pre) (c .before .before .before .before .wide .ensures) (c .before .before .wide2 .ensures) (c .wide3 .ensures))
 
--- src/revise.rt:136:16
 add-rows : tie.Need-add-rows Inv-loop μ-loop
 add-rows c = omega (arith, rows-in (c .before .before .before .before .before .before .before .pre) (c .before .before .before .before .wide .ensures) (c .before .before .wide2 .ensures) (c .wide3 .ensures))
 
--- src/revise.rt:137:17
 add-first : tie.Need-add-first Inv-loop μ-loop
 add-first c = omega (arith, head-in (c .before .before .before .before .before .before .before .pre), c .before .before .before .before .before .before .before .pre .promise .short)
 
--- src/revise.rt:137:17
 add-first-2 : tie.Need-add-first-2 Inv-loop μ-loop
 add-first-2 c = omega (arith, head-in (c .before .before .before .before .before .before .before .pre), c .before .before .before .before .wide .ensures, c .before .before .before .before .before .before .before .pre .promise .short)
 
--- src/revise.rt:140:5
 loop-holds : tie.Need-loop-holds Inv-loop μ-loop
 loop-holds c = (omega arith, swept-none)
 
--- src/revise.rt:141:27
 add-wide-5 : tie.Need-add-wide-5 Inv-loop μ-loop
 add-wide-5 c = omega (arith, field-in _ _ (shape-is (c .before .before .before .before .before .before .before .before .before .pre) (c .before .before .before .before .before .before .wide .ensures) (c .before .before .before .before .wide2 .ensures) (c .before .before .wide3 .ensures)) (c .before .loop .j) (c .loop-test .taken), c .before .before .before .before .before .before .before .before .before .pre .promise .short)
 
--- src/revise.rt:141:27
 add-wide-6 : tie.Need-add-wide-6 Inv-loop μ-loop
 add-wide-6 c = omega (arith, field-in _ _ (shape-is (c .before .before .before .before .before .before .before .before .before .pre) (c .before .before .before .before .before .before .wide .ensures) (c .before .before .before .before .wide2 .ensures) (c .before .before .wide3 .ensures)) (c .before .loop .j) (c .loop-test .taken), c .before .before .before .before .before .before .before .before .before .pre .promise .short)
 
--- src/revise.rt:141:22
 shared-slice-read-wide-4 : tie.Need-shared-slice-read-wide-4 Inv-loop μ-loop
 shared-slice-read-wide-4 c = omega (arith, field-in _ _ (shape-is (c .before .before .before .before .before .before .before .before .before .before .pre) (c .before .before .before .before .before .before .before .wide .ensures) (c .before .before .before .before .before .wide2 .ensures) (c .before .before .before .wide3 .ensures)) (c .before .before .loop .j) (c .before .loop-test .taken))
 
--- src/revise.rt:141:13
 wide-requires-4 : tie.Need-wide-requires-4 Inv-loop μ-loop
 wide-requires-4 c κs = tt
 
--- src/revise.rt:142:27
 add-wide-7 : tie.Need-add-wide-7 Inv-loop μ-loop
 add-wide-7 c = omega (arith, field-below (c .before .before .before .before .before .before .before .before .before .before .before .pre) (shape-is (c .before .before .before .before .before .before .before .before .before .before .before .pre) (c .before .before .before .before .before .before .before .before .wide .ensures) (c .before .before .before .before .before .before .wide2 .ensures) (c .before .before .before .before .wide3 .ensures)) (c .before .before .before .loop .inv .1) (c .before .before .loop-test .taken) (c .wide4 .ensures), c .before .before .before .before .before .before .before .before .before .before .before .pre .list-is, c .before .before .before .before .before .before .before .before .before .before .before .pre .promise .whole, c .before .before .before .before .before .before .before .before .before .before .before .pre .promise .short)
 
--- src/revise.rt:142:22
 shared-slice-read-wide-5 : tie.Need-shared-slice-read-wide-5 Inv-loop μ-loop
 shared-slice-read-wide-5 c = omega (arith, field-below (c .before .before .before .before .before .before .before .before .before .before .before .before .pre) (shape-is (c .before .before .before .before .before .before .before .before .before .before .before .before .pre) (c .before .before .before .before .before .before .before .before .before .wide .ensures) (c .before .before .before .before .before .before .before .wide2 .ensures) (c .before .before .before .before .before .wide3 .ensures)) (c .before .before .before .before .loop .inv .1) (c .before .before .before .loop-test .taken) (c .before .wide4 .ensures), c .before .before .before .before .before .before .before .before .before .before .before .before .pre .list-is, c .before .before .before .before .before .before .before .before .before .before .before .before .pre .promise .whole)
 
--- src/revise.rt:142:13
 wide-requires-5 : tie.Need-wide-requires-5 Inv-loop μ-loop
 wide-requires-5 c κs = tt
 
--- src/revise.rt:144:13
 revise-requires : tie.Need-revise-requires Inv-loop μ-loop
 revise-requires c κs = column-asks (c .before .before .before .before .before .before .before .before .before .before .before .before .before .before .pre) (shape-is (c .before .before .before .before .before .before .before .before .before .before .before .before .before .before .pre) (c .before .before .before .before .before .before .before .before .before .before .before .wide .ensures) (c .before .before .before .before .before .before .before .before .before .wide2 .ensures) (c .before .before .before .before .before .before .before .wide3 .ensures)) (c .before .before .before .before .before .before .loop .inv .1) (c .before .before .before .before .before .loop-test .taken) (c .before .before .before .wide4 .ensures) (c .before .wide5 .ensures)
 
--- src/revise.rt:146:32
 mul-tables : tie.Need-mul-tables Inv-loop μ-loop
 mul-tables c = omega (arith, field-word (c .before .before .before .before .before .before .before .before .before .before .before .before .before .before .before .before .pre) (shape-is (c .before .before .before .before .before .before .before .before .before .before .before .before .before .before .before .before .pre) (c .before .before .before .before .before .before .before .before .before .before .before .before .before .wide .ensures) (c .before .before .before .before .before .before .before .before .before .before .before .wide2 .ensures) (c .before .before .before .before .before .before .before .before .before .wide3 .ensures)) (c .before .before .before .before .before .before .before .before .loop .inv .1) (c .before .before .before .before .before .before .before .loop-test .taken) (c .before .before .before .before .before .wide4 .ensures))
 
--- src/revise.rt:146:32
 element-copy-out-tables : tie.Need-element-copy-out-tables Inv-loop μ-loop
 element-copy-out-tables c = field-word (c .before .before .before .before .before .before .before .before .before .before .before .before .before .before .before .before .pre) (shape-is (c .before .before .before .before .before .before .before .before .before .before .before .before .before .before .before .before .pre) (c .before .before .before .before .before .before .before .before .before .before .before .before .before .wide .ensures) (c .before .before .before .before .before .before .before .before .before .before .before .wide2 .ensures) (c .before .before .before .before .before .before .before .before .before .wide3 .ensures)) (c .before .before .before .before .before .before .before .before .loop .inv .1) (c .before .before .before .before .before .before .before .loop-test .taken) (c .before .before .before .before .before .wide4 .ensures)
 
--- src/revise.rt:146:44
 shl-tables : tie.Need-shl-tables Inv-loop μ-loop
 shl-tables c = omega (arith, c .before .before .before .before .before .before .before .before .before .before .before .before .before .before .before .before .before .pre .index-in, c .before .before .before .before .before .before .before .before .before .before .before .before .before .before .before .before .before .pre .promise .tables-few)
 
--- src/revise.rt:140:9
 add-j : tie.Need-add-j Inv-loop μ-loop
 add-j c = omega arith
 
--- src/revise.rt:140:5
 loop-less : tie.Need-loop-less Inv-loop μ-loop
 loop-less c = omega arith
 
--- src/revise.rt:140:5
 loop-again : tie.Need-loop-again Inv-loop μ-loop
 loop-again c = (
   omega arith,
   ⊎-elim (λ w. swept-struck (c .before .before .before .before .before .before .before .before .before .before .before .before .before .before .before .before .pre) (shape-is (c .before .before .before .before .before .before .before .before .before .before .before .before .before .before .before .before .pre) (c .before .before .before .before .before .before .before .before .before .before .before .before .before .wide .ensures) (c .before .before .before .before .before .before .before .before .before .before .before .wide2 .ensures) (c .before .before .before .before .before .before .before .before .before .wide3 .ensures)) (c .before .before .before .before .before .before .before .before .loop .inv .1) (c .before .before .before .before .before .before .before .loop-test .taken) (c .before .before .before .before .before .wide4 .ensures) (c .before .revise .ensures) (w .0 .taken) (w .2) (w .3)) (λ w. swept-still (c .before .before .before .before .before .before .before .before .before .before .before .before .before .before .before .before .pre) (shape-is (c .before .before .before .before .before .before .before .before .before .before .before .before .before .before .before .before .pre) (c .before .before .before .before .before .before .before .before .before .before .before .before .before .wide .ensures) (c .before .before .before .before .before .before .before .before .before .before .before .wide2 .ensures) (c .before .before .before .before .before .before .before .before .before .wide3 .ensures)) (c .before .before .before .before .before .before .before .before .loop .inv .1) (c .before .before .before .before .before .before .before .loop-test .taken) (c .before .before .before .before .before .wide4 .ensures) (c .before .revise .ensures) (w .0 .left) (w .1) (w .2)) (c .if1 .came),
 )
 
--- src/revise.rt:122:1
 returns : tie.Need-returns Inv-loop μ-loop
 returns c = swept-all (c .before .before .before .before .before .before .before .before .before .pre) (shape-is (c .before .before .before .before .before .before .before .before .before .pre) (c .before .before .before .before .before .before .wide .ensures) (c .before .before .before .before .wide2 .ensures) (c .before .before .wide3 .ensures)) (c .before .loop .inv .1) (c .loop-test .left)
 

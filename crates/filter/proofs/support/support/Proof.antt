@@ -13,9 +13,6 @@ use Rattle.filter.proofs.RowSearch.{word-in, own-in, column-and, column
 use native.Mathlib.Omega.{arith}
 use Rattle.filter.proofs.support.support.Statement.{statement}
 use Rattle.filter.proofs.support.support.Tie as tie
-use Rattle.filter.proofs.support.support.Reads as reads
-use Rattle.filter.proofs.support.support.Lts as lts
-use Rattle.filter.proofs.support.wide.Reads as wide-reads
 
 abbrev Inv-loop : tie.InvT-loop
 Inv-loop book marks need j from at arity first rows r₀ row own cases₀ k₀ r cases k = (r ≡ r₀) × (k ≤ arity) × (1 ≤ cases) × (cases ≡ narrowed marks (tableAt book at) j r₀ cases₀ k)
@@ -29,122 +26,93 @@ Inv-rows book marks need j from at arity first rows r₀ r = (r ≤ rows) × (fi
 abbrev μ-rows : tie.MeasureT-rows
 μ-rows book marks need j from at arity first rows r₀ r = rows - r
 
--- src/support.rt:44:5
 rows-holds : tie.Need-rows-holds Inv-loop μ-loop Inv-rows μ-rows
 rows-holds c = (c .before .pre .1 .1, refl)
 
--- src/support.rt:45:27
 mul-row : tie.Need-mul-row Inv-loop μ-loop Inv-rows μ-rows
 mul-row c = omega (arith, row-in _ _ (c .before .before .before .pre .0) (c .before .rows .r) (c .rows-test .taken), c .before .before .before .pre .0 .promise .short)
 
--- src/support.rt:45:19
 add-row : tie.Need-add-row Inv-loop μ-loop Inv-rows μ-rows
 add-row c = omega (arith, row-in _ _ (c .before .before .before .pre .0) (c .before .rows .r) (c .rows-test .taken), c .before .before .before .pre .0 .promise .short)
 
--- src/support.rt:46:29
 add-wide : tie.Need-add-wide Inv-loop μ-loop Inv-rows μ-rows
 add-wide c = omega (arith, row-in _ _ (c .before .before .before .pre .0) (c .before .rows .r) (c .rows-test .taken), c .before .before .before .pre .0 .promise .short, c .before .before .before .pre .1 .0)
 
--- src/support.rt:46:24
 shared-slice-read-wide : tie.Need-shared-slice-read-wide Inv-loop μ-loop Inv-rows μ-rows
 shared-slice-read-wide c = omega (arith, row-in _ _ (c .before .before .before .before .pre .0) (c .before .before .rows .r) (c .before .rows-test .taken), c .before .before .before .before .pre .1 .0)
 
--- src/support.rt:46:13
 wide-requires : tie.Need-wide-requires Inv-loop μ-loop Inv-rows μ-rows
 wide-requires c κs = tt
 
--- src/support.rt:47:25
 mul-cases : tie.Need-mul-cases Inv-loop μ-loop Inv-rows μ-rows
 mul-cases c = omega (arith, own-in _ _ (c .before .before .before .before .before .pre .0) (c .before .before .before .rows .r) _ (c .before .before .rows-test .taken) (c .before .before .before .before .before .pre .1 .0) _ (c .wide .ensures))
 
--- src/support.rt:47:25
 element-copy-out-cases : tie.Need-element-copy-out-cases Inv-loop μ-loop Inv-rows μ-rows
 element-copy-out-cases c = own-in _ _ (c .before .before .before .before .before .pre .0) (c .before .before .before .rows .r) _ (c .before .before .rows-test .taken) (c .before .before .before .before .before .pre .1 .0) _ (c .wide .ensures)
 
--- src/support.rt:49:13
 add-r : tie.Need-add-r Inv-loop μ-loop Inv-rows μ-rows
 add-r c = omega arith
 
--- src/support.rt:44:5
 rows-less : tie.Need-rows-less Inv-loop μ-loop Inv-rows μ-rows
 rows-less c = omega arith
 
--- src/support.rt:44:5
 rows-again : tie.Need-rows-again Inv-loop μ-loop Inv-rows μ-rows
 rows-again c = search-on _ _ (c .before .before .before .before .before .rows .r) _ _ refl (c .before .before .before .before .before .rows .inv .1) (c .before .before .before .before .rows-test .taken)
     (row-unasked _ _ (c .before .before .before .before .before .before .before .pre .0) _ _ _ (c .before .before .before .before .rows-test .taken) (c .before .before .before .before .before .before .before .pre .1 .0) _ _ (ap (λ (x : ℕ). getD (c .before .before .before .before .before .before .before .args .need .now) x 0) (c .before .before .wide .ensures)) (c .if1 .taken))
 
--- src/support.rt:51:9
 loop-holds : tie.Need-loop-holds Inv-loop μ-loop Inv-rows μ-rows
 loop-holds c = (refl, omega arith, omega arith, narrowed-none _ _ _ _ _)
 
--- src/support.rt:53:35
 add-wide-2 : tie.Need-add-wide-2 Inv-loop μ-loop Inv-rows μ-rows
 add-wide-2 c = omega (arith, field-in _ _ (c .before .before .before .before .before .before .before .before .before .before .pre .0) (c .before .before .loop .k) (c .before .loop-test .taken), c .before .before .before .before .before .before .before .before .before .before .pre .0 .promise .short)
 
--- src/support.rt:53:35
 add-wide-3 : tie.Need-add-wide-3 Inv-loop μ-loop Inv-rows μ-rows
 add-wide-3 c = omega (arith, field-in _ _ (c .before .before .before .before .before .before .before .before .before .before .pre .0) (c .before .before .loop .k) (c .before .loop-test .taken), c .before .before .before .before .before .before .before .before .before .before .pre .0 .promise .short)
 
--- src/support.rt:53:30
 shared-slice-read-wide-2 : tie.Need-shared-slice-read-wide-2 Inv-loop μ-loop Inv-rows μ-rows
 shared-slice-read-wide-2 c = omega (arith, field-in _ _ (c .before .before .before .before .before .before .before .before .before .before .before .pre .0) (c .before .before .before .loop .k) (c .before .before .loop-test .taken))
 
--- src/support.rt:53:21
 wide-requires-2 : tie.Need-wide-requires-2 Inv-loop μ-loop Inv-rows μ-rows
 wide-requires-2 c κs = tt
 
--- src/support.rt:54:38
 add-wide-4 : tie.Need-add-wide-4 Inv-loop μ-loop Inv-rows μ-rows
 add-wide-4 c = omega (arith, row-in _ _ (c .before .before .before .before .before .before .before .before .before .before .before .before .pre .0) (c .before .before .before .before .before .before .before .before .before .before .rows .r) (c .before .before .before .before .before .before .before .before .before .rows-test .taken), c .before .before .before .before .before .before .before .before .before .before .before .before .pre .0 .promise .short)
 
--- src/support.rt:54:33
 shared-slice-read-wide-3 : tie.Need-shared-slice-read-wide-3 Inv-loop μ-loop Inv-rows μ-rows
 shared-slice-read-wide-3 c = omega (arith, row-in _ _ (c .before .before .before .before .before .before .before .before .before .before .before .before .before .pre .0) (c .before .before .before .before .before .before .before .before .before .before .before .rows .r) (c .before .before .before .before .before .before .before .before .before .before .rows-test .taken))
 
--- src/support.rt:54:21
 wide-requires-3 : tie.Need-wide-requires-3 Inv-loop μ-loop Inv-rows μ-rows
 wide-requires-3 c κs = tt
 
--- src/support.rt:55:39
 mul-cases-2 : tie.Need-mul-cases-2 Inv-loop μ-loop Inv-rows μ-rows
 mul-cases-2 c = omega (arith, word-in _ _ (c .before .before .before .before .before .before .before .before .before .before .before .before .before .before .pre .0) (c .before .before .before .before .before .before .before .before .before .before .before .before .rows .r) (c .before .before .before .before .before .before .loop .k) (c .before .before .before .before .before .before .before .before .before .before .before .rows-test .taken) (c .before .before .before .before .before .loop-test .taken) _ _ (c .before .before .wide2 .ensures) (c .wide3 .ensures))
 
--- src/support.rt:55:39
 add-cases : tie.Need-add-cases Inv-loop μ-loop Inv-rows μ-rows
 add-cases c = omega (arith, word-in _ _ (c .before .before .before .before .before .before .before .before .before .before .before .before .before .before .pre .0) (c .before .before .before .before .before .before .before .before .before .before .before .before .rows .r) (c .before .before .before .before .before .before .loop .k) (c .before .before .before .before .before .before .before .before .before .before .before .rows-test .taken) (c .before .before .before .before .before .loop-test .taken) _ _ (c .before .before .wide2 .ensures) (c .wide3 .ensures))
 
--- src/support.rt:55:33
 mul-cases-3 : tie.Need-mul-cases-3 Inv-loop μ-loop Inv-rows μ-rows
 mul-cases-3 c = omega (arith, word-in _ _ (c .before .before .before .before .before .before .before .before .before .before .before .before .before .before .pre .0) (c .before .before .before .before .before .before .before .before .before .before .before .before .rows .r) (c .before .before .before .before .before .before .loop .k) (c .before .before .before .before .before .before .before .before .before .before .before .rows-test .taken) (c .before .before .before .before .before .loop-test .taken) _ _ (c .before .before .wide2 .ensures) (c .wide3 .ensures))
 
--- src/support.rt:55:33
 element-copy-out-cases-2 : tie.Need-element-copy-out-cases-2 Inv-loop μ-loop Inv-rows μ-rows
 element-copy-out-cases-2 c = word-in _ _ (c .before .before .before .before .before .before .before .before .before .before .before .before .before .before .pre .0) (c .before .before .before .before .before .before .before .before .before .before .before .before .rows .r) (c .before .before .before .before .before .before .loop .k) (c .before .before .before .before .before .before .before .before .before .before .before .rows-test .taken) (c .before .before .before .before .before .loop-test .taken) _ _ (c .before .before .wide2 .ensures) (c .wide3 .ensures)
 
--- src/support.rt:57:21
 add-r-2 : tie.Need-add-r-2 Inv-loop μ-loop Inv-rows μ-rows
 add-r-2 c = omega arith
 
--- src/support.rt:44:5
 rows-less-2 : tie.Need-rows-less-2 Inv-loop μ-loop Inv-rows μ-rows
 rows-less-2 c = omega arith
 
--- src/support.rt:44:5
 rows-again-2 : tie.Need-rows-again-2 Inv-loop μ-loop Inv-rows μ-rows
 rows-again-2 c = search-on _ _ (c .before .before .before .before .before .before .before .before .before .before .before .before .before .before .rows .r) _ _ (c .before .before .before .before .before .before .before .before .loop .inv .0) (c .before .before .before .before .before .before .before .before .before .before .before .before .before .before .rows .inv .1) (c .before .before .before .before .before .before .before .before .before .before .before .before .before .rows-test .taken)
     (row-given-up _ _ (c .before .before .before .before .before .before .before .before .before .before .before .before .before .before .before .before .pre .0) _ _ _ (c .before .before .before .before .before .before .before .before .before .before .before .before .before .rows-test .taken) (c .before .before .before .before .before .before .before .before .before .before .before .before .before .before .before .before .pre .1 .0) _ _ (ap (λ (x : ℕ). getD (c .before .before .before .before .before .before .before .before .before .before .before .before .before .before .before .before .args .need .now) x 0) (c .before .before .before .before .before .before .before .before .before .before .before .wide .ensures)) (c .before .before .before .before .before .before .before .before .loop .k) (c .before .before .before .before .before .before .before .loop-test .taken)
     (sym (column-and _ _ (c .before .before .before .before .before .before .before .before .before .before .before .before .before .before .before .before .pre .0) _ _ _ (c .before .before .before .before .before .before .before .before .before .before .before .before .before .rows-test .taken) (c .before .before .before .before .before .before .before .before .loop .k) _ _ _ _ (c .before .before .before .before .before .before .before .loop-test .taken) (c .before .before .before .before .before .before .if2 .taken) (c .before .before .before .before .before .before .before .before .loop .inv .3) (c .before .before .before .before .wide2 .ensures) (c .before .before .wide3 .ensures)) ∙ c .if3 .taken))
 
--- src/support.rt:51:13
 add-k : tie.Need-add-k Inv-loop μ-loop Inv-rows μ-rows
 add-k c = omega arith
 
--- src/support.rt:51:9
 loop-less : tie.Need-loop-less Inv-loop μ-loop Inv-rows μ-rows
 loop-less c = omega arith
 
--- src/support.rt:51:9
 loop-again : tie.Need-loop-again Inv-loop μ-loop Inv-rows μ-rows
 loop-again c = (
   c .before .before .loop .inv .0,
@@ -154,12 +122,10 @@ loop-again c = (
       (λ w. w .1 ∙ column-skip _ _ (c .before .before .before .before .before .before .before .before .before .before .pre .0) _ _ _ (c .before .before .before .before .before .before .before .rows-test .taken) (c .before .before .loop .k) _ _ (w .0 .left) (c .before .before .loop .inv .3)) (c .if2 .came),
 )
 
--- src/support.rt:61:9
 returns : tie.Need-returns Inv-loop μ-loop Inv-rows μ-rows
 returns c = search-ends _ _ (c .before .before .before .before .before .before .before .rows .r) _ _ _ (c .before .loop .inv .0) (c .before .before .before .before .before .before .before .rows .inv .1) (c .before .before .before .before .before .before .rows-test .taken)
     (row-passed _ _ (c .before .before .before .before .before .before .before .before .before .pre .0) _ _ _ (c .before .before .before .before .before .before .rows-test .taken) (c .before .before .before .before .before .before .before .before .before .pre .1 .0) _ _ (ap (λ (x : ℕ). getD (c .before .before .before .before .before .before .before .before .before .args .need .now) x 0) (c .before .before .before .before .wide .ensures)) _ (c .before .loop .k) (c .before .loop .inv .3) (c .before .loop .inv .1) (c .loop-test .left)) (c .before .loop .inv .2)
 
--- src/support.rt:29:1
 returns-2 : tie.Need-returns-2 Inv-loop μ-loop Inv-rows μ-rows
 returns-2 c = sym (c .before .rows .inv .1 ∙ first-none _ _ _ (c .rows-test .left))
 

@@ -1,5 +1,5 @@
 -- `Sheet::alternatives` meets its contract: each way through its tests. Assumes nothing.
-use mathlib.Core.Path.{refl, _∙_}
+use mathlib.Core.Path.{_∙_}
 use Rattle.sheet.proofs.Openings.{opens-viewed, opens-ready, opens-turned}
 use Rattle.sheet.proofs.OwnCases.{passed}
 use Rattle.sheet.proofs.ListCases.{alternatives-turned, alternatives-18, alternatives-done}
