@@ -1,11 +1,8 @@
 // The refusals with which every call on a sheet and a book begins: 1 to 13 of the book, then 14 of the sheet.
 ghost use mathlib.Core.Path.{_≡_};
-ghost use Rattle.format.specs.Basics.{firstBad};
 ghost use Rattle.format.specs.Format.{bookOf};
-ghost use Rattle.consistency.specs.Counting.{allBelow};
-ghost use Rattle.consistency.specs.Consistency.{places};
 ghost use Rattle.calls.specs.Calls.{faultOf};
-ghost use Rattle.sheet.specs.Opened.{mayHold, codeCounts, holds, FieldsAt, Opens};
+ghost use Rattle.sheet.specs.Opened.{mayHold, codeCounts, FieldsAt, Opens};
 use super::Reason;
 use book::Checked;
 use book::PLACES;
@@ -43,23 +40,13 @@ fn code_counts(book: &[u8], list: usize, fields: usize) -> [u8; PLACES]
     counts
 }
 
-// Whether each place may hold what it holds. It looks at all of them in any case: without a way out of the loop many are tested at a time.
-fn all_hold(held: [u8; PLACES], counts: [u8; PLACES]) -> bool
-    ensures { λ r. ⌜ r ≡ allBelow places (holds counts held) ⌝ }
+// The first place that holds neither 255 nor a code of its field, or the number of places. The book is not looked at in the loop, so that
+// several places are tested at a time.
+pub(crate) fn first_fault(book: &[u8], list: usize, fields: usize, held: [u8; PLACES]) -> usize
+    requires { ⌜ FieldsAt (now book) list fields ⌝ }
+    ensures { λ r. ⌜ r ≡ faultOf (bookOf (now (book .entry))) held ⌝ }
 {
-    let mut faults: u8 = 0;
-    for p in 0..PLACES {
-        if !may_hold(held[p], counts[p]) {
-            faults = 1;
-        }
-    }
-    faults == 0
-}
-
-// The first place that may not, or the number of places.
-fn first_bad(held: [u8; PLACES], counts: [u8; PLACES]) -> usize
-    ensures { λ r. ⌜ r ≡ firstBad (holds counts held) 0 places ⌝ }
-{
+    let counts = code_counts(book, list, fields);
     let mut p = 0;
     while p < PLACES {
         if !may_hold(held[p], counts[p]) {
@@ -68,18 +55,6 @@ fn first_bad(held: [u8; PLACES], counts: [u8; PLACES]) -> usize
         p += 1;
     }
     p
-}
-
-// The first place that holds neither 255 nor a code of its field, or the number of places. Most sheets have none.
-pub(crate) fn first_fault(book: &[u8], list: usize, fields: usize, held: [u8; PLACES]) -> usize
-    requires { ⌜ FieldsAt (now book) list fields ⌝ }
-    ensures { λ r. ⌜ r ≡ faultOf (bookOf (now (book .entry))) held ⌝ }
-{
-    let counts = code_counts(book, list, fields);
-    if all_hold(held, counts) {
-        return PLACES;
-    }
-    first_bad(held, counts)
 }
 
 // 1 to 13, then 14.

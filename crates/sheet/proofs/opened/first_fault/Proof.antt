@@ -1,29 +1,69 @@
--- `sheet::opened::first_fault` meets its contract: no place is at fault, or the first one is looked for. Assumes nothing.
-use mathlib.Core.Path.{_≡_, _∙_}
+-- `sheet::opened::first_fault` meets its contract. The loop's invariant: the first place that fails from here on is the first at fault. Assumes nothing.
+use mathlib.Core.Path.{_≡_, sym, _∙_}
+use Prim.Native.Nat.{_≤_, _-_}
 use lib.ListN.{length}
+use borrow.Author.Tests.{not-true, not-false}
+use Rattle.format.specs.Basics.{firstBad}
 use Rattle.format.specs.Format.{bookOf}
+use Rattle.format.proofs.Scans.{bad-on, bad-here, bad-none}
 use Rattle.consistency.specs.Consistency.{places}
-use Rattle.sheet.proofs.Places.{fault-is, no-fault}
+use Rattle.calls.specs.Calls.{faultOf}
+use Rattle.sheet.specs.Opened.{holds}
+use Rattle.sheet.proofs.Places.{fault-is}
+use native.Mathlib.Omega.{arith}
 use borrow.Author.Needs.{needs}
 use Rattle.sheet.proofs.opened.first_fault.Statement.{statement}
 use Rattle.sheet.proofs.opened.first_fault.Tie as tie
 
-code-counts-requires : tie.Need-code-counts-requires
+abbrev Inv-loop : tie.InvT-loop
+Inv-loop book list fields held counts p₀ p = (p ≤ places) × (firstBad (holds counts held) p places ≡ faultOf (bookOf book) held)
+
+abbrev μ-loop : tie.MeasureT-loop
+μ-loop book list fields held counts p₀ p = places - p
+
+code-counts-requires : tie.Need-code-counts-requires Inv-loop μ-loop
 code-counts-requires c κs = search needs
 
-all-hold-requires : tie.Need-all-hold-requires
-all-hold-requires c κs = search needs
+loop-holds : tie.Need-loop-holds Inv-loop μ-loop
+loop-holds c = let long : length (c .before .before .args .t4) ≡ places = search needs in (omega arith, fault-is (c .before .before .args .t4) long (bookOf (c .before .before .args .book .now)) _ (c .code-counts .ensures))
 
-returns : tie.Need-returns
-returns c = let long : length (c .before .before .before .before .args .held) ≡ places = search needs in no-fault (c .before .before .before .before .args .held) long (bookOf (c .before .before .before .before .args .book .now)) _ (c .before .before .code-counts .ensures) _ (c .before .all-hold .ensures) (c .if1 .taken)
+array-read-may-hold : tie.Need-array-read-may-hold Inv-loop μ-loop
+array-read-may-hold c = search needs
 
-first-bad-requires : tie.Need-first-bad-requires
-first-bad-requires c κs = search needs
+array-read-may-hold-2 : tie.Need-array-read-may-hold-2 Inv-loop μ-loop
+array-read-may-hold-2 c = search needs
 
-returns-2 : tie.Need-returns-2
-returns-2 c = let long : length (c .before .before .before .before .before .args .held) ≡ places = search needs in c .first-bad .ensures ∙ fault-is (c .before .before .before .before .before .args .held) long (bookOf (c .before .before .before .before .before .args .book .now)) _ (c .before .before .before .code-counts .ensures)
+may-hold-requires : tie.Need-may-hold-requires Inv-loop μ-loop
+may-hold-requires c κs = search needs
+
+returns : tie.Need-returns Inv-loop μ-loop
+returns c = bad-here _ _ _ (c .before .before .loop-test .taken) (sym (c .before .may-hold .ensures) ∙ not-true _ (c .if1 .taken)) ∙ c .before .before .before .loop .inv .1
+
+add-p : tie.Need-add-p Inv-loop μ-loop
+add-p c = search needs
+
+loop-less : tie.Need-loop-less Inv-loop μ-loop
+loop-less c = search needs
+
+loop-again : tie.Need-loop-again Inv-loop μ-loop
+loop-again c = (omega arith, bad-on _ _ _ (c .before .before .loop-test .taken) (sym (c .before .may-hold .ensures) ∙ not-false _ (c .if1 .left)) ∙ c .before .before .before .loop .inv .1)
+
+returns-2 : tie.Need-returns-2 Inv-loop μ-loop
+returns-2 c = bad-none _ _ _ (c .loop-test .left) ∙ c .before .loop .inv .1
 
 pub first-fault-spec : {M : Type 1} → statement M
 first-fault-spec =
     tie.close
-    (tie.spec code-counts-requires all-hold-requires returns first-bad-requires returns-2)
+    (tie.spec
+    Inv-loop
+    μ-loop
+    code-counts-requires
+    loop-holds
+    array-read-may-hold
+    array-read-may-hold-2
+    may-hold-requires
+    returns
+    add-p
+    loop-less
+    loop-again
+    returns-2)
