@@ -13,6 +13,7 @@ pub mod Buffers
 pub mod Condition2
 pub mod Repeats
 pub mod Instances
+pub mod SixtyFields
 pub mod Held
 pub mod Agreement
 pub mod Stored
