@@ -1,12 +1,12 @@
--- Alike books have the same largest subdomain. Assumes nothing.
+-- Alike books have the same largest subdomain; a book of another version is alike. Assumes nothing.
 use Prim.Native.Nat.{ℕ, _<_}
-use mathlib.Core.Path.{_≡_, sym, subst}
+use mathlib.Core.Path.{_≡_, refl, sym, subst}
 use mathlib.Core.List.{List}
 use lib.ListN.{length, getD}
 use Rattle.format.specs.Format.{Table, Book}
 use Rattle.consistency.specs.Consistency.{Subdomain, Fits, nth}
 use Rattle.consistency.specs.Largest.{largest}
-use Rattle.consistency.specs.Alike.{AlikeTables, Alike}
+use Rattle.consistency.specs.Alike.{AlikeTables, Alike, VersionsAlike}
 use Rattle.consistency.proofs.Largest.{largest-is, largest-unique}
 use Rattle.consistency.proofs.Tables.{supported-moves}
 
@@ -50,3 +50,17 @@ alike-largest {b} {d} p a =
       has-all = λ R r. largest-is b a .has-all R (alike-fits (alike-sym p) r);
     })
     (largest-is d a)
+
+-- each table stands where it stood
+pub versions-alike : VersionsAlike
+versions-alike b v =
+    record {
+      same-counts = refl;
+      to = λ i. i;
+      from = λ i. i;
+      to-in = λ i l. l;
+      from-in = λ i l. l;
+      from-to = λ i l. refl;
+      to-from = λ i l. refl;
+      pairs = λ i l. record { same-fields = refl; there = λ r m. (r, m, refl); back = λ r m. (r, m, refl) };
+    }

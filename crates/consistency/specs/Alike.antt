@@ -1,4 +1,5 @@
--- Document 01, "The book's bytes": when two books are alike, and that a row repeated has no further effect. Assumes nothing.
+-- Document 01, "The book's bytes": when two books are alike, that a row repeated has no further effect, and that nor has the version.
+-- Assumes nothing.
 use Prim.Native.Nat.{ℕ, zero, suc, _<_}
 use mathlib.Core.Path.{_≡_}
 use mathlib.Core.Logic.{_≢_}
@@ -61,3 +62,13 @@ pub record WithoutEffect (b : Book) (i r : ℕ) : Type 0 where
 
 abbrev pub NoFurtherEffect : Type 0
 NoFurtherEffect = (b : Book) (i r : ℕ) → Repeated b i r → WithoutEffect b i r
+
+-- ---- Request M-103: "All that is promised holds for both versions"
+
+-- b, but of version v
+abbrev pub ofVersion : ℕ → Book → Book
+ofVersion v b = record { version = v; counts = b .counts; tables = b .tables }
+
+-- a book is alike to the same book of another version: what alike books share, the two share
+abbrev pub VersionsAlike : Type 0
+VersionsAlike = (b : Book) (v : ℕ) → Alike b (ofVersion v b)
