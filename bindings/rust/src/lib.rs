@@ -177,8 +177,8 @@ pub fn show(book: &[u8], out: &mut [u16]) -> Result<u64, Refusal> {
 }
 
 /// Writes the bytes of the book that a listing says, and answers how many they are. It is the way back from [`show`]: writing what a
-/// book shows gives the book's bytes, and the bytes written show the listing. Refusals: 20, also for a listing that ends without a
-/// version, 18.
+/// book shows gives the book's bytes, and the bytes written show the listing. One that ends without a version is refused by 20.
+/// Refusals: 20, 18.
 pub fn write(listing: &[u16], out: &mut [u8]) -> Result<u64, Refusal> {
     let mut cells = [0; 2];
     // SAFETY: each pointer has its slice's length beside it; two cells are lent.

@@ -27,6 +27,13 @@ pub const PLACES: usize = 60;
 // The most codes of a field.
 pub const CODES: usize = 32;
 
+// The most tables, the most fields of a table, and the most rows of all tables together.
+pub const TABLE_LIMIT: usize = 64;
+
+pub const ARITY_LIMIT: usize = 4;
+
+pub const ROW_LIMIT: usize = 4096;
+
 // Why bytes are no book. numberOf (specs) gives each kind document 01's number.
 pub enum Refusal {
     Length,

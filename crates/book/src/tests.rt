@@ -6,21 +6,18 @@ ghost use Rattle.format.specs.Format as format;
 ghost use Rattle.format.specs.Reading.{trailerVerdict, listTest, rowsStep, tableStep, tablesStep};
 ghost use Rattle.book.specs.Shown.{verdictOf, stepOf};
 ghost use Rattle.book.specs.Bounds.{BodyFits, HeadFits};
+use super::ARITY_LIMIT;
 use super::CLOSING_BYTE;
 use super::FIELDS_OF_VERSION_1;
 use super::PLACES;
+use super::ROW_LIMIT;
 use super::Refusal;
+use super::TABLE_LIMIT;
 use super::bytes::byte;
 use super::bytes::pair;
 use super::scans;
 
 const LENGTH_LIMIT: usize = 32768;
-
-const TABLE_LIMIT: usize = 64;
-
-const ARITY_LIMIT: usize = 4;
-
-const ROW_LIMIT: usize = 4096;
 
 // A test's answer.
 pub(crate) enum Test {

@@ -32,9 +32,13 @@ done counts s o = record { outcome = accepted counts; sheet = s; buffer = o }
 abbrev pub beside : List ℕ → Reply → Result
 beside s r = record { outcome = r .outcome; sheet = s; buffer = r .buffer }
 
+-- a place may hold this byte, if its field has k codes: 255 or one of them
+abbrev pub mayHold : ℕ → ℕ → Bool
+mayHold x k = eqb x 255 || ltb x k
+
 -- 14: a place holds 255 or a code of its field; "a later place" has no field, so no code
 abbrev pub placeOk : Book → List ℕ → ℕ → Bool
-placeOk b s p = eqb (getD s p 255) 255 || ltb (getD s p 255) (codes b p)
+placeOk b s p = mayHold (getD s p 255) (codes b p)
 
 -- "the first field at fault", or the number of places
 abbrev pub faultOf : Book → List ℕ → ℕ

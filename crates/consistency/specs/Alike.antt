@@ -1,5 +1,5 @@
--- Document 01, "The book's bytes": when two books are alike, that a row repeated has no further effect, and that nor has the version.
--- Assumes nothing.
+-- Document 01, "The book's bytes": when two books are alike, that a row repeated has no further effect, and that books which
+-- differ in their version alone are alike. Assumes nothing.
 use Prim.Native.Nat.{ℕ, zero, suc, _<_}
 use mathlib.Core.Path.{_≡_}
 use mathlib.Core.Logic.{_≢_}

@@ -15,6 +15,7 @@ use super::start::clear;
 use super::start::own_cases;
 use super::start::start;
 use book::PLACES;
+use book::TABLE_LIMIT;
 
 // Filters the cases that own and all say, all at once: the marks of each, and how many are struck. The words lent are 0, so that those of
 // places that the book lacks need not be visited.
@@ -32,7 +33,7 @@ fn run(
     ensures { λ r. ⌜ Ran (bookOf (now (bytes .entry))) (now (answers .entry)) (now (own .entry)) all (now (marks .exit)) r ⌝ }
 {
     let mut watch = [0u64; PLACES];
-    let mut places = [0usize; 64];
+    let mut places = [0usize; TABLE_LIMIT];
     survey(bytes, &mut watch, &mut places, tables);
     let begun = start(bytes, *answers, own, all, marks, list, fields);
     let queue = first_tables(tables);

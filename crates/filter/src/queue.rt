@@ -9,6 +9,7 @@ use super::WORDS;
 use super::revise::sweep;
 use super::support::wide;
 use book::PLACES;
+use book::TABLE_LIMIT;
 
 // Adds table i, which stands at `at`, to the words of its fields.
 fn watch_table(book: &[u8], watch: &mut [u64; PLACES], at: usize, arity: usize, i: usize)
@@ -25,7 +26,7 @@ fn watch_table(book: &[u8], watch: &mut [u64; PLACES], at: usize, arity: usize, 
 pub(crate) fn survey(
     book: &[u8],
     watch: &mut [u64; PLACES],
-    places: &mut [usize; 64],
+    places: &mut [usize; TABLE_LIMIT],
     tables: usize,
 )
     requires { ⌜ SurveyGiven (now book) (now watch) (now places) tables ⌝ }
@@ -78,7 +79,7 @@ pub(crate) fn propagate(
     book: &[u8],
     marks: &mut [u64; WORDS],
     watch: &[u64; PLACES],
-    places: &[usize; 64],
+    places: &[usize; TABLE_LIMIT],
     list: usize,
     s: u32,
     queue: u64,

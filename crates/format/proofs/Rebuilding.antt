@@ -83,7 +83,7 @@ module _ (l : List ℕ) where
 
   module _ (whole : listingEnd l ≡ length l) where
     -- it has room for the numbers of fields and tables
-    pub head-within : 2 + fieldsIn l ≤ length l
+    head-within : 2 + fieldsIn l ≤ length l
     head-within = omega (arith, ends-rise (tableCountIn l) (firstTable l))
 
     pub counts-length : length (bookIn l .counts) ≡ fieldsIn l

@@ -1,4 +1,4 @@
--- Document 01, "Examples to hold": the books. Assumes nothing.
+-- Document 01, "Examples to hold": the books; E1's listing; and books of fields alone, for the limits of request M-103. Assumes nothing.
 use Prim.Native.Nat.{ℕ}
 use mathlib.Core.List.{List, [], _∷_, _++_}
 use lib.ListN.{replicate}

@@ -1,4 +1,5 @@
--- Requests M-100 and M-103: what is promised of writing and showing together, for books of both versions. The statement; proofs/WriteAndShow.antt has its proof. Assumes nothing.
+-- Requests M-100 and M-103: what is promised of writing and showing together, for books of both versions. The statement;
+-- proofs/WriteAndShow.antt has its proof. Assumes nothing.
 use Prim.Native.Nat.{ℕ, _≤_, _<_}
 use mathlib.Core.Path.{_≡_}
 use mathlib.Core.Logic.{_≢_, _↔_}

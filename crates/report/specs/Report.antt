@@ -31,7 +31,7 @@ OpenLinesAre = (b : Book) (s : List ℕ) → ShowsOpen b s (openLines b s)
 abbrev pub TotalIsLines : Type 0
 TotalIsLines = (b : Book) (s : List ℕ) → total b s ≡ length (lines b s)
 
--- the most bytes of a text: "book 60 64 4096 4096", "sheet 60 1920 117120", and 1,920 lines such as "open 59 31", each with its newline
+-- a line such as "book 60 64 4096 4096", one such as "sheet 60 1920 117120", and 1,920 such as "open 59 31", each with its newline
 abbrev pub textLimit : ℕ
 textLimit = 21 + 21 + 11 * (places * codeLimit)
 

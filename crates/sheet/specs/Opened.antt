@@ -1,34 +1,30 @@
 -- Refusals 1 to 14, with which every call on a sheet and a book begins, and what the code finds in their place. Assumes nothing.
 use Prim.Native.Nat.{ℕ}
 use mathlib.Core.Path.{_≡_}
-use mathlib.Core.Bool.{Bool, _||_}
+use mathlib.Core.Bool.{Bool}
 use mathlib.Core.List.{List}
 use lib.ListN.{getD}
-use lib.Dec.{ltb, eqb}
+use lib.Dec.{ltb}
 use Rattle.format.specs.Basics.{pick}
 use Rattle.format.specs.Format.{Book, listPlace, fieldCount, bookOf}
 use Rattle.format.specs.Reading.{Verdict, pass, fail, andThen, verdict}
 use Rattle.book.specs.View.{Viewed}
 use Rattle.consistency.specs.Counting.{tabulate}
 use Rattle.consistency.specs.Consistency.{places, codes}
-use Rattle.calls.specs.Calls.{faultOf}
+use Rattle.calls.specs.Calls.{mayHold, faultOf}
 use Rattle.sheet.specs.Shown.{numberOf}
 use Rattle.sheet.specs.declared.opened.Opened.{Opened}
 use Rattle.sheet.specs.declared.opened.Opened.the-variants.{Ready, Turned}
 
 -- ---- 14, place by place
 
--- a place may hold this byte, if its field has k codes: 255 or one of them
-abbrev pub mayHold : ℕ → ℕ → Bool
-mayHold x k = eqb x 255 || ltb x k
-
 -- the number of codes of each place's field; a place without one has none
 abbrev pub codeCounts : Book → List ℕ
 codeCounts b = tabulate (codes b) places 0
 
--- place p of the sheet s may hold what it holds
-abbrev pub holds : List ℕ → List ℕ → ℕ → Bool
-holds counts s p = mayHold (getD s p 0) (getD counts p 0)
+-- place p of the sheet s may hold what it holds, by these numbers of codes
+abbrev pub heldOk : List ℕ → List ℕ → ℕ → Bool
+heldOk counts s p = mayHold (getD s p 0) (getD counts p 0)
 
 -- where fault is the first place at fault, or the number of places
 abbrev pub faultTest : ℕ → Verdict

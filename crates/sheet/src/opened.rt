@@ -1,8 +1,8 @@
 // The refusals with which every call on a sheet and a book begins: 1 to 13 of the book, then 14 of the sheet.
 ghost use mathlib.Core.Path.{_≡_};
 ghost use Rattle.format.specs.Format.{bookOf};
-ghost use Rattle.calls.specs.Calls.{faultOf};
-ghost use Rattle.sheet.specs.Opened.{mayHold, codeCounts, FieldsAt, Opens};
+ghost use Rattle.calls.specs.Calls.{mayHold, faultOf};
+ghost use Rattle.sheet.specs.Opened.{codeCounts, FieldsAt, Opens};
 use super::Reason;
 use book::Checked;
 use book::PLACES;

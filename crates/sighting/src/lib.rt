@@ -1,5 +1,5 @@
 // The library for other languages: each call of the crates below, exported with numbers, slices and arrays alone.
-// A sheet is an array of 60 bytes. A call that changes answers writes it whole with the sheet that it hands back; one that hands it back as
+// A sheet is an array of a byte for each place. A call that changes answers writes it whole with the sheet that it hands back; one that hands it back as
 // given only reads it, so that it may be shared. A call returns its outcome's number, 0 where it is accepted, and writes the place and the
 // counts into the cells lent for them. A field or a code is any number: one that the book lacks has its refusal.
 ghost use mathlib.Core.Path.{_≡_};

@@ -15,9 +15,13 @@ rowWord r = getD r 0 0 * 16777216 + getD r 1 0 * 65536 + getD r 2 0 * 256 + getD
 abbrev pub wordsAt : List ℕ → ℕ → ℕ → ℕ → List ℕ
 wordsAt s a p n = map rowWord (rowsAt s a p n)
 
--- the bits of the word that a codes take
+-- the bits of a word
+abbrev pub wordBits : ℕ
+wordBits = 32
+
+-- those that a codes take
 abbrev pub mask : ℕ → ℕ
-mask a = 4294967296 - 2 ^ (32 - 8 * a)
+mask a = 4294967296 - 2 ^ (wordBits - 8 * a)
 
 -- rows j and k are equal exactly when their words are
 abbrev pub SameWords : List (List ℕ) → ℕ → ℕ → Type 0

@@ -106,14 +106,10 @@ module _ {M : Type 1} (𝓤 : URA M) (H : Heap 𝓤) (A : Atoms 𝓤) (W : Given
   abbrev Typed : Type 0
   Typed = Holds (hasTy (T′.mir (named 0)) mach) × WT mach
 
-  -- what the contract asks
-  abbrev Asked : Type 0
-  Asked = Viewed (d .bytes .now) (d .list) (d .fields) (d .tables) (d .rows)
-
   -- what the parameters own gives what the callee asks, and what is kept
-  apart : Typed → Asked
+  apart : Typed → Viewed (d .bytes .now) (d .list) (d .fields) (d .tables) (d .rows)
       → ent 𝓤 (onEntry 𝓤 H A one-pass-over.signature κs qs a at) (mean 𝓤 H A (raw (AllCases 𝓤 H A mem run .pre to) ⊛ Kept))
-  apart wt asked =
+  apart wt viewed =
       qed W (raw Tokens ∷ ‵ (owns (Viewing (κs .0) ∷ Answers (κs .1 .0) ∷ Marks (κs .1 .1 .0) ∷ []) a at) ∷ []) ∵
       move ! (1 ∷ []) $ fsplit ! $ use1 W (‵ (Bytes (κs .0) .own (d .bytes) (slice (d .bytes) ∷ [])) ⊛ ‵ (Viewing (κs .0) .own d (mach ∷ []))) (bytes-out 𝓤 H A W (κs .0) d) $ split ! $
       move ! (2 ∷ []) $ fsplit ! $ use1 W (‵ OwnX ⊛ ‵ OwnX) (shr-copy 𝓤 H A W (named 1) (κs .1 .0) (Array u8 places) .twice x (pointer x ∷ [])) $ split ! $
@@ -121,7 +117,7 @@ module _ {M : Type 1} (𝓤 : URA M) (H : Heap 𝓤) (A : Atoms 𝓤) (W : Given
       move ! (0 ∷ 2 ∷ []) $ fjoin ! $ number ! (d .tables) (wt .1 .1 .1 .1 .0 .fits) $ number ! (d .fields) (wt .1 .1 .1 .0 .fits) $ number ! (d .list) (wt .1 .1 .0 .fits) $ move ! (2 ∷ 0 ∷ []) $ fjoin ! $
       -- [what the callee's parameters own; what the answers own; what the view owns; the tokens]
       move ! (3 ∷ 0 ∷ []) $ use2 W (raw (AllCases 𝓤 H A mem run .pre to))
-      (qed W (raw Tokens ∷ ‵ (owns (Bytes (κs .0) ∷ usize ∷ usize ∷ usize ∷ Answers (κs .1 .0) ∷ Marks (κs .1 .1 .0) ∷ []) parts at-parts) ∷ []) ∵ says ! (asked .numbers) $ frame ! $ done !) $
+      (qed W (raw Tokens ∷ ‵ (owns (Bytes (κs .0) ∷ usize ∷ usize ∷ usize ∷ Answers (κs .1 .0) ∷ Marks (κs .1 .1 .0) ∷ []) parts at-parts) ∷ []) ∵ says ! (viewed .numbers) $ frame ! $ done !) $
       frame ! $ move ! (1 ∷ 0 ∷ []) $ done !
 
   -- the two clauses, and what says the last marks
@@ -141,9 +137,9 @@ module _ {M : Type 1} (𝓤 : URA M) (H : Heap 𝓤) (A : Atoms 𝓤) (W : Given
       says-both ! m e $ frame ! $ split ! $ move ! (1 ∷ 2 ∷ []) $ fjoin ! $ move ! (1 ∷ 0 ∷ []) $ fjoin ! $ done !
 
   module _ (C : Calls 𝓤 H) (Λ : Loops 𝓤 H) (fm : FmC 𝓤 H (W .laws) C) (known : Triple 𝓤 (C #filter·pass·all-cases) (AllCases 𝓤 H A mem run)) where
-    walk : Typed → Asked
+    walk : Typed → Viewed (d .bytes .now) (d .list) (d .fields) (d .tables) (d .rows)
         → ent 𝓤 (onEntry 𝓤 H A one-pass-over.signature κs qs a at) (WpFn 𝓤 H C Λ code.function (mach ∷ pointer x ∷ pointer y ∷ []) Post)
-    walk wt asked =
+    walk wt viewed =
         qed W (raw (onEntry 𝓤 H A one-pass-over.signature κs qs a at) ∷ []) ∵ enter ! C Λ code.function (mach ∷ pointer x ∷ pointer y ∷ []) _ $
         alloc1 ! (λ l₀. alloc1 ! (λ l₁. alloc1 ! (λ l₂. alloc1 ! (λ l₃. alloc1 ! (λ l₄. alloc1 ! (λ l₅. alloc1 ! (λ l₆. alloc1 ! (λ l₇. alloc1 ! (λ l₈. alloc0 ! $ params1 ! $
         pass1 ! (init ! 14 refl wt) $ pass1 ! (init ! 12 refl (tt, tt)) $ pass1 ! (init ! 10 refl (tt, tt)) $ pass0 ! $
@@ -153,7 +149,7 @@ module _ {M : Type 1} (𝓤 : URA M) (H : Heap 𝓤) (A : Atoms 𝓤) (W : Given
         assigns ! (of-opd ! (load ! (from ! (fld ! refl (stop !))) (look-in ! 14 (sub ! 2 refl (whole !))))) (from ! (stop !)) (init ! 4 refl (tt, wt .1 .1 .1 .0)) $
         assigns ! (of-opd ! (load ! (from ! (fld ! refl (stop !))) (look-in ! 14 (sub ! 3 refl (whole !))))) (from ! (stop !)) (init ! 2 refl (tt, wt .1 .1 .1 .1 .0)) $
         assigns ! (addr ! (from ! (hop ! (look-in ! 10 (whole !)) (stop !)))) (from ! (stop !)) (init ! 0 refl (tt, tt)) $
-        move ! (18 ∷ []) $ use1 W (raw (AllCases 𝓤 H A mem run .pre to) ⊛ Kept) (apart wt asked) $ split ! $
+        move ! (18 ∷ []) $ use1 W (raw (AllCases 𝓤 H A mem run .pre to) ⊛ Kept) (apart wt viewed) $ split ! $
         -- [what the callee asks; what is kept; _8; …]
         calls-at ! fm (AllCases 𝓤 H A mem run) known to (arg ! 10 refl (arg ! 8 refl (arg ! 6 refl (arg ! 4 refl (arg ! 14 refl (arg ! 2 refl (no-more !))))))) (λ u.
         use1 W (later (some (λ (r : ℕ). (raw Tokens ⊛ ‵ (u32 .own r (u ∷ []))) ⊛ raw (ensured 𝓤 H A all-cases.ended (all-cases.clauses 𝓤 H A mem run) κs parts tt r)))) (id⊢ 𝓤 _) $ await ! tt $ pick ! (λ r.

@@ -8,7 +8,7 @@ use Rattle.format.specs.Format.{bookOf}
 use Rattle.format.proofs.Scans.{bad-on, bad-here, bad-none}
 use Rattle.consistency.specs.Consistency.{places}
 use Rattle.calls.specs.Calls.{faultOf}
-use Rattle.sheet.specs.Opened.{holds}
+use Rattle.sheet.specs.Opened.{heldOk}
 use Rattle.sheet.proofs.Places.{fault-is}
 use native.Mathlib.Omega.{arith}
 use borrow.Author.Needs.{needs}
@@ -16,7 +16,7 @@ use Rattle.sheet.proofs.opened.first_fault.Statement.{statement}
 use Rattle.sheet.proofs.opened.first_fault.Tie as tie
 
 abbrev Inv-loop : tie.InvT-loop
-Inv-loop book list fields held counts p₀ p = (p ≤ places) × (firstBad (holds counts held) p places ≡ faultOf (bookOf book) held)
+Inv-loop book list fields held counts p₀ p = (p ≤ places) × (firstBad (heldOk counts held) p places ≡ faultOf (bookOf book) held)
 
 abbrev μ-loop : tie.MeasureT-loop
 μ-loop book list fields held counts p₀ p = places - p
