@@ -10,14 +10,16 @@
 static const uint8_t book[] = {2, 0, 2, 4, 0, 0, 0, 0, 1, 1, 2, 0, 1, 2, 1, 2, 4, 0, 0, 0,
                                1, 1, 1, 2, 2, 2, 2, 3, 3, 0x1A, 0, 3, 2, 1, 0xE5};
 static const uint8_t form[] = {0, 1, SIGHTING_NO_ANSWER};
-static const uint8_t answered[SIGHTING_SHEET_BYTES] = {0,   1,   255, 255, 255, 255, 255, 255, 255, 255, 255, 255, 255, 255, 255, 255,
-                                                       255, 255, 255, 255, 255, 255, 255, 255, 255, 255, 255, 255, 255, 255, 255, 255};
+static const uint8_t answered[SIGHTING_SHEET_BYTES] = {
+    0,   1,   255, 255, 255, 255, 255, 255, 255, 255, 255, 255, 255, 255, 255, 255, 255, 255, 255, 255,
+    255, 255, 255, 255, 255, 255, 255, 255, 255, 255, 255, 255, 255, 255, 255, 255, 255, 255, 255, 255,
+    255, 255, 255, 255, 255, 255, 255, 255, 255, 255, 255, 255, 255, 255, 255, 255, 255, 255, 255, 255};
 
 static int differences = 0;
 
 static void expect(const char *what, uint64_t expected, uint64_t got) {
     if (expected == got) return;
-    fprintf(stderr, "%s: expected %d, got %d\n", what, (int)expected, (int)got);
+    fprintf(stderr, "%s: expected %lu, got %lu\n", what, (unsigned long)expected, (unsigned long)got);
     differences++;
 }
 
@@ -60,17 +62,19 @@ static void report_outcome(void) {
     expect("length in the refusal", 0, outcome[1]);
 }
 
-/* The longest listing: 32 fields of 32 codes; 64 tables of 64 rows on four fields, each code as large as it may be. */
-static size_t longest(uint16_t *listing) {
+/* A version's longest listing: all its fields with 32 codes; 64 tables of 64 rows on four fields, each code as large as may be. */
+static size_t longest(uint16_t *listing, int version, int fields) {
     size_t n = 0;
-    for (int i = 0; i < 33; i++) listing[n++] = 32;
+    listing[n++] = (uint16_t)fields;
+    for (int field = 0; field < fields; field++) listing[n++] = 32;
     listing[n++] = 64;
     for (int table = 0; table < 64; table++) {
         listing[n++] = 4;
-        for (int field = 0; field < 4; field++) listing[n++] = (uint16_t)(28 + field);
+        for (int field = fields - 4; field < fields; field++) listing[n++] = (uint16_t)field;
         listing[n++] = 64;
         for (int code = 0; code < 256; code++) listing[n++] = 31;
     }
+    listing[n++] = (uint16_t)version;
     return n;
 }
 
@@ -79,7 +83,7 @@ static void longest_listing(void) {
     static uint16_t listing[SIGHTING_LISTING_NUMBERS], shown[SIGHTING_LISTING_NUMBERS];
     static uint8_t written[SIGHTING_BOOK_BYTES];
     uint64_t outcome[2] = {7, 7};
-    expect("numbers of the longest listing", SIGHTING_LISTING_NUMBERS, longest(listing));
+    expect("numbers of the longest listing", SIGHTING_LISTING_NUMBERS, longest(listing, 2, 60));
     expect("write one byte short", 18, sighting_write(listing, SIGHTING_LISTING_NUMBERS, written, SIGHTING_BOOK_BYTES - 1, outcome));
     expect("bytes told by 18", 0, outcome[1]);
     expect("the byte lent first", 0, written[0]);
@@ -95,9 +99,25 @@ static void longest_listing(void) {
     expect("the listing that was written", 0, (uint64_t)(memcmp(listing, shown, sizeof shown) != 0));
 }
 
-/* A listing of no numbers, also beside a buffer of no bytes; one that lies in read-only memory; one number too many. */
+/* Version 1's longest listing and book, in the memory that version 2's take; with a field more it is no book. */
+static void longest_listing_of_version_1(void) {
+    static uint16_t listing[SIGHTING_LISTING_NUMBERS], shown[SIGHTING_LISTING_NUMBERS];
+    static uint8_t written[SIGHTING_BOOK_BYTES];
+    uint64_t outcome[2] = {7, 7};
+    size_t numbers = longest(listing, 1, 33);
+    expect("write 33 fields of version 1", 20, sighting_write(listing, numbers, written, SIGHTING_BOOK_BYTES, outcome));
+    numbers = longest(listing, 1, 32);
+    expect("numbers of version 1", 16803, numbers);
+    expect("write version 1", 0, sighting_write(listing, numbers, written, SIGHTING_BOOK_BYTES, outcome));
+    expect("bytes of version 1", 16870, outcome[1]);
+    expect("show version 1", 0, sighting_show(written, 16870, shown, SIGHTING_LISTING_NUMBERS, outcome));
+    expect("numbers shown of version 1", numbers, outcome[1]);
+    expect("the listing of version 1", 0, (uint64_t)(memcmp(listing, shown, numbers * sizeof *listing) != 0));
+}
+
+/* A listing of no numbers, also beside a buffer of no bytes; one in read-only memory; one number too many; no version. */
 static void short_listings(void) {
-    static const uint16_t least[] = {1, 32, 0, 0};
+    static const uint16_t least[] = {1, 32, 0, 1, 1};
     static const uint8_t least_book[] = {32, 0, 0, 1, 0, 1, 0xE5};
     uint8_t written[8] = {9, 9, 9, 9, 9, 9, 9, 9};
     uint64_t outcome[2] = {7, 7};
@@ -105,11 +125,11 @@ static void short_listings(void) {
     expect("place of 20", 0, outcome[0]);
     expect("bytes told by 20", 0, outcome[1]);
     expect("write no numbers to no bytes", 20, sighting_write(least, 0, written, 0, outcome));
-    expect("write one number too many", 20, sighting_write(least, 4, written, sizeof written, outcome));
-    expect("write one number too few", 20, sighting_write(least, 2, written, sizeof written, outcome));
+    expect("write one number too many", 20, sighting_write(least, 5, written, sizeof written, outcome));
+    expect("write no version", 20, sighting_write(least, 3, written, sizeof written, outcome));
     expect("the byte lent first stays", 9, written[0]);
-    expect("write the least book to no bytes", 18, sighting_write(least, 3, written, 0, outcome));
-    expect("write the least book", 0, sighting_write(least, 3, written, sizeof written, outcome));
+    expect("write the least book to no bytes", 18, sighting_write(least, 4, written, 0, outcome));
+    expect("write the least book", 0, sighting_write(least, 4, written, sizeof written, outcome));
     expect("bytes of the least book", sizeof least_book, outcome[1]);
     expect("the least book", 0, (uint64_t)(memcmp(written, least_book, sizeof least_book) != 0));
     expect("the byte behind it", 9, written[7]);
@@ -127,11 +147,66 @@ static void refused_show(void) {
     expect("the number lent stays", 9, shown[0]);
 }
 
+/* A book of version 2: 60 fields of 32 codes, and no table. */
+static size_t sixty(uint8_t *bytes) {
+    static const uint8_t trailer[] = {0, 0, 60, 0, 2, 0xE5};
+    memset(bytes, 32, 60);
+    memcpy(bytes + 60, trailer, sizeof trailer);
+    return 60 + sizeof trailer;
+}
+
+/* All fields answered by their last code: the header's lengths suffice, and one element less is refused by 18. */
+static void sixty_fields(void) {
+    uint8_t bytes[66], sheet[SIGHTING_SHEET_BYTES], pairs[SIGHTING_PAIRS_BYTES];
+    uint32_t numbers[SIGHTING_NUMBERS];
+    uint64_t place[1], found[3];
+    size_t length = sixty(bytes);
+    sighting_fresh(sheet);
+    for (size_t field = 0; field < 60; field++) expect("enter", 0, sighting_enter(sheet, bytes, length, field, 31, place));
+    expect("enter field 60", 15, sighting_enter(sheet, bytes, length, 60, 31, place));
+    expect("alternatives of 60 fields", 0, sighting_alternatives(sheet, bytes, length, pairs, sizeof pairs, found));
+    expect("total of 60 fields", 1920, found[1]);
+    expect("struck of 60 fields", 111600, found[2]);
+    expect("the last field listed", 59, pairs[sizeof pairs - 2]);
+    expect("the last code listed", 31, pairs[sizeof pairs - 1]);
+    expect("alternatives one byte short", 18, sighting_alternatives(sheet, bytes, length, pairs, sizeof pairs - 1, found));
+    expect("filter with field 59 relaxed", 0, sighting_filtered(sheet, bytes, length, 59, numbers, SIGHTING_NUMBERS, place));
+    expect("the codes of field 59", UINT32_MAX, numbers[59]);
+    expect("the code of field 58", (uint32_t)1 << 31, numbers[58]);
+    expect("filter one number short", 18, sighting_filtered(sheet, bytes, length, 59, numbers, SIGHTING_NUMBERS - 1, place));
+    expect("withdraw field 59", 0, sighting_withdraw(sheet, bytes, length, 59, place));
+    expect("withdraw it again", 17, sighting_withdraw(sheet, bytes, length, 59, place));
+}
+
+/* Stored sheets of 59, 60 and 61 bytes for 60 fields; a fault at the last place, for either version. */
+static void sixty_places(void) {
+    uint8_t bytes[66], sheet[SIGHTING_SHEET_BYTES], stored[SIGHTING_STORED_BYTES + 1];
+    uint64_t place[1];
+    size_t length = sixty(bytes);
+    memset(stored, 31, sizeof stored);
+    expect("load 61 bytes", 19, sighting_load(sheet, bytes, length, stored, 61, place));
+    expect("load 59 bytes", 19, sighting_load(sheet, bytes, length, stored, 59, place));
+    expect("the last place of a refused load", SIGHTING_NO_ANSWER, sheet[59]);
+    expect("load 60 bytes", 0, sighting_load(sheet, bytes, length, stored, 60, place));
+    expect("the last place loaded", 31, sheet[59]);
+    expect("store to 59 bytes", 18, sighting_store(sheet, bytes, length, stored, 59, place));
+    expect("store to 61 bytes", 0, sighting_store(sheet, bytes, length, stored, 61, place));
+    sighting_clear(sheet);
+    sheet[59] = 32;
+    expect("a fault at place 59", 14, sighting_store(sheet, bytes, length, stored, 60, place));
+    expect("its place", 59, place[0]);
+    expect("the same for a book of version 1", 14, sighting_store(sheet, book, sizeof book, stored, 60, place));
+    expect("its place for version 1", 59, place[0]);
+}
+
 int main(void) {
     wide_numbers();
     read_only_sheet();
     report_outcome();
+    sixty_fields();
+    sixty_places();
     longest_listing();
+    longest_listing_of_version_1();
     short_listings();
     refused_show();
     return differences;

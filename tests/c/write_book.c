@@ -4,7 +4,8 @@
 
 static const uint16_t listing[] = {3, 2, 3, 3, 2,                       /* three fields and the codes of each; two tables */
                                    2, 0, 2, 4, 0, 0, 0, 1, 1, 2, 0, 1,  /* two fields, 0 and 2; four rows */
-                                   2, 1, 2, 4, 0, 0, 1, 1, 1, 2, 2, 2}; /* two fields, 1 and 2; four rows */
+                                   2, 1, 2, 4, 0, 0, 1, 1, 1, 2, 2, 2,  /* two fields, 1 and 2; four rows */
+                                   1};                                  /* version */
 
 int main(void) {
     static uint8_t book[SIGHTING_BOOK_BYTES];

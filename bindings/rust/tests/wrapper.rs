@@ -1,14 +1,14 @@
 //! What the wrapper adds to the library: its types, and what it does with numbers and buffers.
 
 use sighting::{read, report, show, write, Alternatives, Call, Refusal, Sheet};
-use sighting::{BOOK_BYTES, LISTING_NUMBERS, NO_ANSWER, NUMBERS, PAIRS_BYTES, REPORT_BYTES, STORED_BYTES};
+use sighting::{BOOK_BYTES, LISTING_NUMBERS, NO_ANSWER, NUMBERS, PAIRS_BYTES, REPORT_BYTES, SHEET_BYTES, STORED_BYTES};
 
 /// Example E1: three fields of 2, 3 and 3 codes, and two tables.
 const BOOK: [u8; 35] =
     [2, 0, 2, 4, 0, 0, 0, 0, 1, 1, 2, 0, 1, 2, 1, 2, 4, 0, 0, 0, 1, 1, 1, 2, 2, 2, 2, 3, 3, 0x1A, 0, 3, 2, 1, 0xE5];
 
 /// E1's listing.
-const LISTING: [u16; 29] = [3, 2, 3, 3, 2, 2, 0, 2, 4, 0, 0, 0, 1, 1, 2, 0, 1, 2, 1, 2, 4, 0, 0, 1, 1, 1, 2, 2, 2];
+const LISTING: [u16; 30] = [3, 2, 3, 3, 2, 2, 0, 2, 4, 0, 0, 0, 1, 1, 2, 0, 1, 2, 1, 2, 4, 0, 0, 1, 1, 1, 2, 2, 2, 1];
 
 const NO_FIELD: Refusal = Refusal { number: 15, place: 0 };
 const NO_CODE: Refusal = Refusal { number: 16, place: 0 };
@@ -126,14 +126,18 @@ fn shown(book: &[u8]) -> Result<Vec<u16>, Refusal> {
 #[test]
 fn every_example_is_shown_and_written() {
     let e4_table = |f, g| [2, f, g, 2, 0, 1, 1, 0];
-    let e4 = [&[3, 2, 2, 2, 3][..], &e4_table(0, 1), &e4_table(0, 2), &e4_table(1, 2)].concat();
+    let e4 = [&[3, 2, 2, 2, 3][..], &e4_table(0, 1), &e4_table(0, 2), &e4_table(1, 2), &[1]].concat();
     let e4_bytes = |f, g| [2, f, g, 2, 0, 0, 1, 1, 0];
     let e4_book = [&e4_bytes(0, 1)[..], &e4_bytes(0, 2), &e4_bytes(1, 2), &[2, 2, 2, 27, 0, 3, 3, 1, 0xE5]].concat();
     let e6_book = vec![1, 1, 0, 0, 2, 2, 4, 0, 2, 1, 1, 0xE5];
     let e7_book = vec![1, 0, 0, 1, 0, 1, 0xE5];
-    for (listing, book) in
-        [(LISTING.to_vec(), BOOK.to_vec()), (e4, e4_book), (vec![2, 2, 2, 1, 1, 1, 0], e6_book), (vec![1, 1, 0], e7_book.clone())]
-    {
+    let (e6, e7) = (vec![2, 2, 2, 1, 1, 1, 0, 1], vec![1, 1, 0, 1]);
+    for (mut listing, mut book) in [(LISTING.to_vec(), BOOK.to_vec()), (e4, e4_book), (e6, e6_book), (e7, e7_book.clone())] {
+        assert_eq!(shown(&book), Ok(listing.clone()));
+        assert_eq!(written(&listing), Ok(book.clone()));
+        // the same as a book of version 2
+        let (last, version) = (listing.len() - 1, book.len() - 2);
+        (listing[last], book[version]) = (2, 2);
         assert_eq!(shown(&book), Ok(listing.clone()));
         assert_eq!(written(&listing), Ok(book));
     }
@@ -151,7 +155,12 @@ fn listings_of_no_book_are_refused() {
     for listing in [
         Vec::new(),
         LISTING[..28].to_vec(),
+        LISTING[..29].to_vec(),
         [&LISTING[..], &[0]].concat(),
+        [&LISTING[..], &[1]].concat(),
+        changed(29, 0),
+        changed(29, 3),
+        changed(29, 257),
         changed(1, 33),
         changed(1, 258),
         changed(7, 0),
@@ -168,36 +177,36 @@ fn listings_of_no_book_are_refused() {
 
 #[test]
 fn a_listing_or_a_book_that_does_not_fit_is_an_ordinary_refusal() {
-    let (mut numbers, mut bytes) = ([7; 30], [7; 36]);
-    assert_eq!(show(&BOOK, &mut numbers[..28]), Err(TOO_FEW));
+    let (mut numbers, mut bytes) = ([7; 31], [7; 36]);
+    assert_eq!(show(&BOOK, &mut numbers[..29]), Err(TOO_FEW));
     assert_eq!(write(&LISTING, &mut bytes[..34]), Err(TOO_FEW));
-    assert_eq!((numbers, bytes), ([7; 30], [7; 36]));
-    assert_eq!(show(&BOOK, &mut numbers), Ok(29));
+    assert_eq!((numbers, bytes), ([7; 31], [7; 36]));
+    assert_eq!(show(&BOOK, &mut numbers), Ok(30));
     assert_eq!(write(&LISTING, &mut bytes), Ok(35));
-    assert_eq!((&numbers[..29], numbers[29]), (&LISTING[..], 7));
+    assert_eq!((&numbers[..30], numbers[30]), (&LISTING[..], 7));
     assert_eq!((&bytes[..35], bytes[35]), (&BOOK[..], 7));
 }
 
-/// The most alternatives: 32 fields of 32 codes, no table, all fields answered.
+/// The most alternatives: 60 fields of 32 codes, no table, all fields answered.
 #[test]
 fn the_lengths_named_suffice() {
-    let book = [&[32; 32][..], &[0, 0, 32, 0, 1, 0xE5]].concat();
-    let sheet = Sheet::from([31; 32]);
-    assert_eq!(sheet.alternatives(&book, &mut [0; PAIRS_BYTES]).map(|found| found.total), Ok(1024));
+    let book = [&[32; 60][..], &[0, 0, 60, 0, 2, 0xE5]].concat();
+    let sheet = Sheet::from([31; SHEET_BYTES]);
+    assert_eq!(sheet.alternatives(&book, &mut [0; PAIRS_BYTES]).map(|found| found.total), Ok(1920));
     assert_eq!(sheet.alternatives(&book, &mut [0; PAIRS_BYTES - 1]), Err(TOO_FEW));
     assert_eq!(sheet.filtered(&book, None, &mut [0; NUMBERS]), Ok(()));
     assert_eq!(sheet.filtered(&book, None, &mut [0; NUMBERS - 1]), Err(TOO_FEW));
     assert_eq!(sheet.store(&book, &mut [0; STORED_BYTES]), Ok(()));
     assert_eq!(sheet.store(&book, &mut [0; STORED_BYTES - 1]), Err(TOO_FEW));
-    assert!(report(&book, &[NO_ANSWER; 32], &mut [0; REPORT_BYTES]).is_ok());
-    assert_eq!(read(&book).map(|counts| counts.fields), Ok(32));
+    assert!(report(&book, &[NO_ANSWER; 60], &mut [0; REPORT_BYTES]).is_ok());
+    assert_eq!(read(&book).map(|counts| counts.fields), Ok(60));
 }
 
-/// The longest book and listing: 32 fields, and 64 tables of 64 rows on four fields.
+/// The longest book and listing: 60 fields, and 64 tables of 64 rows on four fields.
 #[test]
 fn the_longest_listing_suffices() {
-    let table = [&[4, 0, 1, 2, 3, 64][..], &[31; 4 * 64]].concat();
-    let listing = [&[32; 33][..], &[64], &table.repeat(64)].concat();
+    let table = [&[4, 56, 57, 58, 59, 64][..], &[31; 4 * 64]].concat();
+    let listing = [&[60][..], &[32; 60], &[64], &table.repeat(64), &[2]].concat();
     assert_eq!(listing.len(), LISTING_NUMBERS);
     let book = written(&listing).expect("it fits");
     assert_eq!(book.len(), BOOK_BYTES);
@@ -215,7 +224,7 @@ fn constants_are_those_of_the_header() {
         let line = words.find(|words| words.len() > 2 && words[..2] == ["#define", name]);
         line.and_then(|words| words[2].parse::<usize>().ok())
     };
-    assert_eq!(value("SIGHTING_SHEET_BYTES"), Some(sighting::SHEET_BYTES));
+    assert_eq!(value("SIGHTING_SHEET_BYTES"), Some(SHEET_BYTES));
     assert_eq!(value("SIGHTING_NO_ANSWER"), Some(NO_ANSWER as usize));
     assert_eq!(value("SIGHTING_PAIRS_BYTES"), Some(PAIRS_BYTES));
     assert_eq!(value("SIGHTING_NUMBERS"), Some(NUMBERS));

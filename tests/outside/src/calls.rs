@@ -3,9 +3,12 @@
 use crate::book::{refuse, Refusal};
 use crate::filter::NO_ANSWER;
 
-pub type Sheet = [u8; 32];
+/// The places of a sheet, whatever the book's version.
+pub const PLACES: usize = 60;
 
-pub const FRESH: Sheet = [NO_ANSWER; 32];
+pub type Sheet = [u8; PLACES];
+
+pub const FRESH: Sheet = [NO_ANSWER; PLACES];
 
 /// A call with its arguments other than book, sheet and buffers.
 #[derive(Clone, Debug, PartialEq)]

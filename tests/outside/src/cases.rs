@@ -1,9 +1,9 @@
 //! Seeded cases for the calls: a book, a sheet, and one call of each kind.
 
-use crate::book::{Book, Table};
-use crate::calls::{Call, Sheet, FRESH};
+use crate::book::{field_limit, Book, Table};
+use crate::calls::{Call, Sheet, FRESH, PLACES};
 use crate::draft::Draft;
-use crate::faults::{changed, faulty, some_faults};
+use crate::faults::{changed, faulty, some_faults, turned};
 use crate::filter::NO_ANSWER;
 use crate::listing::Listing;
 use crate::listings;
@@ -20,6 +20,13 @@ pub struct Case {
     pub faults: Vec<usize>,
     /// How the listing to write was made.
     pub listing: &'static str,
+}
+
+impl Case {
+    /// A case that was not drawn: a book, a sheet and calls.
+    pub fn new(book: Vec<u8>, sheet: Sheet, calls: Vec<Call>) -> Case {
+        Case { book, sheet, calls, boundary: None, faults: Vec::new(), listing: "" }
+    }
 }
 
 /// The random numbers of one case of a run.
@@ -46,8 +53,7 @@ struct BookCase {
 }
 
 fn book(r: &mut Random) -> BookCase {
-    if r.one_in(60) {
-        let (name, at_boundary) = BOUNDARIES[r.from(0, BOUNDARIES.len() - 1)];
+    if let Some((name, at_boundary)) = some_boundary(r) {
         let (model, bytes) = at_boundary(r);
         return BookCase { model, bytes, boundary: Some(name), faults: Vec::new() };
     }
@@ -59,6 +65,7 @@ fn book(r: &mut Random) -> BookCase {
             faults = some_faults(r);
             faulty(r, &model, &faults)
         }
+        10 => turned(&model),
         _ => model.write(),
     };
     BookCase { model, bytes, boundary: None, faults }
@@ -67,33 +74,86 @@ fn book(r: &mut Random) -> BookCase {
 /// A boundary: its name, and a book at it with its bytes.
 type Boundary = (&'static str, fn(&mut Random) -> (Book, Vec<u8>));
 
-/// The most that is accepted and one more, the shortest and the longest book, and the lengths at which 1 begins.
-pub const BOUNDARIES: [Boundary; 21] = [
-    ("32 fields", |_| written(Book { counts: vec![2; 32], tables: vec![unary(2)] })),
-    ("33 fields", |_| written(Book { counts: vec![2; 33], tables: vec![unary(2)] })),
-    ("32 codes", |_| written(Book { counts: vec![3, 32], tables: vec![unary(2)] })),
-    ("33 codes", |_| written(Book { counts: vec![3, 33], tables: vec![unary(2)] })),
-    ("64 tables", |_| written(Book { counts: vec![2, 3], tables: vec![unary(2); 64] })),
-    ("65 tables", |_| written(Book { counts: vec![2, 3], tables: vec![unary(2); 65] })),
-    ("4096 rows", |r| written(two_tables(r, 4_096))),
-    ("4097 rows", |r| written(two_tables(r, 4_097))),
-    ("4096 rows in one table", |_| written(one_table(2))),
-    ("a fault in row 4096", |_| written(one_table(3))),
+/// Each version and the numbers beside them, with the most fields that are accepted and one more.
+const NUMBERS_OF_FIELDS: [Boundary; 18] = [
+    ("no fields of version 1", |r| without_fields(1, random::book(r))),
+    ("32 fields of version 1", |_| written(of_fields(1, 32))),
+    ("33 fields of version 1", |_| written(of_fields(1, 33))),
+    ("60 fields of version 1", |_| written(of_fields(1, 60))),
+    ("no fields of version 2", |r| without_fields(2, random::book(r))),
+    ("32 fields of version 2", |_| written(of_fields(2, 32))),
+    ("33 fields of version 2", |_| written(of_fields(2, 33))),
+    ("60 fields of version 2", |_| written(of_fields(2, 60))),
+    ("61 fields of version 2", |_| written(of_fields(2, 61))),
+    ("255 fields of version 2", |_| written(of_fields(2, 255))),
+    ("32 fields of version 0", |_| written(of_fields(0, 32))),
+    ("60 fields of version 0", |_| written(of_fields(0, 60))),
+    ("no fields of version 3", |r| without_fields(3, random::book(r))),
+    ("32 fields of version 3", |_| written(of_fields(3, 32))),
+    ("60 fields of version 3", |_| written(of_fields(3, 60))),
+    ("61 fields of version 3", |_| written(of_fields(3, 61))),
+    ("60 fields of version 255", |_| written(of_fields(255, 60))),
+    ("61 fields of version 255", |_| written(of_fields(255, 61))),
+];
+
+/// The most of other things that is accepted and one more, the shortest book, and the lengths at which 1 begins.
+const SIZES: [Boundary; 18] = [
+    ("32 codes", |r| either(r, Book::new(vec![3, 32], vec![unary(2)]))),
+    ("33 codes", |r| either(r, Book::new(vec![3, 33], vec![unary(2)]))),
+    ("64 tables", |r| either(r, Book::new(vec![2, 3], vec![unary(2); 64]))),
+    ("65 tables", |r| either(r, Book::new(vec![2, 3], vec![unary(2); 65]))),
+    ("4096 rows", |r| two_tables(r, 4_096)),
+    ("4097 rows", |r| two_tables(r, 4_097)),
+    ("4096 rows in one table", |r| either(r, one_table(2))),
+    ("a fault in row 4096", |r| either(r, one_table(3))),
     ("4095 rows of one kind", |r| written(repeats::with_tables(r, &[4_095]))),
     ("4096 rows of one kind", |r| written(repeats::with_tables(r, &[4_096]))),
     ("every row of four fields", |r| written(repeats::every_row(r))),
     ("4096 rows in three large tables", |r| written(repeats::three_large(r, 4_096))),
     ("4097 rows in three large tables", |r| written(repeats::three_large(r, 4_097))),
     ("64 tables of 64 rows", |r| written(repeats::with_tables(r, &[64; 64]))),
-    ("16870 bytes", |r| written(longest(r))),
     ("6 bytes", |r| brought_to(6, random::book(r))),
-    ("7 bytes", |r| written(Book { counts: vec![r.from(1, 32) as u8], tables: Vec::new() })),
+    ("7 bytes", smallest),
     ("32768 bytes", |r| brought_to(32_768, random::book(r))),
     ("32769 bytes", |r| brought_to(32_769, random::book(r))),
 ];
 
+/// The longest book of each version, which takes longest too.
+const LONGEST: [Boundary; 2] =
+    [("16870 bytes of version 1", |r| written(longest(r, 1))), ("16898 bytes of version 2", |r| written(longest(r, 2)))];
+
+/// The names of all boundaries.
+pub fn boundaries() -> impl Iterator<Item = &'static str> {
+    NUMBERS_OF_FIELDS.iter().chain(&SIZES).chain(&LONGEST).map(|(name, _)| *name)
+}
+
+fn some_boundary(r: &mut Random) -> Option<Boundary> {
+    match r.from(0, 1_199) {
+        0 => Some(r.one_of(&LONGEST)),
+        1..=12 => Some(r.one_of(&NUMBERS_OF_FIELDS)),
+        13..=28 => Some(r.one_of(&SIZES)),
+        _ => None,
+    }
+}
+
 fn written(book: Book) -> (Book, Vec<u8>) {
     let bytes = book.write();
+    (book, bytes)
+}
+
+/// Of either version.
+fn either(r: &mut Random, book: Book) -> (Book, Vec<u8>) {
+    written(Book { version: r.from(1, 2) as u8, ..book })
+}
+
+/// Fields of two codes, whatever the version allows.
+fn of_fields(version: u8, fields: usize) -> Book {
+    Book { version, ..Book::new(vec![2; fields], vec![unary(2)]) }
+}
+
+/// The trailer alone; sheet and calls are made for the book.
+fn without_fields(version: u8, book: Book) -> (Book, Vec<u8>) {
+    let bytes = Book { version, ..Book::new(Vec::new(), Vec::new()) }.write();
     (book, bytes)
 }
 
@@ -108,24 +168,31 @@ fn unary(rows: usize) -> Table {
     Table { fields: vec![0], rows: (0..rows).map(|i| vec![(i % 2) as u8]).collect() }
 }
 
-fn two_tables(r: &mut Random, rows: usize) -> Book {
+fn two_tables(r: &mut Random, rows: usize) -> (Book, Vec<u8>) {
     let first = r.from(0, 4_096);
-    Book { counts: vec![2, 3], tables: vec![unary(first), unary(rows - first)] }
+    either(r, Book::new(vec![2, 3], vec![unary(first), unary(rows - first)]))
+}
+
+/// One field, and no table.
+fn smallest(r: &mut Random) -> (Book, Vec<u8>) {
+    let codes = r.from(1, 32) as u8;
+    either(r, Book::new(vec![codes], Vec::new()))
 }
 
 /// Two fields of three codes and one table of 4,096 rows, of which only the last has this code.
 fn one_table(last: u8) -> Book {
     let rows = (0..4_095).map(|i| vec![i as u8 % 2, i as u8 / 2 % 2]).chain([vec![last; 2]]);
-    Book { counts: vec![3; 2], tables: vec![Table { fields: vec![0, 1], rows: rows.collect() }] }
+    Book::new(vec![3; 2], vec![Table { fields: vec![0, 1], rows: rows.collect() }])
 }
 
 /// 64 tables of four fields with 64 rows each: each code goes with itself, or with itself but for the last field.
-fn longest(r: &mut Random) -> Book {
+fn longest(r: &mut Random, version: u8) -> Book {
+    let fields = field_limit(version);
     let table = |r: &mut Random| {
         let rows = (0..32).flat_map(|c| [vec![c; 4], vec![c, c, c, r.from(0, 31) as u8]]).collect();
-        Table { fields: random::fields_of(r, 32, 4), rows }
+        Table { fields: random::fields_of(r, fields, 4), rows }
     };
-    Book { counts: vec![32; 32], tables: (0..64).map(|_| table(r)).collect() }
+    Book::new(vec![32; fields], (0..64).map(|_| table(r)).collect())
 }
 
 /// A sheet for the book, in some cases with faults below or behind the number of fields.
@@ -142,9 +209,14 @@ fn sheet(r: &mut Random, book: &Book) -> Sheet {
     sheet
 }
 
+/// A fault in one of the fields, anywhere, or at a place where a number of fields ends.
 fn spoil(r: &mut Random, book: &Book, sheet: &mut Sheet) {
-    let place = r.from(0, 31);
-    let place = if r.one_in(2) { place % book.counts.len().min(32) } else { place };
+    let (fields, last) = (book.counts.len().min(PLACES), PLACES - 1);
+    let place = match r.from(0, 3) {
+        0..=1 => r.from(0, fields - 1),
+        2 => r.from(0, last),
+        _ => r.one_of(&[field_limit(1) - 1, field_limit(1), fields.min(last), last]),
+    };
     let least = book.counts.get(place).map_or(0, |&count| count as usize);
     sheet[place] = r.from(least, 254) as u8;
 }
@@ -154,14 +226,20 @@ fn form(r: &mut Random, book: &Book) -> Vec<u8> {
     let mut form = random::form(r, book);
     let flaw = r.from(0, 11);
     if flaw < 3 {
-        let f = r.from(0, form.len() - 1);
+        let last = form.len() - 1;
+        let f = if r.one_in(4) { last } else { r.from(0, last) };
         form[f] = r.from(book.counts[f] as usize, 254) as u8;
     }
-    match flaw {
-        1 | 3 => form.truncate(r.from(0, form.len() - 1)),
-        2 | 4 => form.resize(form.len() + r.from(1, 2), r.word() as u8),
-        _ => {}
-    }
+    let fields = form.len();
+    // by 5 a sheet's length, version 1's longest, or one that is the number of fields in its low bits
+    let length = match flaw {
+        1 | 3 if r.one_in(2) => r.from(0, fields - 1),
+        1 | 3 => fields - 1,
+        2 | 4 => fields + r.from(1, 2),
+        5 => r.one_of(&[field_limit(1), PLACES, fields + 32, fields + 64, fields + 256]),
+        _ => fields,
+    };
+    form.resize(length, if r.one_in(2) { NO_ANSWER } else { r.word() as u8 });
     form
 }
 
@@ -175,11 +253,13 @@ fn widened(r: &mut Random, number: u8) -> usize {
     }
 }
 
-/// Mostly a field of the book.
+/// Mostly a field of the book; of one with many fields often the first that version 1 lacks, the last, or the one behind it.
 fn field(r: &mut Random, book: &Book) -> u8 {
+    let fields = book.counts.len();
     match r.from(0, 5) {
         0 => r.word() as u8,
-        _ => r.from(0, book.counts.len()) as u8,
+        1..=2 if fields >= field_limit(1) => r.one_of(&[field_limit(1), fields - 1, fields]) as u8,
+        _ => r.from(0, fields) as u8,
     }
 }
 
@@ -193,11 +273,12 @@ fn code(r: &mut Random, book: &Book, field: u8) -> u8 {
 
 /// Mostly a field with an answer, or 255 for none.
 fn answered(r: &mut Random, book: &Book, sheet: &Sheet) -> u8 {
-    let held: Vec<u8> = (0..32).filter(|&f| sheet[f as usize] != NO_ANSWER).collect();
+    let held: Vec<u8> = (0..PLACES as u8).filter(|&f| sheet[f as usize] != NO_ANSWER).collect();
     match r.from(0, 5) {
         0..=1 => NO_ANSWER,
         2 => field(r, book),
         _ if held.is_empty() => field(r, book),
+        3 => held[held.len() - 1],
         _ => held[r.from(0, held.len() - 1)],
     }
 }

@@ -81,6 +81,11 @@ pub fn trials<'a>(case: &'a Case, reading: &Reading, seed: u64, index: u64) -> V
     trials
 }
 
+/// The trials of each call.
+pub fn of_each_call<'a, 't>(trials: &'t [Trial<'a>]) -> impl Iterator<Item = &'t [Trial<'a>]> {
+    trials.chunk_by(|one, next| std::ptr::eq(one.call, next.call))
+}
+
 fn hex(bytes: &[u8]) -> String {
     bytes.iter().map(|b| format!("{b:02x}")).collect()
 }
@@ -118,7 +123,7 @@ impl Rooms {
         };
         // SAFETY: each part has the elements that the header asks for, and they lie apart from each other.
         let number = unsafe { library.call(call, &lent) };
-        let sheet = sheet.left()?.try_into().expect("a sheet has 32 bytes");
+        let sheet = sheet.left()?.try_into().expect("a sheet has its places");
         let out = Buffers { bytes: bytes.left()?, listing: shown.left()?, numbers: numbers.left()? };
         Some(Left { number, cells: cells.left()?, sheet, out })
     }

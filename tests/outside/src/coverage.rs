@@ -4,8 +4,8 @@ use std::collections::{BTreeMap, BTreeSet};
 
 use crate::book::Book;
 use crate::calls::{Call, Sheet, COUNTING, LISTING};
-use crate::cases::{Case, BOUNDARIES};
-use crate::compare::{Asked, Trial};
+use crate::cases::{boundaries, Case};
+use crate::compare::{of_each_call, Asked, Trial};
 use crate::desk::{after, Desk, Reading};
 use crate::faults::FAULTS;
 use crate::listing::book_bytes;
@@ -13,6 +13,7 @@ use crate::listings::{reason, ways, REASONS};
 use crate::reader::Reader;
 use crate::shapes::{shapes, SHAPES};
 use crate::tables;
+use crate::versions::{self, Made};
 
 /// A refusal as counted: its number, and for 14 whether the place lies behind the book's fields.
 type Kind = (u64, bool);
@@ -23,7 +24,8 @@ pub struct Coverage {
     accepted: BTreeMap<&'static str, u64>,
     /// What the cases had beside that, by its name.
     had: BTreeMap<String, u64>,
-    /// What the calls that list had to list, the lengths lent for it, and what the calls that count had to count, by call and name.
+    /// What the calls that list had to list, the lengths lent for it, what the calls that count had to count, and what each call had of
+    /// M-103, by call and name.
     by_call: BTreeMap<(&'static str, &'static str), u64>,
 }
 
@@ -85,7 +87,7 @@ const LENGTHS: [Length; 5] = [
     ("the wider list's", |lent, asked| lent == asked.wider),
 ];
 
-/// How often each of them has to be lent in a run of 27,500 cases.
+/// How often each of them has to be lent in a run of 30,000 cases.
 const LENGTHS_ASKED: u64 = 200;
 
 /// The sheet whose alternatives the call lists; none where it is refused.
@@ -99,14 +101,13 @@ fn listed_sheet(case: &Case, reading: &Reading, call: &Call) -> Option<Sheet> {
     }
 }
 
-/// The book whose different rows the call counts; none where it is refused.
-fn counted_book<'a>(reading: &'a Reading, call: &Call) -> Option<&'a Book> {
-    let counts = match call {
-        Call::Read => true,
+/// Whether the call counts the different rows of the book; it does not where it is refused.
+fn counts_rows(reading: &Reading, call: &Call) -> bool {
+    match call {
+        Call::Read => reading.is_ok(),
         Call::Report { form } => Desk::default().loaded(reading, form).is_ok(),
         _ => false,
-    };
-    reading.as_ref().ok().filter(|_| counts)
+    }
 }
 
 /// The name of a pair of faults, by their places in the order.
@@ -130,15 +131,27 @@ impl Coverage {
         for name in names(case) {
             *self.had.entry(name).or_default() += 1;
         }
-        for call in &case.calls {
-            if let (Ok(book), Some(sheet)) = (reading, listed_sheet(case, reading, call)) {
-                shapes(book, &sheet).for_each(|shape| self.count(call, shape));
-            }
-            if let Some(book) = counted_book(reading, call) {
-                tables::shapes(book).for_each(|shape| self.count(call, shape));
-            }
+        if let Ok(book) = reading {
+            self.note_book(case, reading, book);
         }
         trials.iter().for_each(|trial| self.note_trial(reading, trial));
+        for of_call in of_each_call(trials) {
+            let made: Vec<Made> = of_call.iter().map(|trial| Made { book: &case.book, reading, trial }).collect();
+            versions::shapes(&made).for_each(|shape| self.count(of_call[0].call, shape));
+        }
+    }
+
+    /// Notes what the calls had to list and to count of an accepted book.
+    fn note_book(&mut self, case: &Case, reading: &Reading, book: &Book) {
+        let of_tables: Vec<&'static str> = tables::shapes(book).collect();
+        for call in &case.calls {
+            if let Some(sheet) = listed_sheet(case, reading, call) {
+                shapes(book, &sheet).for_each(|shape| self.count(call, shape));
+            }
+            if counts_rows(reading, call) {
+                of_tables.iter().for_each(|shape| self.count(call, shape));
+            }
+        }
     }
 
     fn count(&mut self, call: &Call, what: &'static str) {
@@ -185,7 +198,7 @@ impl Coverage {
     pub fn print(&self) -> bool {
         println!("refusals of each call as number:times/places; 14b is a 14 behind the book's fields");
         let of_a_book = |beside: &[Kind]| (1..=13).map(|number| (number, false)).chain(beside.iter().copied()).collect();
-        let mut kinds: Vec<(&str, Vec<Kind>)> = BESIDE.map(|(call, beside)| (call, of_a_book(beside))).to_vec();
+        let mut kinds: Vec<(&'static str, Vec<Kind>)> = BESIDE.map(|(call, beside)| (call, of_a_book(beside))).to_vec();
         kinds.push((WITHOUT_BOOK.0, WITHOUT_BOOK.1.to_vec()));
         let mut complete = true;
         for (call, kinds) in &kinds {
@@ -195,13 +208,14 @@ impl Coverage {
             let times = self.had.get(&name).copied().unwrap_or(0);
             Had { name, times, least: 1 }
         };
-        complete &= print_had("boundaries", BOUNDARIES.iter().map(|(name, _)| once(name.to_string())));
+        complete &= print_had("boundaries", boundaries().map(|name| once(name.to_string())));
         complete &= print_had("arguments", ARGUMENTS.iter().map(|(name, _)| once(name.to_string())));
         complete &= print_had("two faults at once", (1..FAULTS.len()).map(|place| once(pair(place - 1, place))));
         complete &= print_had("listings", ways().map(|way| once(way.name.to_string())));
         complete &= print_had("reasons for 20", REASONS.iter().map(|name| once(name.to_string())));
         complete = LISTING.iter().fold(complete, |complete, call| complete & self.print_listed(call));
-        COUNTING.iter().fold(complete, |complete, call| complete & self.print_counted(call))
+        complete = COUNTING.iter().fold(complete, |complete, call| complete & self.print_counted(call));
+        kinds.iter().fold(complete, |complete, (call, _)| complete & self.print_versions(call))
     }
 
     /// How often the call had this.
@@ -222,6 +236,12 @@ impl Coverage {
     fn print_counted(&self, call: &'static str) -> bool {
         let tables = tables::asked().map(|(name, least)| self.had_by(call, name, least));
         print_had(&format!("tables for {call}"), tables)
+    }
+
+    /// Prints which versions, fields and places the call had, and answers whether each shape was had often enough.
+    fn print_versions(&self, call: &'static str) -> bool {
+        let shapes = versions::asked(call).map(|(name, least)| self.had_by(call, name, least));
+        print_had(&format!("versions, fields and places for {call}"), shapes)
     }
 
     /// Prints how often and at how many places the call was refused in each way, and answers whether all were reached.

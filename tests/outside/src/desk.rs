@@ -220,11 +220,11 @@ impl Desk {
 mod tests {
     use super::{after, Desk, Reading};
     use crate::book::{refuse, Book};
-    use crate::calls::{Buffers, Call, FRESH};
+    use crate::calls::{Buffers, Call, FRESH, PLACES};
 
     /// One field of two codes, and no table.
     fn book() -> Reading {
-        Ok(Book { counts: vec![2], tables: Vec::new() })
+        Ok(Book::new(vec![2], Vec::new()))
     }
 
     #[test]
@@ -246,25 +246,25 @@ mod tests {
         assert_eq!((short.number, short.cells, short.out.bytes), (18, vec![0; 3], vec![7; 3]));
         let long = found.left(&Call::Alternatives, &vec![7u8; 5].into());
         assert_eq!((long.number, long.cells, long.out.bytes), (0, vec![0, 2, 1], vec![0, 0, 0, 1, 7]));
-        sheet[31] = 0;
+        sheet[PLACES - 1] = 0;
         let behind = desk.answer(&Call::Store, &book(), &sheet).left(&Call::Store, &vec![7u8].into());
-        assert_eq!((behind.number, behind.cells, behind.sheet), (14, vec![31], sheet));
+        assert_eq!((behind.number, behind.cells, behind.sheet), (14, vec![59], sheet));
     }
 
     #[test]
     fn a_listing_and_its_book() {
-        let (desk, write) = (Desk::default(), Call::Write { listing: vec![1, 2, 0] });
+        let (desk, write) = (Desk::default(), Call::Write { listing: vec![1, 2, 0, 1] });
         let shown = desk.answer(&Call::Show, &book(), &FRESH);
-        let short = shown.left(&Call::Show, &vec![7u16; 2].into());
-        assert_eq!((short.number, short.cells, short.out.listing), (18, vec![0; 2], vec![7; 2]));
-        let long = shown.left(&Call::Show, &vec![7u16; 4].into());
-        assert_eq!((long.number, long.cells, long.out.listing), (0, vec![0, 3], vec![1, 2, 0, 7]));
+        let short = shown.left(&Call::Show, &vec![7u16; 3].into());
+        assert_eq!((short.number, short.cells, short.out.listing), (18, vec![0; 2], vec![7; 3]));
+        let long = shown.left(&Call::Show, &vec![7u16; 5].into());
+        assert_eq!((long.number, long.cells, long.out.listing), (0, vec![0, 4], vec![1, 2, 0, 1, 7]));
         let refused = desk.answer(&Call::Show, &refuse(9, 4), &FRESH).left(&Call::Show, &vec![7u16].into());
         assert_eq!((refused.number, refused.cells, refused.out.listing), (9, vec![4, 0], vec![7]));
         let written = desk.answer(&write, &book(), &FRESH).left(&write, &vec![7u8; 8].into());
         assert_eq!((written.number, written.cells), (0, vec![0, 7]));
         assert_eq!(written.out.bytes, [2, 0, 0, 1, 0, 1, 0xE5, 7]);
-        let no_book = Call::Write { listing: vec![1, 2] };
+        let no_book = Call::Write { listing: vec![1, 2, 0] };
         let refused = desk.answer(&no_book, &book(), &FRESH).left(&no_book, &Buffers::default());
         assert_eq!((refused.number, refused.cells), (20, vec![0; 2]));
     }

@@ -47,7 +47,7 @@ impl Draft {
             off: 0,
             fields: book.counts.len() as u8,
             table_count: book.tables.len() as u8,
-            version: 1,
+            version: book.version,
             closing: 0xE5,
             length: None,
         }

@@ -1,6 +1,6 @@
 //! Books with faults: one by itself, or two at once, to see which of them is named.
 
-use crate::book::Book;
+use crate::book::{field_limit, Book};
 use crate::draft::{Draft, TableDraft};
 use crate::random::Random;
 
@@ -11,8 +11,8 @@ type Fault = (&'static str, fn(&mut Draft, &mut Random, usize));
 pub const FAULTS: [Fault; 15] = [
     ("1", |draft, r, _| draft.length = Some(if r.one_in(2) { r.from(0, 5) } else { 32_769 + r.from(0, 3) })),
     ("2", |draft, r, _| draft.closing = r.from(0, 0xE4) as u8),
-    ("3", |draft, r, _| draft.version = [0, 2, 3, 255][r.from(0, 3)]),
-    ("4", |draft, r, _| draft.fields = [0, 33, 60, 255][r.from(0, 3)]),
+    ("3", |draft, r, _| draft.version = r.one_of(&[0, 3, 4, 129, 130, 255])),
+    ("4", |draft, r, _| draft.spoil_fields(r)),
     ("5", |draft, r, _| draft.table_count = r.from(65, 255) as u8),
     ("6", |draft, r, _| draft.off = [1, 2, 256, u16::MAX, r.from(1, 65_535) as u16][r.from(0, 4)]),
     ("7", |draft, r, _| draft.spoil_count(r)),
@@ -39,6 +39,14 @@ pub fn some_faults(r: &mut Random) -> Vec<usize> {
 }
 
 impl Draft {
+    /// No field, or more than the version allows. A number that is no version has version 1's limit here, so that numbers of fields
+    /// that version 2 allows stand beside it too.
+    fn spoil_fields(&mut self, r: &mut Random) {
+        let above = field_limit(self.version).max(field_limit(1)) + 1;
+        let some = r.from(above, 255);
+        self.fields = r.one_of(&[0, above, some, 255]) as u8;
+    }
+
     fn spoil_count(&mut self, r: &mut Random) {
         let field = r.from(0, self.counts.len() - 1);
         self.counts[field] = [0, 33, 64, 255][r.from(0, 3)];
@@ -122,6 +130,11 @@ pub fn faulty(r: &mut Random, book: &Book, faults: &[usize]) -> Vec<u8> {
     draft.write()
 }
 
+/// The book's bytes with the other version.
+pub fn turned(book: &Book) -> Vec<u8> {
+    Draft { version: 3 - book.version, ..Draft::of(book) }.write()
+}
+
 /// The book's bytes with one of them changed.
 pub fn changed(r: &mut Random, book: &Book) -> Vec<u8> {
     let mut bytes = book.write();
@@ -141,7 +154,7 @@ mod tests {
     #[test]
     fn each_fault_is_refused_by_its_number() {
         let table = |fields: [u8; 2]| Table { fields: fields.to_vec(), rows: vec![vec![0, 0], vec![1, 1]] };
-        let book = Book { counts: vec![2; 3], tables: vec![table([0, 1]), table([1, 2])] };
+        let book = Book::new(vec![2; 3], vec![table([0, 1]), table([1, 2])]);
         let (reader, mut r) = (Reader::default(), Random(1));
         assert_eq!(reader.read(&book.write()), Ok(book.clone()));
         for (fault, number) in [1, 2, 3, 4, 5, 6, 7, 8, 9, 8, 10, 8, 12, 11, 13].into_iter().enumerate() {

@@ -25,9 +25,9 @@ impl Lent {
     /// The sheet as it is given.
     ///
     /// # Safety
-    /// A sheet of 32 bytes is lent.
+    /// A sheet is lent.
     pub unsafe fn sheet(&self) -> Sheet {
-        self.sheet.elements().try_into().expect("a sheet has 32 bytes")
+        self.sheet.elements().try_into().expect("a sheet has its places")
     }
 }
 
@@ -210,9 +210,9 @@ mod tests {
     /// answers leave what the slow desk leaves, bare and by the wrapper.
     fn counted(rows: &[Vec<u8>]) -> Result<(u64, u64), (u64, u64)> {
         let table = Table { fields: vec![0, 1, 2, 3], rows: rows.to_vec() };
-        let book = Book { counts: vec![32; 4], tables: vec![table] }.write();
+        let book = Book::new(vec![32; 4], vec![table]).write();
         let calls = vec![Call::Read, Call::Report { form: vec![NO_ANSWER; 4] }];
-        let case = Case { book, sheet: FRESH, calls, boundary: None, faults: Vec::new(), listing: "" };
+        let case = Case::new(book, FRESH, calls);
         let rooms = Rooms::default();
         for trial in trials(&case, &Reader::default().read(&case.book), 1, 0) {
             let libraries: [&dyn Library; 2] = [&Exported, &Wrapper];

@@ -1,4 +1,4 @@
-//! A listing, and the bytes of the book that it says, written from document 02's M-100 alone and with no care for speed.
+//! A listing, and the bytes of the book that it says, written from document 02's M-100 and M-103 alone and with no care for speed.
 
 use crate::book::{Book, Refusal};
 use crate::reader::Reader;
@@ -17,6 +17,7 @@ pub struct ListedTable {
 pub struct Listing {
     pub counts: Vec<u16>,
     pub tables: Vec<ListedTable>,
+    pub version: u16,
 }
 
 /// Why no book has a listing.
@@ -86,7 +87,7 @@ impl Listing {
             rows: table.rows.len() as u16,
             codes: wide(&table.rows.concat()),
         });
-        Listing { counts: wide(&book.counts), tables: tables.collect() }
+        Listing { counts: wide(&book.counts), tables: tables.collect(), version: book.version as u16 }
     }
 
     /// The parts of the listing that the numbers begin with, and the numbers behind it.
@@ -96,7 +97,8 @@ impl Listing {
         let counts = numbers.take(fields)?;
         let tables = numbers.one()?;
         let tables = (0..tables).map(|_| numbers.table()).collect::<Result<Vec<_>, _>>()?;
-        Ok((Listing { counts, tables }, numbers.0))
+        let version = numbers.one()?;
+        Ok((Listing { counts, tables, version }, numbers.0))
     }
 
     /// The parts of the listing that the numbers are.
@@ -109,17 +111,17 @@ impl Listing {
 
     pub fn numbers(&self) -> Vec<u16> {
         let tables: Vec<u16> = self.tables.iter().flat_map(ListedTable::numbers).collect();
-        [&[self.counts.len() as u16][..], &self.counts, &[self.tables.len() as u16], &tables].concat()
+        [&[self.counts.len() as u16][..], &self.counts, &[self.tables.len() as u16], &tables, &[self.version]].concat()
     }
 
     pub fn lay_out_tables(&self) -> Result<Vec<u8>, Fault> {
         Ok(self.tables.iter().map(ListedTable::lay_out).collect::<Result<Vec<_>, _>>()?.concat())
     }
 
-    /// The bytes of a book of version 1 that begins with these bytes of its tables.
+    /// The bytes of a book that begins with these bytes of its tables.
     pub fn lay_out_behind(&self, tables: &[u8]) -> Result<Vec<u8>, Fault> {
         let place = two_bytes(tables.len())?;
-        let trailer = [one_byte(self.counts.len())?, one_byte(self.tables.len())?, 1, 0xE5];
+        let trailer = [one_byte(self.counts.len())?, one_byte(self.tables.len())?, one_byte(self.version as usize)?, 0xE5];
         Ok([tables, &one_byte_each(&self.counts)?, &place, &trailer].concat())
     }
 
@@ -142,7 +144,7 @@ mod tests {
     use crate::book::{Refusal, Table};
     use crate::reader::Reader;
 
-    const E1: [u16; 29] = [3, 2, 3, 3, 2, 2, 0, 2, 4, 0, 0, 0, 1, 1, 2, 0, 1, 2, 1, 2, 4, 0, 0, 1, 1, 1, 2, 2, 2];
+    const E1: [u16; 30] = [3, 2, 3, 3, 2, 2, 0, 2, 4, 0, 0, 0, 1, 1, 2, 0, 1, 2, 1, 2, 4, 0, 0, 1, 1, 1, 2, 2, 2, 1];
 
     #[test]
     fn e1_there_and_back() {
@@ -162,17 +164,34 @@ mod tests {
         assert_eq!(why(&[]), Fault::Missing);
         assert_eq!(why(&E1[..28]), Fault::Missing);
         assert_eq!(why(&[&E1[..], &[0]].concat()), Fault::LeftOver);
-        assert_eq!(why(&[1, 256, 0]), Fault::TooLarge);
-        assert_eq!(why(&[1, 33, 0]), refused(7, 0));
-        assert_eq!(why(&[0, 0]), refused(4, 2));
-        assert_eq!(why(&[1, 1, 1, 0, 65_535]), refused(9, 0));
+        assert_eq!(why(&[1, 256, 0, 1]), Fault::TooLarge);
+        assert_eq!(why(&[1, 33, 0, 1]), refused(7, 0));
+        assert_eq!(why(&[0, 0, 1]), refused(4, 2));
+        assert_eq!(why(&[1, 1, 1, 0, 65_535, 1]), refused(9, 0));
+    }
+
+    #[test]
+    fn versions_of_a_listing() {
+        let laid_out = |numbers: &[u16]| book_bytes(&Reader::default(), numbers);
+        let refused = |number, place| Err(Fault::Refused(Refusal { number, place }));
+        assert_eq!(laid_out(&E1[..29]), Err(Fault::Missing));
+        assert_eq!(laid_out(&[1, 1, 0, 1]), Ok(vec![1, 0, 0, 1, 0, 1, 0xE5]));
+        assert_eq!(laid_out(&[1, 1, 0, 2]), Ok(vec![1, 0, 0, 1, 0, 2, 0xE5]));
+        assert_eq!(laid_out(&[1, 1, 0, 0]), refused(3, 5));
+        assert_eq!(laid_out(&[1, 1, 0, 3]), refused(3, 5));
+        assert_eq!(laid_out(&[1, 1, 0, 257]), Err(Fault::TooLarge));
+        let fields = |fields: u16, version: u16| [&[fields][..], &vec![1; fields as usize], &[0, version]].concat();
+        for (most, version) in [(32, 1), (60, 2)] {
+            assert!(laid_out(&fields(most, version)).is_ok());
+            assert_eq!(laid_out(&fields(most + 1, version)), refused(4, most as u64 + 3));
+        }
     }
 
     /// One table on one field: its bytes are four and one for each row.
     #[test]
     fn bytes_beyond_all_limits() {
         let why = |rows: u16| {
-            let numbers = [&[1, 1, 1, 1, 0, rows][..], &vec![0; rows as usize]].concat();
+            let numbers = [&[1, 1, 1, 1, 0, rows][..], &vec![0; rows as usize], &[1]].concat();
             book_bytes(&Reader::default(), &numbers).expect_err("no book has it")
         };
         assert_eq!(why(4_097), Fault::Refused(Refusal { number: 12, place: 0 }));

@@ -1,5 +1,6 @@
 //! Seeded listings: a book's own, or one with a flaw.
 
+use crate::book::field_limit;
 use crate::listing::{Fault, ListedTable, Listing};
 use crate::random::Random;
 
@@ -21,20 +22,32 @@ const fn way(name: &'static str, why: &'static str, made: fn(&mut Random, Listin
 pub const WHOLE: Way = way("a book's own", ACCEPTED, |_, listing| listing.numbers());
 
 /// Flaws of single numbers, then limits and what is beyond them.
-pub const FLAWS: [Way; 26] = [
+pub const FLAWS: [Way; 36] = [
     way("no numbers", "missing", |_, _| Vec::new()),
     way("only the first numbers", "missing", first_numbers),
-    way("the last number missing", "missing", last_missing),
+    way("the version missing, as before M-103", "missing", |_, listing| but_for(listing, 1)),
+    way("the number before the version missing", "missing", |_, listing| but_for(listing, 2)),
     way("a number missing", "missing", one_missing),
     way("a number left over", "left over", |r, listing| [listing.numbers(), vec![[0, 1, 256, 65_535][r.from(0, 3)]]].concat()),
     way("a listing left over", "left over", |_, listing| listing.numbers().repeat(2)),
     way("a number put in between", "left over", put_in_between),
+    way("the version twice", "left over", |_, listing| [listing.numbers(), vec![listing.version]].concat()),
+    way("the version first", "left over", version_first),
+    way("the version before the tables", "left over", version_before_tables),
     way("256 for a number", "too large", |r, listing| exchanged(r, listing, |_, _| 256)),
     way("65,535 for a number", "too large", |r, listing| exchanged(r, listing, |_, _| 65_535)),
     way("256 more than a number", "too large", |r, listing| exchanged(r, listing, |_, number| number + 256)),
     way("another number", "reading's 11", |r, listing| exchanged(r, listing, |r, _| r.from(0, 70) as u16)),
+    way("the other version", ACCEPTED, |_, listing| of_version(&listing, 1 + listing.version % 2)),
+    way("a version that there is not", "reading's 3", |r, listing| of_version(&listing, r.one_of(&[0, 3, 129, 130, 255]))),
+    way("256 more than a version", "too large", |r, listing| of_version(&listing, r.one_of(&[256, 257, 258, 65_281]))),
     way("no fields", "reading's 4", |_, listing| of_fields(listing, 0)),
-    way("more than 32 fields", "reading's 4", |r, listing| of_fields(listing, [33, 60, 255, 256, 257, 288][r.from(0, 5)])),
+    way("as many fields as the version allows", ACCEPTED, |_, listing| at_limit(listing, 0)),
+    way("one field more than the version allows", "reading's 4", |_, listing| at_limit(listing, 1)),
+    way("as many fields as version 2 allows", "reading's 4", |_, listing| of_fields(listing, field_limit(2))),
+    way("more fields than any version allows", "reading's 4", |r, listing| {
+        of_fields(listing, r.one_of(&[64, 255, 256, 257, 316]))
+    }),
     way("no codes or more than 32", "reading's 7", spoilt_count),
     way("more than 64 tables", "reading's 5", |r, listing| of_tables(listing, [65, 255, 256, 257, 320][r.from(0, 4)])),
     way("a table of no fields", "reading's 9", |r, listing| in_table(r, listing, |_, table, _| widen(table, 0))),
@@ -50,8 +63,11 @@ pub const FLAWS: [Way; 26] = [
     way("random numbers of 16 bits", "missing", |r, _| (0..r.from(1, 12)).map(|_| r.word() as u16).collect()),
 ];
 
-/// Long listings: at the lengths where 1 begins and where the place of the field list leaves its two bytes, and far behind them.
-pub const LONG: [Way; 10] = [
+/// Long listings: each version's longest, at the lengths where 1 begins and where the place of the field list leaves its two bytes, and far
+/// behind them.
+pub const LONG: [Way; 12] = [
+    way("16,803 numbers of version 1", ACCEPTED, |_, _| longest(1)),
+    way("16,831 numbers of version 2", ACCEPTED, |_, _| longest(2)),
     way("32,768 bytes", "reading's 12", |_, listing| of_bytes(listing, 32_768)),
     way("32,769 bytes", "reading's 1", |_, listing| of_bytes(listing, 32_769)),
     way("the field list at 65,535", "reading's 1", |_, listing| list_at(listing, 65_535)),
@@ -81,12 +97,13 @@ pub fn some_listing(r: &mut Random, listing: Listing) -> (&'static str, Vec<u16>
     (way.name, (way.made)(r, listing))
 }
 
-/// The reasons for 20, by name. Bytes laid out from a listing agree with themselves: reading has no 2, 3, 6, 8 and 13 for them.
-pub const REASONS: [&str; 11] = [
+/// The reasons for 20, by name. Bytes laid out from a listing agree with themselves: reading has no 2, 6, 8 and 13 for them.
+pub const REASONS: [&str; 12] = [
     "missing",
     "left over",
     "too large",
     "reading's 1",
+    "reading's 3",
     "reading's 4",
     "reading's 5",
     "reading's 7",
@@ -116,10 +133,27 @@ fn first_numbers(r: &mut Random, listing: Listing) -> Vec<u16> {
     numbers
 }
 
-fn last_missing(_: &mut Random, listing: Listing) -> Vec<u16> {
+/// Without the number that stands there when they are counted from the last.
+fn but_for(listing: Listing, from_end: usize) -> Vec<u16> {
     let mut numbers = listing.numbers();
-    numbers.pop();
+    numbers.remove(numbers.len() - from_end);
     numbers
+}
+
+fn version_first(_: &mut Random, listing: Listing) -> Vec<u16> {
+    let mut numbers = listing.numbers();
+    numbers.rotate_right(1);
+    numbers
+}
+
+fn version_before_tables(_: &mut Random, listing: Listing) -> Vec<u16> {
+    let mut numbers = listing.numbers();
+    numbers[listing.counts.len() + 1..].rotate_right(1);
+    numbers
+}
+
+fn of_version(listing: &Listing, version: u16) -> Vec<u16> {
+    Listing { version, ..listing.clone() }.numbers()
 }
 
 fn one_missing(r: &mut Random, listing: Listing) -> Vec<u16> {
@@ -144,6 +178,12 @@ fn exchanged(r: &mut Random, listing: Listing, other: fn(&mut Random, u16) -> u1
 fn of_fields(mut listing: Listing, fields: usize) -> Vec<u16> {
     listing.counts.resize(fields, 1);
     listing.numbers()
+}
+
+/// So many fields more than the listing's version allows.
+fn at_limit(listing: Listing, more: usize) -> Vec<u16> {
+    let most = field_limit(listing.version as u8);
+    of_fields(listing, most + more)
 }
 
 fn spoilt_count(r: &mut Random, mut listing: Listing) -> Vec<u16> {
@@ -222,6 +262,14 @@ fn of_rows(r: &mut Random, mut listing: Listing, rows: usize) -> Vec<u16> {
     listing.numbers()
 }
 
+/// As many fields, codes, tables, columns and rows as the version allows, and on the last fields the last codes.
+fn longest(version: u8) -> Vec<u16> {
+    let fields = field_limit(version);
+    let last = (fields as u16 - 4..fields as u16).collect();
+    let table = ListedTable { fields: last, rows: 64, codes: vec![31; 4 * 64] };
+    Listing { counts: vec![32; fields], tables: vec![table; 64], version: version as u16 }.numbers()
+}
+
 /// The last table has one field and as many rows as give the book this length.
 fn of_bytes(mut listing: Listing, length: usize) -> Vec<u16> {
     listing.tables.pop();
@@ -258,7 +306,7 @@ mod tests {
     #[test]
     fn each_way_has_its_reason() {
         let table = |fields: [u8; 2]| Table { fields: fields.to_vec(), rows: vec![vec![0, 0], vec![1, 1]] };
-        let listing = Listing::of(&Book { counts: vec![2; 3], tables: vec![table([0, 1]), table([1, 2])] });
+        let listing = Listing::of(&Book::new(vec![2; 3], vec![table([0, 1]), table([1, 2])]));
         let (reader, mut r) = (Reader::default(), Random(1));
         for way in ways() {
             let mut why = || {

@@ -2,13 +2,15 @@
 //!
 //! `outside DESK CASES [SEED]`: DESK is the built program, which reads book.bin and sheet.bin in its folder. A seed repeats a run;
 //! a case that differs is left in its folder, whose name is printed. A desk that prints ends with success. The run prints how often each
-//! refusal was reached and at how many places, and fails if one was not reached at several.
+//! refusal was reached and at how many places, and fails if one was not reached at several, or few books had more fields than version 1
+//! allows.
 
 use std::collections::{BTreeMap, BTreeSet};
 use std::path::{Path, PathBuf};
 use std::process::{Command, ExitCode, Output};
 
-use outside::desk::Desk;
+use outside::book::field_limit;
+use outside::desk::{Desk, Reading};
 use outside::faults::{changed, faulty, some_faults};
 use outside::random::{self, Random};
 use outside::text;
@@ -31,6 +33,9 @@ const REACHED: [(u64, usize); 15] = [
     (14, 3),
     (19, 1),
 ];
+
+/// How many accepted books have to have more fields than version 1 allows.
+const MANY_FIELDS: u64 = 50;
 
 struct Case {
     bytes: Vec<u8>,
@@ -74,12 +79,50 @@ fn desk_prints(desk: &Path, folder: &Path, case: &Case) -> std::io::Result<Outpu
     Command::new(desk).current_dir(folder).output()
 }
 
+/// What the cases had.
+#[derive(Default)]
+struct Seen {
+    accepted: u64,
+    /// Those of them with more fields than version 1 allows.
+    many_fields: u64,
+    /// How often each refusal was reached, and at which places.
+    refused: BTreeMap<u64, (u64, BTreeSet<u64>)>,
+}
+
+impl Seen {
+    fn note(&mut self, slow: &Desk, reading: &Reading, form: &[u8]) {
+        match slow.loaded(reading, form) {
+            Ok(_) => {
+                self.accepted += 1;
+                self.many_fields += reading.as_ref().is_ok_and(|book| book.counts.len() > field_limit(1)) as u64;
+            }
+            Err(r) => {
+                let entry = self.refused.entry(r.number).or_default();
+                entry.0 += 1;
+                entry.1.insert(r.place);
+            }
+        }
+    }
+
+    /// Prints what was reached, and answers whether all that had to be was.
+    fn print(&self) -> bool {
+        println!("{} accepted, {} of them with more than {} fields", self.accepted, self.many_fields, field_limit(1));
+        for (number, (times, places)) in &self.refused {
+            println!("refused {number}: {times} times, {} places", places.len());
+        }
+        let missed = REACHED.iter().filter(|(number, places)| self.refused.get(number).map_or(0, |r| r.1.len()) < *places);
+        let missed: Vec<u64> = missed.map(|(number, _)| *number).collect();
+        if !missed.is_empty() {
+            println!("not reached at enough places: {missed:?}");
+        }
+        missed.is_empty() && self.many_fields >= MANY_FIELDS
+    }
+}
+
 fn run(desk: &Path, cases: u64, seed: u64) -> std::io::Result<bool> {
     let folder: PathBuf = std::env::temp_dir().join(format!("outside-{}", std::process::id()));
     std::fs::create_dir_all(&folder)?;
-    let mut reached: BTreeMap<u64, (u64, BTreeSet<u64>)> = BTreeMap::new();
-    let mut accepted = 0;
-    let slow = Desk::default();
+    let (slow, mut seen) = (Desk::default(), Seen::default());
     for i in 0..cases {
         let case = case(&mut Random(seed.wrapping_add(i.wrapping_mul(0x1_0000_0001))));
         let reading = slow.reader.read(&case.bytes);
@@ -90,26 +133,11 @@ fn run(desk: &Path, cases: u64, seed: u64) -> std::io::Result<bool> {
             println!("expected:\n{expected}printed, {}:\n{}", got.status, String::from_utf8_lossy(&got.stdout));
             return Ok(false);
         }
-        match slow.loaded(&reading, &case.form) {
-            Ok(_) => accepted += 1,
-            Err(r) => {
-                let entry = reached.entry(r.number).or_default();
-                entry.0 += 1;
-                entry.1.insert(r.place);
-            }
-        }
+        seen.note(&slow, &reading, &case.form);
     }
     std::fs::remove_dir_all(&folder)?;
-    println!("{cases} cases of seed {seed} agree; {accepted} accepted");
-    for (number, (times, places)) in &reached {
-        println!("refused {number}: {times} times, {} places", places.len());
-    }
-    let missed = REACHED.iter().filter(|(number, places)| reached.get(number).map_or(0, |r| r.1.len()) < *places);
-    let missed: Vec<u64> = missed.map(|(number, _)| *number).collect();
-    if !missed.is_empty() {
-        println!("not reached at enough places: {missed:?}");
-    }
-    Ok(missed.is_empty())
+    println!("{cases} cases of seed {seed} agree");
+    Ok(seen.print())
 }
 
 fn main() -> ExitCode {

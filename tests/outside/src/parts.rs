@@ -1,16 +1,20 @@
 //! Seeded books in parts that no table ties to each other: what is empty in one part leaves the codes of the others.
 
-use crate::book::{Book, Table};
+use crate::book::{field_limit, Book, Table};
 use crate::examples::e4;
 use crate::random::{allow_a_reading, table_of, Random};
 
-/// Two to four parts, in some books with fields of no table beside them, up to 32 fields.
+/// A few parts, in some books with as many fields beside them as version 1 allows.
 pub fn book(r: &mut Random) -> Book {
+    let least = if r.one_in(4) { field_limit(1) } else { 0 };
+    of_fields(r, least)
+}
+
+/// Two to four parts, with fields of no table beside them where there would be fewer fields than this.
+pub fn of_fields(r: &mut Random, least: usize) -> Book {
     let mut parts: Vec<Book> = (0..r.from(2, 4)).map(|_| part(r)).collect();
-    if r.one_in(4) {
-        let fields: usize = parts.iter().map(|part| part.counts.len()).sum();
-        parts.extend((fields..32).map(|_| lone(r)));
-    }
+    let fields: usize = parts.iter().map(|part| part.counts.len()).sum();
+    parts.extend((fields..least).map(|_| lone(r)));
     joined(r, &parts)
 }
 
@@ -28,7 +32,7 @@ fn part(r: &mut Random) -> Book {
 fn equal(r: &mut Random) -> Book {
     let (fields, codes) = (r.from(2, 3), r.from(2, 4) as u8);
     let table = |f| Table { fields: vec![f, f + 1], rows: (0..codes).map(|c| vec![c, c]).collect() };
-    Book { counts: vec![codes; fields], tables: (0..fields as u8 - 1).map(table).collect() }
+    Book::new(vec![codes; fields], (0..fields as u8 - 1).map(table).collect())
 }
 
 /// Some tables on one to three fields, by which a full reading is possible where all of them have rows.
@@ -39,14 +43,14 @@ fn related(r: &mut Random) -> Book {
         table_of(r, &counts, rows)
     });
     let tables = tables.collect();
-    let mut book = Book { counts, tables };
+    let mut book = Book::new(counts, tables);
     allow_a_reading(r, &mut book);
     book
 }
 
 /// One field, and no table.
 fn lone(r: &mut Random) -> Book {
-    Book { counts: vec![r.from(1, 3) as u8], tables: Vec::new() }
+    Book::new(vec![r.from(1, 3) as u8], Vec::new())
 }
 
 /// One field, and a table on it alone with some of its codes or none.
@@ -54,7 +58,7 @@ fn limited(r: &mut Random) -> Book {
     let codes = r.from(1, 4);
     let (rows, first) = (r.from(0, codes - 1), r.from(0, codes - 1));
     let rows = (0..rows).map(|i| vec![((first + i) % codes) as u8]).collect();
-    Book { counts: vec![codes as u8], tables: vec![Table { fields: vec![0], rows }] }
+    Book::new(vec![codes as u8], vec![Table { fields: vec![0], rows }])
 }
 
 /// All parts in one book, with their fields and their tables in any order.
@@ -62,7 +66,7 @@ fn joined(r: &mut Random, parts: &[Book]) -> Book {
     let fields: usize = parts.iter().map(|part| part.counts.len()).sum();
     let mut places: Vec<u8> = (0..fields as u8).collect();
     r.shuffle(&mut places);
-    let mut book = Book { counts: vec![0; fields], tables: Vec::new() };
+    let mut book = Book::new(vec![0; fields], Vec::new());
     let mut rest = &places[..];
     for part in parts {
         let (own, behind) = rest.split_at(part.counts.len());

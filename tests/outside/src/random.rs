@@ -2,8 +2,9 @@
 
 use std::collections::BTreeSet;
 
-use crate::book::{Book, Table};
+use crate::book::{field_limit, Book, Table};
 use crate::filter::{largest, relaxed, NO_ANSWER};
+use crate::many;
 use crate::parts;
 use crate::repeats;
 
@@ -53,7 +54,7 @@ pub fn fields_of(r: &mut Random, fields: usize, arity: usize) -> Vec<u8> {
     chosen
 }
 
-fn row_of(r: &mut Random, counts: &[u8], fields: &[u8]) -> Vec<u8> {
+pub fn row_of(r: &mut Random, counts: &[u8], fields: &[u8]) -> Vec<u8> {
     fields.iter().map(|&f| r.from(0, counts[f as usize] as usize - 1) as u8).collect()
 }
 
@@ -86,7 +87,7 @@ fn small(r: &mut Random) -> Book {
             table_of(r, &counts, rows)
         })
         .collect();
-    let mut book = Book { counts, tables };
+    let mut book = Book::new(counts, tables);
     if !r.one_in(3) {
         allow_a_reading(r, &mut book);
     }
@@ -104,7 +105,8 @@ pub fn allow_a_reading(r: &mut Random, book: &mut Book) {
 
 /// Many fields with many codes.
 fn wide(r: &mut Random) -> Book {
-    let fields = if r.one_in(2) { 32 } else { r.from(20, 32) };
+    let most = field_limit(r.one_of(&[1, 1, 1, 2]));
+    let fields = if r.one_in(2) { most } else { r.from(20, most) };
     let counts: Vec<u8> = (0..fields).map(|_| if r.one_in(3) { 32 } else { r.from(1, 32) as u8 }).collect();
     let tables = (0..r.from(1, 12))
         .map(|_| {
@@ -112,12 +114,13 @@ fn wide(r: &mut Random) -> Book {
             table_of(r, &counts, rows)
         })
         .collect();
-    Book { counts, tables }
+    Book::new(counts, tables)
 }
 
 /// The most tables, each with few rows.
 fn many_tables(r: &mut Random) -> Book {
-    let fields = r.from(2, 32);
+    let most = field_limit(r.one_of(&[1, 1, 2]));
+    let fields = r.from(2, most);
     let counts: Vec<u8> = (0..fields).map(|_| r.from(1, 6) as u8).collect();
     let tables = (0..64)
         .map(|_| {
@@ -125,7 +128,7 @@ fn many_tables(r: &mut Random) -> Book {
             table_of(r, &counts, rows)
         })
         .collect();
-    Book { counts, tables }
+    Book::new(counts, tables)
 }
 
 /// The most rows.
@@ -133,7 +136,7 @@ fn many_rows(r: &mut Random) -> Book {
     let counts: Vec<u8> = (0..6).map(|_| r.from(8, 32) as u8).collect();
     let first = r.from(0, 4_096);
     let tables = [first, 4_096 - first].iter().map(|&rows| table_of(r, &counts, rows)).collect();
-    Book { counts, tables }
+    Book::new(counts, tables)
 }
 
 /// A ring of tables in which each code goes with the next one, so that one strike follows another.
@@ -157,7 +160,7 @@ fn ring(r: &mut Random) -> Book {
         });
         tables.push(Table { fields: vec![f.min(g), f.max(g)], rows: rows.collect() });
     }
-    Book { counts: vec![codes; fields], tables }
+    Book::new(vec![codes; fields], tables)
 }
 
 /// The rows of a table that carries each strike from one field to the next and none back: each code goes with the same code, or the
@@ -170,7 +173,8 @@ fn carrying(codes: u8, step: u8) -> Vec<(u8, u8)> {
 /// A ring of tables along which all codes but the last one of each field are struck one after another, in one direction. It begins
 /// where the step of one code leaves the first code without a partner. With the tables in any order, no few sweeps over them suffice.
 fn long_fall(r: &mut Random) -> Book {
-    let (fields, codes) = if r.one_in(2) { (r.from(3, 4) as u8, 32) } else { (32, r.from(3, 4) as u8) };
+    let (few, most) = (r.from(3, 4) as u8, field_limit(r.one_of(&[1, 1, 1, 1, 1, 2])) as u8);
+    let (fields, codes) = if r.one_in(2) { (few, 32) } else { (most, few) };
     let mut tables: Vec<Table> = (0..fields)
         .map(|f| {
             let next = (f + 1) % fields;
@@ -180,18 +184,28 @@ fn long_fall(r: &mut Random) -> Book {
         })
         .collect();
     r.shuffle(&mut tables);
-    Book { counts: vec![codes; fields as usize], tables }
+    Book::new(vec![codes; fields as usize], tables)
 }
 
+/// A book of the version that its fields ask for; where either has room for them, of either.
 pub fn book(r: &mut Random) -> Book {
-    match r.from(0, 330) {
+    let mut book = of_some_kind(r);
+    if r.one_in(3) {
+        book.version = 2;
+    }
+    book
+}
+
+fn of_some_kind(r: &mut Random) -> Book {
+    match r.from(0, 367) {
         0..=11 => wide(r),
         12..=23 => many_tables(r),
         24 => many_rows(r),
         25..=26 => long_fall(r),
         27..=62 => ring(r),
         63..=122 => parts::book(r),
-        123..=166 => repeats::book(r),
+        123..=172 => repeats::book(r),
+        173..=203 => many::book(r),
         _ => small(r),
     }
 }

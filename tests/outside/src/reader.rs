@@ -1,9 +1,9 @@
-//! Reading a book, written from document 01 alone. Its tests stand in a list, in document 01's order: a wrong reader is a list with
-//! another test or another order. So each test may come first: where it lacks its bytes, it has nothing to say.
+//! Reading a book, written from document 01 and document 02's M-103 alone. Its tests stand in a list, in document 01's order: a wrong
+//! reader is a list with another test or another order. So each test may come first: where it lacks its bytes, it has nothing to say.
 
 use std::ops::RangeInclusive;
 
-use crate::book::{Book, Refusal, Table};
+use crate::book::{field_limit, Book, Refusal, Table};
 
 /// A test of the whole book.
 pub type Test = fn(&[u8]) -> Option<Refusal>;
@@ -13,6 +13,10 @@ pub type TableTest = fn(&TableAt) -> Option<Refusal>;
 
 pub enum Stage {
     Whole(Test),
+    /// 3, a number that is no version.
+    Version,
+    /// 4, by the version's limit.
+    Fields,
     /// The tests of each table in turn.
     Tables(Vec<TableTest>),
     /// Bytes left over before the field list.
@@ -21,17 +25,19 @@ pub enum Stage {
 
 pub struct Reader {
     pub stages: Vec<Stage>,
+    /// The most fields of a version; 0 for a number that is none.
+    pub limit: fn(u8) -> usize,
     /// A table's number of rows, from its two bytes.
     pub rows: fn([u8; 2]) -> usize,
 }
 
 impl Default for Reader {
     fn default() -> Reader {
-        use Stage::{LeftOver, Tables, Whole};
-        let whole: [Test; 7] = [length, closing, version, fields, tables, place, code_counts];
+        use Stage::{Fields, LeftOver, Tables, Version, Whole};
         let table: [TableTest; 7] = [some_byte, arity, head, field_numbers, rows_fit, row_total, codes];
-        let stages = whole.map(Whole).into_iter().chain([Tables(table.to_vec()), LeftOver]);
-        Reader { stages: stages.collect(), rows: |bytes| u16::from_le_bytes(bytes) as usize }
+        let trailer = [Whole(length), Whole(closing), Version, Fields, Whole(tables), Whole(place), Whole(code_counts)];
+        let stages = trailer.into_iter().chain([Tables(table.to_vec()), LeftOver]);
+        Reader { stages: stages.collect(), limit: field_limit, rows: |bytes| u16::from_le_bytes(bytes) as usize }
     }
 }
 
@@ -72,20 +78,16 @@ fn closing(bytes: &[u8]) -> Option<Refusal> {
     refusal(byte != 0xE5, 2, place)
 }
 
-/// 3
-fn version(bytes: &[u8]) -> Option<Refusal> {
-    let (place, byte) = from_end(bytes, 2)?;
-    refusal(byte != 1, 3, place)
+/// 3, for a version outside these.
+pub fn version_outside(bytes: &[u8], versions: RangeInclusive<u8>) -> Option<Refusal> {
+    let (place, version) = from_end(bytes, 2)?;
+    refusal(!versions.contains(&version), 3, place)
 }
 
 /// 4, for a number of fields outside these.
-pub fn fields_outside(bytes: &[u8], numbers: RangeInclusive<u8>) -> Option<Refusal> {
+pub fn fields_outside(bytes: &[u8], numbers: RangeInclusive<usize>) -> Option<Refusal> {
     let (place, byte) = from_end(bytes, 4)?;
-    refusal(!numbers.contains(&byte), 4, place)
-}
-
-fn fields(bytes: &[u8]) -> Option<Refusal> {
-    fields_outside(bytes, 1..=32)
+    refusal(!numbers.contains(&(byte as usize)), 4, place)
 }
 
 /// 5, for more tables than this.
@@ -236,6 +238,16 @@ impl Reader {
         tests.expect("every reader tests its tables")
     }
 
+    fn version(&self, bytes: &[u8]) -> Option<Refusal> {
+        let (place, version) = from_end(bytes, 2)?;
+        refusal((self.limit)(version) == 0, 3, place)
+    }
+
+    fn fields(&self, bytes: &[u8]) -> Option<Refusal> {
+        let (_, version) = from_end(bytes, 2)?;
+        fields_outside(bytes, 1..=(self.limit)(version))
+    }
+
     /// Goes over the tables in turn, and ends at the first refusal. The trailer has been tested before.
     fn walk<'a>(&self, bytes: &'a [u8], tests: &[TableTest]) -> Result<Vec<TableAt<'a>>, Refusal> {
         let (list, counts) = field_list(bytes).expect("the field list lies within the book");
@@ -263,12 +275,41 @@ impl Reader {
         for stage in &self.stages {
             match stage {
                 Stage::Whole(test) => test(bytes).map_or(Ok(()), Err)?,
+                Stage::Version => self.version(bytes).map_or(Ok(()), Err)?,
+                Stage::Fields => self.fields(bytes).map_or(Ok(()), Err)?,
                 Stage::Tables(tests) => self.walk(bytes, tests).map(|_| ())?,
                 Stage::LeftOver => self.left_over(bytes)?,
             }
         }
         let (_, counts) = field_list(bytes).expect("the field list lies within the book");
-        let tables = self.walk(bytes, &[])?;
-        Ok(Book { counts: counts.to_vec(), tables: tables.iter().map(TableAt::table).collect() })
+        let tables = self.walk(bytes, &[])?.iter().map(TableAt::table).collect();
+        Ok(Book { version: bytes[bytes.len() - 2], counts: counts.to_vec(), tables })
+    }
+}
+
+#[cfg(test)]
+mod tests {
+    use super::Reader;
+    use crate::book::{refuse, Book};
+
+    /// Reads a book of fields of one code without tables.
+    fn reads(version: u8, fields: usize, refused: Option<(u64, usize)>) {
+        let book = Book { version, ..Book::new(vec![1; fields], Vec::new()) };
+        let expected = refused.map_or(Ok(book.clone()), |(number, place)| refuse(number, place));
+        assert_eq!(Reader::default().read(&book.write()), expected, "{fields} fields of version {version}");
+    }
+
+    #[test]
+    fn versions_and_their_limits() {
+        for (version, most) in [(1, 32), (2, 60)] {
+            reads(version, 0, Some((4, 2)));
+            reads(version, 1, None);
+            reads(version, most, None);
+            reads(version, most + 1, Some((4, most + 3)));
+            reads(version, 255, Some((4, 257)));
+        }
+        for version in [0, 3, 4, 255] {
+            [0, 1, 32, 33, 60, 61, 255].iter().for_each(|&fields| reads(version, fields, Some((3, fields + 4))));
+        }
     }
 }

@@ -35,7 +35,7 @@ pub fn book(r: &mut Random) -> Book {
 pub fn with_tables(r: &mut Random, rows: &[usize]) -> Book {
     let counts = vec![r.one_of(&[3, 8, 17, 32, 32]); r.from(4, 5)];
     let tables = rows.iter().map(|&rows| table(r, &counts, rows)).collect();
-    Book { counts, tables }
+    Book::new(counts, tables)
 }
 
 /// Three tables of more than 64 rows, with this many rows in all.
@@ -52,7 +52,7 @@ pub fn every_row(r: &mut Random) -> Book {
         repeat(&mut rows, 0, 4_095);
     }
     arrange(r, &mut rows);
-    Book { counts: vec![8; 4], tables: vec![Table { fields: vec![0, 1, 2, 3], rows }] }
+    Book::new(vec![8; 4], vec![Table { fields: vec![0, 1, 2, 3], rows }])
 }
 
 /// Two to four tables, mostly with the rows of the one before.

@@ -1,6 +1,8 @@
-//! What sheets show of document 02's M-101: which fields are listed, and which are not although codes of their own stand.
+//! What sheets show of document 02's M-101: which fields are listed, and which are not although codes of their own stand; and so for as
+//! many fields as M-103 allows.
 
 use std::collections::BTreeSet;
+use std::ops::RangeInclusive;
 
 use crate::book::Book;
 use crate::filter::{has_empty, largest, pass_cases, PassCase, NO_ANSWER};
@@ -12,24 +14,30 @@ pub struct Pass<'a> {
     cases: Vec<PassCase>,
 }
 
-/// A shape: its name, in how many cases of a run of 27,500 it has to be reached, and what has it.
+/// A shape: its name, in how many cases of a run of 30,000 it has to be reached, and what has it.
 type Shape = (&'static str, u64, fn(&Pass) -> bool);
 
 /// A field is passed over where it has no line although codes of its own stand with it lifted.
-pub const SHAPES: [Shape; 13] = [
+pub const SHAPES: [Shape; 19] = [
     ("a field listed", 2_000, |pass| pass.some_listed()),
     ("a field listed though the answers contradict each other", 500, |pass| pass.contradicts() && pass.some_listed()),
     ("a field passed over", 1_000, |pass| pass.passed_over().next().is_some()),
     ("one listed, another passed over", 200, |pass| pass.some_listed() && pass.passed_over().next().is_some()),
     ("one mends, another does not", 300, |pass| pass.some_listed() && pass.cases[1..].iter().any(|case| has_empty(&case.domain))),
-    ("two parts contradictory, nothing listed", 100, |pass| pass.contradictory_parts() > 1 && pass.only_passed_over()),
+    ("two parts contradictory, nothing listed", 100, |pass| pass.only_passed_over() && pass.contradictory_parts() > 1),
     ("passed over for a table without rows on a lone field", 100, |pass| pass.lone_without_rows() && pass.only_passed_over()),
     ("passed over for unanswered fields alone", 50, |pass| pass.passed_over_for(|f, _| pass.answers[f] == NO_ANSWER)),
     ("passed over for answered fields alone", 250, |pass| pass.passed_over_for(|f, _| pass.answers[f] != NO_ANSWER)),
     ("passed over for the first field alone", 25, |pass| pass.passed_over_for(|f, _| f == 0)),
     ("passed over for the last field alone", 25, |pass| pass.passed_over_for(|f, fields| f + 1 == fields)),
-    ("case 32 listed", 5, |pass| pass.cases.get(32).is_some_and(|case| !has_empty(&case.domain))),
-    ("case 32 passed over", 10, |pass| pass.cases.get(32).is_some_and(is_passed_over)),
+    ("passed over for fields from 32 on alone", 35, |pass| pass.passed_over_for(|f, _| f >= 32)),
+    ("passed over for field 59 alone", 7, |pass| pass.passed_over_for(|f, _| f == 59)),
+    ("case 32 listed", 35, |pass| pass.lists_case(32..=32)),
+    ("case 32 passed over", 50, |pass| pass.passes_over_case(32..=32)),
+    ("case 33 to 59 listed", 30, |pass| pass.lists_case(33..=59)),
+    ("case 33 to 59 passed over", 45, |pass| pass.passes_over_case(33..=59)),
+    ("case 60 listed", 6, |pass| pass.lists_case(60..=60)),
+    ("case 60 passed over", 3, |pass| pass.passes_over_case(60..=60)),
 ];
 
 /// The names of the shapes that a sheet has.
@@ -67,6 +75,14 @@ impl Pass<'_> {
 
     fn passed_over(&self) -> impl Iterator<Item = &PassCase> {
         self.cases[1..].iter().filter(|case| is_passed_over(case))
+    }
+
+    fn lists_case(&self, mut numbers: RangeInclusive<usize>) -> bool {
+        numbers.any(|k| self.cases.get(k).is_some_and(|case| !has_empty(&case.domain)))
+    }
+
+    fn passes_over_case(&self, mut numbers: RangeInclusive<usize>) -> bool {
+        numbers.any(|k| self.cases.get(k).is_some_and(is_passed_over))
     }
 
     fn only_passed_over(&self) -> bool {

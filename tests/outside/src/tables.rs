@@ -7,7 +7,7 @@ use crate::book::Book;
 
 type Rows = [Vec<u8>];
 
-/// A shape of a table: its name, how often it has to be reached in a run of 27,500 cases, how many rows the table has, and what has it.
+/// A shape of a table: its name, how often it has to be reached in a run of 30,000 cases, how many rows the table has, and what has it.
 type TableShape = (&'static str, u64, RangeInclusive<usize>, fn(&Rows) -> bool);
 
 /// A shape of a book in the same way.
@@ -231,7 +231,7 @@ mod tests {
 
     /// The shapes of a book of one table on two fields of 32 codes.
     fn names(rows: &[Vec<u8>]) -> Vec<&'static str> {
-        let book = Book { counts: vec![32; 2], tables: vec![Table { fields: vec![0, 1], rows: rows.to_vec() }] };
+        let book = Book::new(vec![32; 2], vec![Table { fields: vec![0, 1], rows: rows.to_vec() }]);
         shapes(&book).collect()
     }
 
@@ -266,7 +266,7 @@ mod tests {
     fn rows_in_two_tables() {
         assert_eq!(shapes(&e1()).collect::<Vec<_>>(), ["a row in two tables"]);
         let lone = |arity: u8| Table { fields: (0..arity).collect(), rows: vec![vec![0; arity as usize]] };
-        let book = Book { counts: vec![1; 3], tables: vec![lone(3), lone(2)] };
+        let book = Book::new(vec![1; 3], vec![lone(3), lone(2)]);
         assert_eq!(shapes(&book).collect::<Vec<_>>(), ["1 row", "a row in a table, and with a 0 behind it in another"]);
     }
 }

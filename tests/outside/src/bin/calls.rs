@@ -3,9 +3,9 @@
 //! `calls CASES [SEED]` runs the cases of a seed, 1 if none is given; `calls case INDEX SEED` repeats one of them. Each call is made
 //! bare and by the safe wrapper, with buffers one short, exact, longer, as long as the header says suffices, and of length 0, and with
 //! its memory flush against a page that nobody may touch, in front and behind; a list of calls is also made one by one, alternatives are
-//! held against plain filtering with each answered field relaxed, and a book that is shown or written goes the way back too. The run
-//! prints how often each refusal of each call was reached and what else the cases had, and fails if something was missed; some of it has
-//! to be had so often that it takes 27,500 cases.
+//! held against plain filtering with each answered field relaxed, a book that is shown or written goes the way back too, and an accepted
+//! book is turned into the other version. The run prints how often each refusal of each call was reached and what else the cases had, and
+//! fails if something was missed; some of it has to be had so often that it takes 30,000 cases.
 
 use std::ffi::c_int;
 use std::io::Write;
@@ -19,6 +19,7 @@ use outside::compare::{trials, Rooms, Trial};
 use outside::coverage::Coverage;
 use outside::desk::{after, Desk, Reading};
 use outside::library::{one_by_one, shown, written, Exported, Library, OneByOne, Wrapper};
+use outside::turned::turned;
 
 extern "C" {
     fn signal(number: c_int, handler: extern "C" fn(c_int)) -> usize;
@@ -103,6 +104,18 @@ fn trial_agrees(rooms: &Rooms, case: &Case, trial: &Trial) -> bool {
     })
 }
 
+/// The bare calls agree on the book turned into the other version too.
+fn versions_agree(rooms: &Rooms, case: &Case, reading: &Reading, trials: &[Trial]) -> bool {
+    let Some((turned, trials)) = turned(case, reading, trials) else {
+        return true;
+    };
+    let difference = trials.iter().find_map(|trial| rooms.difference(&Exported, &turned, trial));
+    if let Some(difference) = &difference {
+        println!("turned into the other version: {difference}");
+    }
+    difference.is_none()
+}
+
 fn case_agrees(rooms: &Rooms, seed: u64, index: u64, seen: &mut Coverage) -> bool {
     let case = case(seed, index);
     let reading = Desk::default().reader.read(&case.book);
@@ -110,6 +123,7 @@ fn case_agrees(rooms: &Rooms, seed: u64, index: u64, seen: &mut Coverage) -> boo
     seen.note(&case, &reading, &trials);
     trials.iter().all(|trial| trial_agrees(rooms, &case, trial))
         && filterings_agree(rooms, &case, &reading)
+        && versions_agree(rooms, &case, &reading, &trials)
         && case.calls.iter().all(|call| list_agrees(&case, &reading, call) && round_trips_agree(&case, call))
 }
 

@@ -16,8 +16,8 @@ const TELLING: &[&str] =
 const WRITING: &[&str] = &["filtered", "alternatives", "store", "replay", "report", "show", "write"];
 /// The calls that write and have a count.
 const COUNTING: &[&str] = &["alternatives", "replay", "report", "show", "write"];
-const OF_A_FIELD: &[&str] = &["enter", "withdraw", "filtered"];
-const OF_A_SHEET: &[&str] = &["enter", "withdraw", "filtered", "alternatives", "store"];
+pub const OF_A_FIELD: &[&str] = &["enter", "withdraw", "filtered"];
+pub const OF_A_SHEET: &[&str] = &["enter", "withdraw", "filtered", "alternatives", "store"];
 
 pub const SLIPS: &[Listed] = &[
     ("a field taken as a byte", OF_A_FIELD, Part(|desk| desk.taken = |call| taken(call, byte, whole))),
@@ -47,7 +47,7 @@ pub const SLIPS: &[Listed] = &[
     ("an accepted call's place not written", TELLING, Left(place_unwritten)),
 ];
 
-fn whole(number: usize) -> usize {
+pub fn whole(number: usize) -> usize {
     number
 }
 
@@ -60,7 +60,7 @@ fn word(number: usize) -> usize {
 }
 
 /// The call with its field and its code taken so.
-fn taken(call: &Call, field_as: fn(usize) -> usize, code_as: fn(usize) -> usize) -> Call {
+pub fn taken(call: &Call, field_as: fn(usize) -> usize, code_as: fn(usize) -> usize) -> Call {
     match *call {
         Call::Enter { field, code } => Call::Enter { field: field_as(field), code: code_as(code) },
         Call::Withdraw { field } => Call::Withdraw { field: field_as(field) },
@@ -90,11 +90,11 @@ fn fault_first(book: &Book, form: &[u8]) -> Result<Vec<u8>, Refusal> {
 }
 
 impl Seen<'_> {
-    fn accepted(&self) -> &Book {
+    pub fn accepted(&self) -> &Book {
         self.reading.as_ref().expect("14 to 18 come after the book was read")
     }
 
-    fn field(&self) -> usize {
+    pub fn field(&self) -> usize {
         match *self.call {
             Call::Enter { field, .. } | Call::Withdraw { field } | Call::Filtered { relaxed: field } => field,
             _ => NO_ANSWER as usize,
@@ -124,7 +124,7 @@ impl Seen<'_> {
 /// Looks at the sheet as soon as the field list is known.
 fn fault_before_tables(seen: &Seen, left: &mut calls::Left) {
     let counts = field_list(seen.book).map(|(_, counts)| counts.to_vec()).filter(|_| (8..=13).contains(&left.number));
-    let place = counts.and_then(|counts| faults(&Book { counts, tables: Vec::new() }, seen.sheet).next());
+    let place = counts.and_then(|counts| faults(&Book::new(counts, Vec::new()), seen.sheet).next());
     if let Some(place) = place {
         left.number = 14;
         left.cells[0] = place as u64;
@@ -157,6 +157,20 @@ pub fn before(left: &mut calls::Left, number: u64, other: u64, holds: impl Fn() 
 pub fn if_refused(left: &mut calls::Left, change: impl Fn(&mut calls::Left)) {
     if left.number != 0 {
         change(left);
+    }
+}
+
+/// Names another place with a refusal of this number.
+pub fn with_place(left: &mut calls::Left, number: u64, other: fn(u64) -> u64) {
+    if left.number == number {
+        left.cells[0] = other(left.cells[0]);
+    }
+}
+
+/// Refuses by 18 what has more elements than this.
+pub fn longer_refused(seen: &Seen, left: &mut calls::Left, most: usize) {
+    if left.number == 0 && seen.answer.written.elements() > most {
+        refused_by_18(left);
     }
 }
 

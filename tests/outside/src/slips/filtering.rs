@@ -12,7 +12,7 @@ const fn wrong_lines(what: &'static str, exchange: fn(&mut Desk)) -> Listed {
     (what, &["alternatives"], Part(exchange))
 }
 
-const fn wrong_filter(what: &'static str, exchange: fn(&mut Desk)) -> Listed {
+pub const fn wrong_filter(what: &'static str, exchange: fn(&mut Desk)) -> Listed {
     (what, &["filtered", "alternatives"], Part(exchange))
 }
 

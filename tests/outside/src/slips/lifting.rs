@@ -9,11 +9,11 @@ use super::{
     Wrong::{Left, Part},
 };
 use crate::book::Book;
-use crate::calls::{self, Answer, Call, LISTING};
+use crate::calls::{self, Answer, Call, LISTING, PLACES};
 use crate::desk::Desk;
 use crate::filter::{alternatives, has_empty, largest, pass_cases, Alternatives, Filter, PassCase, Subdomain, NO_ANSWER};
 
-const fn listing(what: &'static str, exchange: fn(&mut Desk)) -> Listed {
+pub const fn listing(what: &'static str, exchange: fn(&mut Desk)) -> Listed {
     (what, LISTING, Part(exchange))
 }
 
@@ -38,7 +38,7 @@ pub const SLIPS: &[Listed] = &[
     }),
     listing("a field of no table taken as empty", |desk| desk.alternatives = tables_asked),
     listing("places behind the fields taken as empty", |desk| {
-        desk.alternatives = |b, a, l| by_domain(b, a, l, |domain| domain.len() == 32 && !has_empty(domain))
+        desk.alternatives = |b, a, l| by_domain(b, a, l, |domain| domain.len() == PLACES && !has_empty(domain))
     }),
     listing("empty fields looked for with nothing lifted", |desk| {
         desk.alternatives = |b, a, l| listed_where(b, a, l, |_, cases| mended(&cases[0]))
@@ -86,10 +86,10 @@ pub const SLIPS: &[Listed] = &[
 ];
 
 /// The lines of the cases that are listed by this rule, from the number of a case and all cases.
-fn listed_where(book: &Book, answers: &[u8], largest: Filter, rule: impl Fn(usize, &[PassCase]) -> bool) -> Alternatives {
+pub fn listed_where(book: &Book, answers: &[u8], largest: Filter, rule: impl Fn(usize, &[PassCase]) -> bool) -> Alternatives {
     let cases = pass_cases(book, answers, largest);
     let listed = (1..cases.len()).filter(|&k| rule(k, &cases));
-    Alternatives { lines: listed.flat_map(|k| cases[k].lines()).collect(), ..alternatives(book, answers, largest) }
+    Alternatives { lines: listed.flat_map(|k| cases[k].lines()).collect(), struck: struck_in(&cases, |_| true) }
 }
 
 /// The rule before M-101.
@@ -97,7 +97,7 @@ pub fn listed_although_empty(book: &Book, answers: &[u8], largest: Filter) -> Al
     listed_where(book, answers, largest, |_, _| true)
 }
 
-fn mended(case: &PassCase) -> bool {
+pub fn mended(case: &PassCase) -> bool {
     !has_empty(&case.domain)
 }
 
@@ -107,7 +107,7 @@ fn by_domain(book: &Book, answers: &[u8], largest: Filter, rule: impl Fn(&Subdom
 }
 
 /// Looks for empty fields only among some.
-fn looking_at(book: &Book, answers: &[u8], largest: Filter, looked_at: impl Fn(usize) -> bool) -> Alternatives {
+pub fn looking_at(book: &Book, answers: &[u8], largest: Filter, looked_at: impl Fn(usize) -> bool) -> Alternatives {
     let fields = || (0..book.counts.len()).filter(|&f| looked_at(f));
     by_domain(book, answers, largest, |domain| fields().all(|f| domain[f].contains(&true)))
 }
@@ -160,7 +160,7 @@ fn held_code_added(book: &Book, answers: &[u8], largest: Filter) -> Alternatives
 }
 
 /// The marks struck in some of the cases.
-fn struck_in(cases: &[PassCase], counted: impl Fn(&&PassCase) -> bool) -> u64 {
+pub fn struck_in(cases: &[PassCase], counted: impl Fn(&&PassCase) -> bool) -> u64 {
     cases.iter().filter(counted).map(PassCase::struck).sum()
 }
 
@@ -202,12 +202,12 @@ fn leave(seen: &Seen, left: &mut calls::Left, bytes: Vec<u8>, counts: Vec<u64>) 
     *left = Answer { result: Ok(counts), sheet: left.sheet, written: bytes.into() }.left(seen.call, &left.out);
 }
 
-fn lines_of(answer: &Answer) -> impl Iterator<Item = &[u8]> {
+pub fn lines_of(answer: &Answer) -> impl Iterator<Item = &[u8]> {
     answer.written.bytes.split_inclusive(|&byte| byte == b'\n')
 }
 
 /// Leaves these lines as the text of a report.
-fn leave_text(seen: &Seen, left: &mut calls::Left, lines: Vec<&[u8]>) {
+pub fn leave_text(seen: &Seen, left: &mut calls::Left, lines: Vec<&[u8]>) {
     let text = lines.concat();
     let length = text.len() as u64;
     leave(seen, left, text, vec![length]);

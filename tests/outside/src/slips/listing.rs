@@ -11,19 +11,19 @@ use crate::book::Book;
 use crate::calls::{self, Answer, Call};
 use crate::desk::Desk;
 use crate::listing::{book_bytes, Fault, ListedTable, Listing};
-use crate::reader::{codes_outside, fields_outside, tables_above, Reader};
+use crate::reader::{codes_outside, tables_above, Reader};
 
 const BOTH: &[&str] = &["show", "write"];
 
-const fn showing(what: &'static str, exchange: fn(&mut Desk)) -> Listed {
+pub const fn showing(what: &'static str, exchange: fn(&mut Desk)) -> Listed {
     (what, &["show"], Part(exchange))
 }
 
-const fn writing(what: &'static str, exchange: fn(&mut Desk)) -> Listed {
+pub const fn writing(what: &'static str, exchange: fn(&mut Desk)) -> Listed {
     (what, &["write"], Part(exchange))
 }
 
-const fn leaving(what: &'static str, change: fn(&Seen, &mut calls::Left)) -> Listed {
+pub const fn leaving(what: &'static str, change: fn(&Seen, &mut calls::Left)) -> Listed {
     (what, &["write"], Left(change))
 }
 
@@ -48,7 +48,6 @@ pub const SLIPS: &[Listed] = &[
     showing("fields from 1", |desk| desk.listing = |book| changed(book, |t| t.fields.iter_mut().for_each(|f| *f += 1))),
     showing("the number of tables before the numbers of codes", |desk| desk.listing = tables_first),
     showing("the number of fields left out", |desk| desk.listing = |book| Listing::of(book).numbers().split_off(1)),
-    showing("the version behind all", |desk| desk.listing = |book| [Listing::of(book).numbers(), vec![1]].concat()),
     showing("bytes of all numbers exchanged", |desk| desk.listing = all_exchanged),
     ("18 tested before 1 to 13", &["show"], Left(nothing_lent_first)),
     writing("rows in rising order", |desk| desk.taken = |call| taken(call, sorted)),
@@ -60,11 +59,9 @@ pub const SLIPS: &[Listed] = &[
     writing("fields by their low byte", |desk| desk.taken = |call| taken(call, |t| low_bytes(&mut t.fields))),
     writing("numbers of codes by their low byte", |desk| desk.taken = |call| taken_whole(call, |l| low_bytes(&mut l.counts))),
     writing("numbers left over dropped", |desk| desk.taken = left_over_dropped),
-    writing("missing numbers taken as 0", |desk| desk.taken = missing_as_0),
+    writing("missing numbers taken as 1", |desk| desk.taken = missing_as_1),
     writing("a length of 16 bits", |desk| desk.taken = |call| first_numbers(call, call.listing().len() % 65_536)),
     writing("a length of 15 bits", |desk| desk.taken = |call| first_numbers(call, call.listing().len() % 32_768)),
-    writing("32 fields refused", |desk| whole(desk, 3, |bytes| fields_outside(bytes, 1..=31))),
-    writing("33 fields written", |desk| whole(desk, 3, |bytes| fields_outside(bytes, 1..=33))),
     writing("64 tables refused", |desk| whole(desk, 4, |bytes| tables_above(bytes, 63))),
     writing("65 tables written", |desk| whole(desk, 4, |bytes| tables_above(bytes, 65))),
     writing("32 codes refused", |desk| whole(desk, 6, |bytes| codes_outside(bytes, 1..=31).first().copied())),
@@ -81,8 +78,6 @@ pub const SLIPS: &[Listed] = &[
     leaving("20 with reading's place", |seen, left| if_refused_by_reading(seen, left, |left, _, place| left.cells[0] = place)),
     leaving("bytes laid out where they are lent before 20", laid_out_in_place),
     leaving("bytes laid out from 0 again at 65,536", laid_out_again),
-    leaving("version 0", |_, left| in_bytes(left, |bytes| bytes[bytes.len() - 2] = 0)),
-    leaving("version 2", |_, left| in_bytes(left, |bytes| bytes[bytes.len() - 2] = 2)),
     leaving("no closing byte", |_, left| in_bytes(left, |bytes| bytes[bytes.len() - 1] = 0)),
     leaving("the place of the field list one more", |_, left| in_bytes(left, place_one_more)),
     leaving("the place of the field list high byte first", |_, left| {
@@ -95,7 +90,7 @@ pub const SLIPS: &[Listed] = &[
 ];
 
 /// What the book shows, after this change.
-fn changed_whole(book: &Book, change: impl Fn(&mut Listing)) -> Vec<u16> {
+pub fn changed_whole(book: &Book, change: impl Fn(&mut Listing)) -> Vec<u16> {
     let mut listing = Listing::of(book);
     change(&mut listing);
     listing.numbers()
@@ -107,7 +102,7 @@ fn changed(book: &Book, change: fn(&mut ListedTable)) -> Vec<u16> {
 }
 
 /// The call with this change in its listing, where that has its parts.
-fn taken_whole(call: &Call, change: impl Fn(&mut Listing)) -> Call {
+pub fn taken_whole(call: &Call, change: impl Fn(&mut Listing)) -> Call {
     let Ok(mut listing) = Listing::taken_apart(call.listing()) else {
         return call.clone();
     };
@@ -178,8 +173,8 @@ fn left_over_dropped(call: &Call) -> Call {
     }
 }
 
-fn missing_as_0(call: &Call) -> Call {
-    let continued = [call.listing(), &[0; 70_000]].concat();
+fn missing_as_1(call: &Call) -> Call {
+    let continued = [call.listing(), &[1; 70_000]].concat();
     match (Listing::taken_apart(call.listing()), Listing::in_front(&continued)) {
         (Err(Fault::Missing), Ok((listing, _))) => Call::Write { listing: listing.numbers() },
         _ => call.clone(),
@@ -229,7 +224,7 @@ fn laid_out_again(seen: &Seen, left: &mut calls::Left) {
 }
 
 /// Changes the bytes written.
-fn in_bytes(left: &mut calls::Left, change: impl Fn(&mut [u8])) {
+pub fn in_bytes(left: &mut calls::Left, change: impl Fn(&mut [u8])) {
     if left.number == 0 {
         change(&mut left.out.bytes[..left.cells[1] as usize]);
     }

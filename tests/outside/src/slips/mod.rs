@@ -6,9 +6,13 @@ mod counting;
 mod filtering;
 mod lifting;
 mod listing;
+mod places;
 mod reading;
 mod rows;
 mod straying;
+mod versions;
+
+use std::cell::RefCell;
 
 use crate::book::Book;
 use crate::calls::{Answer, Buffers, Call, Left, Sheet};
@@ -58,9 +62,20 @@ impl Slip {
 
 /// All slips, each in each of its calls.
 pub fn all() -> Vec<Slip> {
-    let listed = [reading::SLIPS, counting::SLIPS, filtering::SLIPS, lifting::SLIPS, calling::SLIPS, listing::SLIPS].concat();
+    let of_m_103 = [versions::SLIPS, places::SLIPS].concat();
+    let listed =
+        [reading::SLIPS, counting::SLIPS, filtering::SLIPS, lifting::SLIPS, calling::SLIPS, listing::SLIPS, &of_m_103].concat();
     let in_each = |(what, calls, wrong): Listed| calls.iter().map(move |call| Slip::new(call, what, wrong));
     listed.into_iter().flat_map(in_each).chain(straying::slips()).collect()
+}
+
+/// A call with what the desk answers to it.
+struct Answered {
+    call: Call,
+    book: Vec<u8>,
+    sheet: Sheet,
+    reading: Reading,
+    answer: Answer,
 }
 
 /// The slow desk behind a library's interface.
@@ -68,6 +83,8 @@ pub fn all() -> Vec<Slip> {
 pub struct SlowLibrary {
     desk: Desk,
     wrong: Option<Wrong>,
+    /// The last call, which is made again and again with other lengths lent.
+    last: RefCell<Option<Answered>>,
 }
 
 impl SlowLibrary {
@@ -78,29 +95,39 @@ impl SlowLibrary {
             Wrong::Counted(different_rows) => desk.different_rows = different_rows,
             _ => {}
         }
-        SlowLibrary { desk, wrong: Some(slip.wrong) }
+        SlowLibrary { desk, wrong: Some(slip.wrong), last: RefCell::default() }
+    }
+
+    /// The answer to the last call, if this one is the same, or the desk's.
+    fn answered(&self, call: &Call, book: &[u8], sheet: Sheet) -> Answered {
+        let last = self.last.take().filter(|last| last.call == *call && last.book == book && last.sheet == sheet);
+        last.unwrap_or_else(|| {
+            let reading = self.desk.reader.read(book);
+            let answer = self.desk.answer(call, &reading, &sheet);
+            Answered { call: call.clone(), book: book.to_vec(), sheet, reading, answer }
+        })
     }
 }
 
 impl Library for SlowLibrary {
     unsafe fn call(&self, call: &Call, lent: &Lent) -> u64 {
         let (book, sheet) = (lent.book.elements(), lent.sheet());
-        let reading = self.desk.reader.read(book);
-        let answer = self.desk.answer(call, &reading, &sheet);
+        let answered = self.answered(call, book, sheet);
         let out = Buffers {
             bytes: lent.bytes.elements().to_vec(),
             listing: lent.shown.elements().to_vec(),
             numbers: lent.numbers.elements().to_vec(),
         };
-        let mut left = answer.left(call, &out);
+        let mut left = answered.answer.left(call, &out);
         match &self.wrong {
             Some(Wrong::Left(change)) => {
-                let seen = Seen { call, book, reading: &reading, sheet: &sheet, answer: &answer, lent: out.elements() };
-                change(&seen, &mut left);
+                let (reading, answer) = (&answered.reading, &answered.answer);
+                change(&Seen { call, book, reading, sheet: &sheet, answer, lent: out.elements() }, &mut left);
             }
             Some(Wrong::Memory(stray)) => stray.touch(lent),
             _ => {}
         }
+        self.last.replace(Some(answered));
         if !call.only_reads_sheet() {
             lent.sheet.elements_mut().copy_from_slice(&left.sheet);
         }

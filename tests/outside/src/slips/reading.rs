@@ -3,7 +3,7 @@
 use super::{Listed, Wrong::Part};
 use crate::book::Book;
 use crate::desk::Desk;
-use crate::reader::{codes_outside, fields_outside, length_outside, tables_above, Stage, TableTest, Test};
+use crate::reader::{codes_outside, length_outside, tables_above, Stage, TableTest, Test};
 
 /// Each shows wherever a book is read, and best in the call that does nothing else.
 const fn of(name: &'static str, exchange: fn(&mut Desk)) -> Listed {
@@ -28,8 +28,6 @@ pub const SLIPS: &[Listed] = &[
     of("exactly 6 bytes refused by 1", |desk| whole(desk, 0, |bytes| length_outside(bytes, 7..=32_768))),
     of("exactly 32,768 bytes refused by 1", |desk| whole(desk, 0, |bytes| length_outside(bytes, 6..=32_767))),
     of("32,769 bytes read", |desk| whole(desk, 0, |bytes| length_outside(bytes, 6..=32_769))),
-    of("32 fields refused by 4", |desk| whole(desk, 3, |bytes| fields_outside(bytes, 1..=31))),
-    of("33 fields read", |desk| whole(desk, 3, |bytes| fields_outside(bytes, 1..=33))),
     of("64 tables refused by 5", |desk| whole(desk, 4, |bytes| tables_above(bytes, 63))),
     of("65 tables read", |desk| whole(desk, 4, |bytes| tables_above(bytes, 65))),
     of("7 names the last bad field", |desk| whole(desk, 6, |bytes| codes_outside(bytes, 1..=32).last().copied())),
