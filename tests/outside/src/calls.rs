@@ -28,6 +28,16 @@ pub enum Call {
     Write { listing: Vec<u16> },
 }
 
+/// The calls that read a book.
+pub const OF_A_BOOK: &[&str] =
+    &["read", "enter", "withdraw", "filtered", "alternatives", "load", "store", "replay", "report", "show"];
+
+/// The calls that are given a sheet with answers.
+pub const OF_A_SHEET: &[&str] = &["enter", "withdraw", "filtered", "alternatives", "store"];
+
+/// The calls that are given a field.
+pub const OF_A_FIELD: &[&str] = &["enter", "withdraw", "filtered"];
+
 /// The calls that list alternatives.
 pub const LISTING: &[&str] = &["alternatives", "replay", "report"];
 

@@ -131,7 +131,7 @@ fn some_boundary(r: &mut Random) -> Option<Boundary> {
     match r.from(0, 1_199) {
         0 => Some(r.one_of(&LONGEST)),
         1..=12 => Some(r.one_of(&NUMBERS_OF_FIELDS)),
-        13..=28 => Some(r.one_of(&SIZES)),
+        13..=30 => Some(r.one_of(&SIZES)),
         _ => None,
     }
 }

@@ -4,7 +4,7 @@
 use std::ops::RangeInclusive;
 
 use crate::book::Refusal;
-use crate::calls::{Call, Sheet, LISTING};
+use crate::calls::{Call, Sheet, LISTING, OF_A_BOOK, OF_A_FIELD, OF_A_SHEET};
 use crate::compare::Trial;
 use crate::desk::{after, Desk, Reading};
 use crate::filter::NO_ANSWER;
@@ -19,10 +19,6 @@ pub struct Made<'a> {
 /// A shape: its name, how often each of its calls has to reach it in a run of 30,000 cases, these calls, and what has it.
 type Shape = (&'static str, u64, &'static [&'static str], fn(&Made) -> bool);
 
-const OF_A_BOOK: &[&str] =
-    &["read", "enter", "withdraw", "filtered", "alternatives", "load", "store", "replay", "report", "show"];
-const OF_A_SHEET: &[&str] = &["enter", "withdraw", "filtered", "alternatives", "store"];
-const OF_A_FIELD: &[&str] = &["enter", "withdraw", "filtered"];
 const OF_A_FORM: &[&str] = &["load", "report"];
 const ONE_FOR_EACH: &[&str] = &["filtered", "store"];
 const WITH_PAIRS: &[&str] = &["alternatives", "replay"];

@@ -5,7 +5,7 @@ use super::{
     Wrong::{Left, Part},
 };
 use crate::book::{refuse, Book, Refusal};
-use crate::calls::{self, Call, FRESH};
+use crate::calls::{self, Call, FRESH, OF_A_FIELD, OF_A_SHEET};
 use crate::compare::UNWRITTEN;
 use crate::desk::{faults, Desk};
 use crate::filter::{largest, NO_ANSWER};
@@ -16,8 +16,6 @@ const TELLING: &[&str] =
 const WRITING: &[&str] = &["filtered", "alternatives", "store", "replay", "report", "show", "write"];
 /// The calls that write and have a count.
 const COUNTING: &[&str] = &["alternatives", "replay", "report", "show", "write"];
-pub const OF_A_FIELD: &[&str] = &["enter", "withdraw", "filtered"];
-pub const OF_A_SHEET: &[&str] = &["enter", "withdraw", "filtered", "alternatives", "store"];
 
 pub const SLIPS: &[Listed] = &[
     ("a field taken as a byte", OF_A_FIELD, Part(|desk| desk.taken = |call| taken(call, byte, whole))),

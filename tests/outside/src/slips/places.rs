@@ -1,7 +1,7 @@
 //! Wrong sheets, filters and lists behind version 1's limit: places, fields and cases from 32 on, or the last of them, taken as if there
 //! were none, or as others; and counts and lists that are cut where version 1's end.
 
-use super::calling::{longer_refused, refused_by_18, taken, whole, with_place, OF_A_FIELD, OF_A_SHEET};
+use super::calling::{longer_refused, refused_by_18, taken, whole, with_place};
 use super::filtering::wrong_filter;
 use super::lifting::{leave_text, lines_of, listed_where, listing, looking_at, mended, struck_in};
 use super::{
@@ -9,7 +9,7 @@ use super::{
     Wrong::{Left, Part},
 };
 use crate::book::{field_limit, refuse, Book, Refusal};
-use crate::calls::{self, Call, PLACES};
+use crate::calls::{self, Call, OF_A_FIELD, OF_A_SHEET, PLACES};
 use crate::desk::{faults, Desk};
 use crate::filter::{
     allowed, alternatives, largest, pass_cases, remove, unsupported, Alternatives, Filter, PassCase, Subdomain, NO_ANSWER,

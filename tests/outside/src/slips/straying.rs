@@ -2,6 +2,7 @@
 //! lent to be read only. Most of them die by it, so each needs a process of its own.
 
 use super::{Slip, Wrong};
+use crate::calls::OF_A_BOOK;
 use crate::library::Lent;
 
 #[derive(Clone, Copy, Debug)]
@@ -67,7 +68,7 @@ impl Stray {
 
 /// The calls that each memory is lent to.
 const LENT: [(Memory, &[&str]); 8] = [
-    (Memory::Book, &["read", "enter", "withdraw", "filtered", "alternatives", "load", "store", "replay", "report", "show"]),
+    (Memory::Book, OF_A_BOOK),
     (Memory::List, &["load", "replay", "report"]),
     (Memory::Listing, &["write"]),
     (Memory::Sheet, &["fresh", "clear", "enter", "withdraw", "filtered", "alternatives", "load", "store", "replay"]),
