@@ -4,7 +4,7 @@ use sighting::{Counts, Sheet, BOOK_BYTES, LISTING_NUMBERS, NUMBERS, PAIRS_BYTES,
 
 use crate::families::Family;
 use crate::gecode::Root;
-use crate::listings::{self, Listed};
+use crate::listings::{refused, Listed};
 use crate::plain::{engine, listing, reader};
 use crate::shapes::{Order, Shape, FRESH, ONE_TABLE};
 use crate::stack;
@@ -226,16 +226,17 @@ pub fn listing(listed: &Listed) -> Listing {
     Listing { numbers: listed.listing.len(), library, plain, shown }
 }
 
-/// The stack bytes of each call on this book, of the calls that count different rows on one table of them all, and of writing the
-/// longest listing and one that is refused.
+/// The stack bytes of each call on this book with all fields answered, of the calls that count different rows on one table of them
+/// all, and of writing the book's listing and one that is refused.
 pub fn stacks(family: &Family) -> Vec<(&'static str, usize)> {
-    let (book, bytes) = (&family.book[..], family.sheet(32));
+    let (book, all) = (&family.book[..], family.fields());
+    let (sheet, form) = (Sheet::from(family.sheet(all)), family.stored(all));
     let (mut pairs, mut numbers, mut text) = ([0; PAIRS_BYTES], [0; NUMBERS], [0; REPORT_BYTES]);
     let (mut shown, mut written) = ([0; LISTING_NUMBERS], [0; BOOK_BYTES]);
-    let (longest, refused) = (listings::longest(), listings::refused());
+    let length = sighting::show(book, &mut shown).expect("accepted") as usize;
+    let (listing, refused) = (shown[..length].to_vec(), refused().listing);
     let one_table = &ONE_TABLE.books(Order::Random)[0][..];
-    let list = [0, 0, 0].repeat(32);
-    let sheet = Sheet::from(bytes);
+    let list = [0, 0, 0].repeat(all);
     let mut entered = sheet;
     vec![
         ("read", stack::bytes(&mut || assert!(sighting::read(book).is_ok()))),
@@ -244,13 +245,13 @@ pub fn stacks(family: &Family) -> Vec<(&'static str, usize)> {
         ("filtered", stack::bytes(&mut || assert!(sheet.filtered(book, None, &mut numbers).is_ok()))),
         ("alternatives", stack::bytes(&mut || assert!(sheet.alternatives(book, &mut pairs).is_ok()))),
         ("replay", stack::bytes(&mut || assert!(Sheet::replay(book, &list, &mut pairs).1.is_ok()))),
-        ("report", stack::bytes(&mut || assert!(sighting::report(book, &bytes, &mut text).is_ok()))),
+        ("report", stack::bytes(&mut || assert!(sighting::report(book, &form, &mut text).is_ok()))),
         (
             "report, 4,096 rows in one table",
             stack::bytes(&mut || assert!(sighting::report(one_table, &FRESH, &mut text).is_ok())),
         ),
         ("show", stack::bytes(&mut || assert!(sighting::show(book, &mut shown).is_ok()))),
-        ("write", stack::bytes(&mut || assert!(sighting::write(&longest.listing, &mut written).is_ok()))),
-        ("write, refused", stack::bytes(&mut || assert!(sighting::write(&refused.listing, &mut written).is_err()))),
+        ("write", stack::bytes(&mut || assert!(sighting::write(&listing, &mut written).is_ok()))),
+        ("write, refused", stack::bytes(&mut || assert!(sighting::write(&refused, &mut written).is_err()))),
     ]
 }

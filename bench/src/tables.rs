@@ -27,8 +27,9 @@ pub fn passes(out: &mut String, families: &[(String, Vec<Pass>)]) -> Result {
     Ok(())
 }
 
+/// The pass at n, or the last where the book has fewer fields.
 fn pass_at(passes: &[Pass], n: usize) -> &Pass {
-    passes.iter().find(|p| p.n == n).expect("measured")
+    passes.iter().find(|p| p.n == n).unwrap_or(&passes[passes.len() - 1])
 }
 
 fn most(values: impl Iterator<Item = f64>) -> f64 {
@@ -37,13 +38,20 @@ fn most(values: impl Iterator<Item = f64>) -> f64 {
 
 /// The targets of the one pass, with what was reached in the worst family.
 fn pass_targets(out: &mut String, families: &[(String, Vec<Pass>)]) -> Result {
+    let named = |name| &families.iter().find(|family| family.0.starts_with(name)).expect("measured").1;
+    let (b, e) = (named("B"), named("E"));
     let families = || families.iter().map(|family| &family.1);
-    let flat = most(families().map(|p| pass_at(p, 32).library / pass_at(p, 1).library));
+    let flat = most(families().map(|p| p[p.len() - 1].library / p[0].library));
     let plain = most(families().flatten().map(|p| p.library / p.plain));
     let faster = families().map(|p| pass_at(p, 16).separate / pass_at(p, 16).library).fold(f64::MAX, f64::min);
-    writeln!(out, "| time at n = 32 against n = 1 | at most 1.6 | {flat:.2} |")?;
+    let sixty = most(e.iter().map(|p| p.library / pass_at(b, p.n).library));
+    writeln!(out, "| time with all fields answered, n = 32 or 60, against n = 1 | at most 1.6 | {flat:.2} |")?;
     writeln!(out, "| library against plain Rust, any n | at most 1.5 | {plain:.2} |")?;
-    writeln!(out, "| n + 1 filterings against one pass at n = 16 | at least 8 | {faster:.2} |")
+    writeln!(out, "| n + 1 filterings against one pass at n = 16 | at least 8 | {faster:.2} |")?;
+    writeln!(
+        out,
+        "| full version 2 book (E) against the full 32-field book (B), any n; n = 60 against n = 32 | at most 2 | {sixty:.2} |"
+    )
 }
 
 /// The targets of reading, with what was reached in the worst shape and order.
@@ -144,7 +152,8 @@ pub fn listings(out: &mut String, listings: &[(&str, Listing)]) -> Result {
     Ok(())
 }
 
-pub fn stacks(out: &mut String, stacks: &[(&str, usize)]) -> Result {
-    writeln!(out, "| call | stack bytes written |\n|---|---|")?;
-    stacks.iter().try_for_each(|(call, bytes)| writeln!(out, "| {call} | {bytes} |"))
+/// The stack bytes of the calls on the full book of each version.
+pub fn stacks(out: &mut String, b: &[(&str, usize)], e: &[(&str, usize)]) -> Result {
+    writeln!(out, "| call | stack bytes written, B, n = 32 | E, n = 60 |\n|---|---|---|")?;
+    b.iter().zip(e).try_for_each(|((call, of_b), (_, of_e))| writeln!(out, "| {call} | {of_b} | {of_e} |"))
 }
