@@ -61,8 +61,11 @@ fn measured() -> Result<(String, String), std::fmt::Error> {
     if !gecode::INSTALLED {
         writeln!(out, "libgecode-dev was not installed: the column for Gecode is left out.\n")?;
     }
-    tables::targets(&mut out, &passes, &shaped)?;
+    let versions: Vec<_> = e.answers().map(|n| measure::versions(b, e, n)).collect();
+    tables::targets(&mut out, &passes, &versions, &shaped)?;
     families_sections(&mut out, &books, &passes)?;
+    writeln!(out, "\n### The full book of version 2 beside that of version 1, in turns\n")?;
+    tables::versions(&mut out, &versions)?;
     writeln!(out, "\n### Reading, by the shape of the tables and the order of the rows\n")?;
     tables::shapes(&mut out, &shaped)?;
     writeln!(out, "\n### The report, and reading as a part of it\n")?;

@@ -70,6 +70,22 @@ pub fn alternatives(family: &Family, n: usize) -> Pass {
     Pass { n, library: times[0], plain: times[1], separate: times[2], gecode: times.get(3).copied() }
 }
 
+/// The medians of one pass on the full book of each version, taken in turns.
+pub struct Versions {
+    pub n_of_1: usize,
+    pub n_of_2: usize,
+    pub of_1: f64,
+    pub of_2: f64,
+}
+
+/// With n answers on both books, or all that the one of version 1 can have.
+pub fn versions(of_1: &Family, of_2: &Family, n: usize) -> Versions {
+    let n_of_1 = n.min(of_1.fields());
+    let (sheet_of_1, sheet_of_2) = (Sheet::from(of_1.sheet(n_of_1)), Sheet::from(of_2.sheet(n)));
+    let times = medians(&mut [Box::new(|| one_pass(&of_1.book, &sheet_of_1)), Box::new(|| one_pass(&of_2.book, &sheet_of_2))]);
+    Versions { n_of_1, n_of_2: n, of_1: times[0], of_2: times[1] }
+}
+
 /// The medians of reading, by the library and by plain Rust, and of setting up Gecode.
 pub struct Reading {
     pub rows: u64,
