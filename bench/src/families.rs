@@ -1,4 +1,12 @@
-//! The four families of books, each with answers for any n.
+//! The five families of books, each with answers for any n.
+
+use sighting::{NO_ANSWER, SHEET_BYTES};
+
+use crate::plain::reader::field_limit;
+use crate::plain::CODES;
+
+/// The fields of each book of version 1: as many as it allows.
+const FIELDS: usize = field_limit(1);
 
 /// A book with the reading that its answers are taken from.
 pub struct Family {
@@ -11,13 +19,27 @@ pub struct Family {
 }
 
 impl Family {
+    pub fn fields(&self) -> usize {
+        self.order.len()
+    }
+
+    /// The numbers of answers that are measured: each double the one before, and last all fields.
+    pub fn answers(&self) -> impl Iterator<Item = usize> + '_ {
+        (0..).map(|k| 1 << k).take_while(|&n| n < self.fields()).chain([self.fields()])
+    }
+
     /// A sheet with n answers.
-    pub fn sheet(&self, n: usize) -> [u8; 32] {
-        let mut sheet = [255; 32];
+    pub fn sheet(&self, n: usize) -> [u8; SHEET_BYTES] {
+        let mut sheet = [NO_ANSWER; SHEET_BYTES];
         for &f in &self.order[..n] {
             sheet[f] = self.reading[f];
         }
         sheet
+    }
+
+    /// The stored form of that sheet.
+    pub fn stored(&self, n: usize) -> Vec<u8> {
+        self.sheet(n)[..self.fields()].to_vec()
     }
 }
 
@@ -62,7 +84,7 @@ fn on(fields: &[u8], reading: &[u8]) -> Vec<u8> {
 }
 
 /// The book's bytes, as document 01 lays them out.
-pub fn bytes(counts: &[u8], tables: &[Table]) -> Vec<u8> {
+pub fn bytes(version: u8, counts: &[u8], tables: &[Table]) -> Vec<u8> {
     let mut out = Vec::new();
     for (fields, rows) in tables {
         out.push(fields.len() as u8);
@@ -73,18 +95,18 @@ pub fn bytes(counts: &[u8], tables: &[Table]) -> Vec<u8> {
     let list = out.len() as u16;
     out.extend(counts);
     out.extend(list.to_le_bytes());
-    out.extend([counts.len() as u8, tables.len() as u8, 1, 0xE5]);
+    out.extend([counts.len() as u8, tables.len() as u8, version, 0xE5]);
     out
 }
 
 /// A: 32 fields of 2 to 10 codes, 35 binary tables that allow six pairs in ten.
 fn configuration() -> Family {
     let mut r = Random(1);
-    let counts: Vec<u8> = (0..32).map(|_| 2 + r.below(9) as u8).collect();
+    let counts: Vec<u8> = (0..FIELDS).map(|_| 2 + r.below(9) as u8).collect();
     let reading = r.reading(&counts);
     let mut tables = Vec::new();
     for _ in 0..35 {
-        let fields = r.fields(32, 2);
+        let fields = r.fields(FIELDS, 2);
         let mut rows = vec![on(&fields, &reading)];
         for c in 0..counts[fields[0] as usize] {
             for d in 0..counts[fields[1] as usize] {
@@ -95,20 +117,20 @@ fn configuration() -> Family {
         }
         tables.push((fields, rows));
     }
-    let order = r.shuffled(32);
-    Family { name: "A", what: "32 fields, 35 binary tables", book: bytes(&counts, &tables), reading, order }
+    let order = r.shuffled(FIELDS);
+    Family { name: "A", what: "32 fields, 35 binary tables", book: bytes(1, &counts, &tables), reading, order }
 }
 
-/// B: 32 fields of 32 codes, 64 tables of arity 4 with that many rows together; a quarter of the rows come from readings that all
-/// tables allow, the others are chosen at random.
-pub fn largest(rows: usize) -> Family {
+/// A full book: all fields of its version with 32 codes each, 64 tables of arity 4 with that many rows together; a quarter of the
+/// rows come from readings that all tables allow, the others are chosen at random.
+fn full(name: &'static str, what: &'static str, version: u8, rows: usize) -> Family {
     let mut r = Random(2);
-    let counts = vec![32; 32];
+    let counts = vec![CODES as u8; field_limit(version)];
     let each = rows / 64;
     let readings: Vec<Vec<u8>> = (0..each.div_ceil(4)).map(|_| r.reading(&counts)).collect();
     let mut tables = Vec::new();
     for _ in 0..64 {
-        let fields = r.fields(32, 4);
+        let fields = r.fields(counts.len(), 4);
         let mut rows: Vec<Vec<u8>> = readings.iter().map(|reading| on(&fields, reading)).collect();
         while rows.len() < each {
             let reading = r.reading(&counts);
@@ -117,8 +139,18 @@ pub fn largest(rows: usize) -> Family {
         let order = r.shuffled(each);
         tables.push((fields, order.iter().map(|&i| rows[i].clone()).collect()));
     }
-    let (reading, order) = (readings[0].clone(), r.shuffled(32));
-    Family { name: "B", what: "32 × 32 codes, 64 tables, 4,096 rows", book: bytes(&counts, &tables), reading, order }
+    let (reading, order) = (readings[0].clone(), r.shuffled(counts.len()));
+    Family { name, what, book: bytes(version, &counts, &tables), reading, order }
+}
+
+/// B: the full book of version 1, with that many rows.
+pub fn full_of_version_1(rows: usize) -> Family {
+    full("B", "32 × 32 codes, 64 tables, 4,096 rows", 1, rows)
+}
+
+/// E: the full book of version 2.
+fn full_of_version_2() -> Family {
+    full("E", "60 × 32 codes, 64 tables, 4,096 rows", 2, 4_096)
 }
 
 /// C: a ring of 16 fields in which each has the code of the one before, and the first the one that follows the last's. On each hangs
@@ -136,17 +168,17 @@ fn ring() -> Family {
     let counts: Vec<u8> = (0..32).map(|f| if f < 16 { 32 } else { 2 }).collect();
     let order = (16..32).chain(0..16).collect();
     let what = "a ring that strikes 512 codes one after another";
-    Family { name: "C", what, book: bytes(&counts, &tables), reading: vec![0; 32], order }
+    Family { name: "C", what, book: bytes(1, &counts, &tables), reading: vec![0; 32], order }
 }
 
 /// D: 4,096 rows of which each table has 12 different ones.
 fn repeated() -> Family {
     let mut r = Random(4);
-    let counts = vec![4; 32];
+    let counts = vec![4; FIELDS];
     let readings: Vec<Vec<u8>> = (0..6).map(|_| r.reading(&counts)).collect();
     let mut tables = Vec::new();
     for _ in 0..16 {
-        let fields = r.fields(32, 4);
+        let fields = r.fields(FIELDS, 4);
         let mut different: Vec<Vec<u8>> = readings.iter().map(|reading| on(&fields, reading)).collect();
         for _ in 0..6 {
             let reading = r.reading(&counts);
@@ -155,10 +187,10 @@ fn repeated() -> Family {
         let rows = (0..256).map(|_| different[r.below(12)].clone()).collect();
         tables.push((fields, rows));
     }
-    let (reading, order) = (readings[0].clone(), r.shuffled(32));
-    Family { name: "D", what: "4,096 rows, few of them different", book: bytes(&counts, &tables), reading, order }
+    let (reading, order) = (readings[0].clone(), r.shuffled(FIELDS));
+    Family { name: "D", what: "4,096 rows, few of them different", book: bytes(1, &counts, &tables), reading, order }
 }
 
-pub fn all() -> [Family; 4] {
-    [configuration(), largest(4_096), ring(), repeated()]
+pub fn all() -> [Family; 5] {
+    [configuration(), full_of_version_1(4_096), ring(), repeated(), full_of_version_2()]
 }

@@ -4,6 +4,8 @@
 mod linked {
     use std::ffi::c_void;
 
+    use sighting::SHEET_BYTES;
+
     extern "C" {
         fn gecode_open(book: *const u8, length: usize) -> *mut c_void;
         fn gecode_close(root: *mut c_void);
@@ -22,7 +24,7 @@ mod linked {
         }
 
         /// The total, by one clone for each of the n + 1 cases.
-        pub fn alternatives(&self, sheet: &[u8; 32]) -> u64 {
+        pub fn alternatives(&self, sheet: &[u8; SHEET_BYTES]) -> u64 {
             // SAFETY: the root is open; the sheet has a byte for each field.
             unsafe { gecode_alternatives(self.0, sheet.as_ptr()) }
         }
@@ -38,6 +40,8 @@ mod linked {
 
 #[cfg(not(gecode))]
 mod linked {
+    use sighting::SHEET_BYTES;
+
     pub struct Root;
 
     impl Root {
@@ -45,7 +49,7 @@ mod linked {
             None
         }
 
-        pub fn alternatives(&self, _: &[u8; 32]) -> u64 {
+        pub fn alternatives(&self, _: &[u8; SHEET_BYTES]) -> u64 {
             0
         }
     }

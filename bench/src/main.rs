@@ -19,13 +19,13 @@ use std::path::Path;
 use std::slice;
 
 use families::Family;
-use measure::Pass;
+use measure::{Pass, Report};
 use shapes::{Order, FRESH, ONE_TABLE};
 
 const BEGIN: &str = "<!-- measured: begin -->\n";
 const END: &str = "<!-- measured: end -->\n";
 
-/// What is measured on the books of the four families, and how reading grows with the rows of B.
+/// What is measured on the books of the five families, and how reading grows with the rows of B.
 fn families_sections(out: &mut String, books: &[Family], passes: &[(String, Vec<Pass>)]) -> std::fmt::Result {
     writeln!(out, "\n### All alternatives of a sheet with n answers\n")?;
     tables::passes(out, passes)?;
@@ -34,19 +34,25 @@ fn families_sections(out: &mut String, books: &[Family], passes: &[(String, Vec<
     let readings: Vec<_> = readings.collect();
     tables::readings(out, &readings)?;
     writeln!(out, "\n### Growth with the rows of family B, n = 16\n")?;
-    let steps = [256, 512, 1_024, 2_048, 4_096].map(families::largest);
+    let steps = [256, 512, 1_024, 2_048, 4_096].map(families::full_of_version_1);
     let steps: Vec<_> = steps.iter().map(|f| (measure::alternatives(f, 16), measure::reading(&f.book))).collect();
     tables::growth(out, &steps)
+}
+
+/// The report on a family's book with all fields answered.
+fn full_report(family: &Family) -> Report {
+    measure::report(slice::from_ref(&family.book), &family.stored(family.fields()))
 }
 
 /// The sections as text, and the drawing.
 fn measured() -> Result<(String, String), std::fmt::Error> {
     let books = families::all();
+    let [_, b, .., e] = &books;
     let passes: Vec<(String, Vec<Pass>)> = books
         .iter()
         .map(|family| {
-            let passes = [1, 2, 4, 8, 16, 32].map(|n| measure::alternatives(family, n));
-            (format!("{}: {}", family.name, family.what), passes.into())
+            let passes = family.answers().map(|n| measure::alternatives(family, n));
+            (format!("{}: {}", family.name, family.what), passes.collect())
         })
         .collect();
     let shaped = shapes::ALL.iter().flat_map(|shape| shape.orders.iter().map(|&order| measure::shaped(shape, order)));
@@ -55,19 +61,25 @@ fn measured() -> Result<(String, String), std::fmt::Error> {
     if !gecode::INSTALLED {
         writeln!(out, "libgecode-dev was not installed: the column for Gecode is left out.\n")?;
     }
-    tables::targets(&mut out, &passes, &shaped)?;
+    let versions: Vec<_> = e.answers().map(|n| measure::versions(b, e, n)).collect();
+    tables::targets(&mut out, &passes, &versions, &shaped)?;
     families_sections(&mut out, &books, &passes)?;
+    writeln!(out, "\n### The full book of version 2 beside that of version 1, in turns\n")?;
+    tables::versions(&mut out, &versions)?;
     writeln!(out, "\n### Reading, by the shape of the tables and the order of the rows\n")?;
     tables::shapes(&mut out, &shaped)?;
     writeln!(out, "\n### The report, and reading as a part of it\n")?;
-    let one_table = measure::report(&ONE_TABLE.books(Order::Random), &FRESH);
-    let largest = measure::report(slice::from_ref(&books[1].book), &books[1].sheet(32));
-    tables::reports(&mut out, &[("1 table of 4,096 random rows, no answers", one_table), ("family B, n = 32", largest)])?;
+    let reports = [
+        ("1 table of 4,096 random rows, no answers", measure::report(&ONE_TABLE.books(Order::Random), &FRESH)),
+        ("family B, n = 32", full_report(b)),
+        ("family E, n = 60", full_report(e)),
+    ];
+    tables::reports(&mut out, &reports)?;
     writeln!(out, "\n### Writing a listing, and showing the book written\n")?;
     let listings = listings::all().map(|listed| (listed.what, measure::listing(&listed)));
     tables::listings(&mut out, &listings)?;
-    writeln!(out, "\n### Stack, family B, n = 32\n")?;
-    tables::stacks(&mut out, &measure::stacks(&books[1]))?;
+    writeln!(out, "\n### Stack, all fields of the full books answered\n")?;
+    tables::stacks(&mut out, &measure::stacks(b), &measure::stacks(e))?;
     Ok((out, plot::svg(&passes)?))
 }
 

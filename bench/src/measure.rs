@@ -4,7 +4,7 @@ use sighting::{Counts, Sheet, BOOK_BYTES, LISTING_NUMBERS, NUMBERS, PAIRS_BYTES,
 
 use crate::families::Family;
 use crate::gecode::Root;
-use crate::listings::{self, Listed};
+use crate::listings::{refused, Listed};
 use crate::plain::{engine, listing, reader};
 use crate::shapes::{Order, Shape, FRESH, ONE_TABLE};
 use crate::stack;
@@ -68,6 +68,22 @@ pub fn alternatives(family: &Family, n: usize) -> Pass {
     }
     let times = medians(&mut contenders);
     Pass { n, library: times[0], plain: times[1], separate: times[2], gecode: times.get(3).copied() }
+}
+
+/// The medians of one pass on the full book of each version, taken in turns.
+pub struct Versions {
+    pub n_of_1: usize,
+    pub n_of_2: usize,
+    pub of_1: f64,
+    pub of_2: f64,
+}
+
+/// With n answers on both books, or all that the one of version 1 can have.
+pub fn versions(of_1: &Family, of_2: &Family, n: usize) -> Versions {
+    let n_of_1 = n.min(of_1.fields());
+    let (sheet_of_1, sheet_of_2) = (Sheet::from(of_1.sheet(n_of_1)), Sheet::from(of_2.sheet(n)));
+    let times = medians(&mut [Box::new(|| one_pass(&of_1.book, &sheet_of_1)), Box::new(|| one_pass(&of_2.book, &sheet_of_2))]);
+    Versions { n_of_1, n_of_2: n, of_1: times[0], of_2: times[1] }
 }
 
 /// The medians of reading, by the library and by plain Rust, and of setting up Gecode.
@@ -226,16 +242,17 @@ pub fn listing(listed: &Listed) -> Listing {
     Listing { numbers: listed.listing.len(), library, plain, shown }
 }
 
-/// The stack bytes of each call on this book, of the calls that count different rows on one table of them all, and of writing the
-/// longest listing and one that is refused.
+/// The stack bytes of each call on this book with all fields answered, of the calls that count different rows on one table of them
+/// all, and of writing the book's listing and one that is refused.
 pub fn stacks(family: &Family) -> Vec<(&'static str, usize)> {
-    let (book, bytes) = (&family.book[..], family.sheet(32));
+    let (book, all) = (&family.book[..], family.fields());
+    let (sheet, form) = (Sheet::from(family.sheet(all)), family.stored(all));
     let (mut pairs, mut numbers, mut text) = ([0; PAIRS_BYTES], [0; NUMBERS], [0; REPORT_BYTES]);
     let (mut shown, mut written) = ([0; LISTING_NUMBERS], [0; BOOK_BYTES]);
-    let (longest, refused) = (listings::longest(), listings::refused());
+    let length = sighting::show(book, &mut shown).expect("accepted") as usize;
+    let (listing, refused) = (shown[..length].to_vec(), refused().listing);
     let one_table = &ONE_TABLE.books(Order::Random)[0][..];
-    let list = [0, 0, 0].repeat(32);
-    let sheet = Sheet::from(bytes);
+    let list = [0, 0, 0].repeat(all);
     let mut entered = sheet;
     vec![
         ("read", stack::bytes(&mut || assert!(sighting::read(book).is_ok()))),
@@ -244,13 +261,13 @@ pub fn stacks(family: &Family) -> Vec<(&'static str, usize)> {
         ("filtered", stack::bytes(&mut || assert!(sheet.filtered(book, None, &mut numbers).is_ok()))),
         ("alternatives", stack::bytes(&mut || assert!(sheet.alternatives(book, &mut pairs).is_ok()))),
         ("replay", stack::bytes(&mut || assert!(Sheet::replay(book, &list, &mut pairs).1.is_ok()))),
-        ("report", stack::bytes(&mut || assert!(sighting::report(book, &bytes, &mut text).is_ok()))),
+        ("report", stack::bytes(&mut || assert!(sighting::report(book, &form, &mut text).is_ok()))),
         (
             "report, 4,096 rows in one table",
             stack::bytes(&mut || assert!(sighting::report(one_table, &FRESH, &mut text).is_ok())),
         ),
         ("show", stack::bytes(&mut || assert!(sighting::show(book, &mut shown).is_ok()))),
-        ("write", stack::bytes(&mut || assert!(sighting::write(&longest.listing, &mut written).is_ok()))),
-        ("write, refused", stack::bytes(&mut || assert!(sighting::write(&refused.listing, &mut written).is_err()))),
+        ("write", stack::bytes(&mut || assert!(sighting::write(&listing, &mut written).is_ok()))),
+        ("write, refused", stack::bytes(&mut || assert!(sighting::write(&refused, &mut written).is_err()))),
     ]
 }

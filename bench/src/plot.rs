@@ -2,6 +2,8 @@
 
 use std::fmt::Write;
 
+use sighting::SHEET_BYTES;
+
 use crate::measure::Pass;
 
 const WIDTH: f64 = 380.0;
@@ -34,8 +36,9 @@ struct Panel {
 }
 
 impl Panel {
+    /// All panels have the same scale, up to the most answers of any.
     fn x(&self, n: usize) -> f64 {
-        LEFT + (n as f64).log2() / 5.0 * (WIDTH - LEFT - RIGHT)
+        LEFT + (n as f64).log2() / (SHEET_BYTES as f64).log2() * (WIDTH - LEFT - RIGHT)
     }
 
     fn y(&self, microseconds: f64) -> f64 {

@@ -1,6 +1,7 @@
 //! Books by the shape of their tables and the order of their rows, for what counting the different rows takes.
 
 use crate::families::{bytes, Random, Table};
+use crate::plain::CODES;
 
 #[derive(Clone, Copy)]
 pub enum Order {
@@ -31,7 +32,7 @@ impl Order {
 }
 
 /// The codes of each field: so few fields that reading is about the rows.
-const COUNTS: [u8; 4] = [32; 4];
+const COUNTS: [u8; 4] = [CODES as u8; 4];
 
 /// A stored sheet without answers, for all of these books.
 pub const FRESH: [u8; COUNTS.len()] = [255; COUNTS.len()];
@@ -63,7 +64,7 @@ impl Shape {
     pub fn books(&self, order: Order) -> Vec<Vec<u8>> {
         let mut r = Random(6);
         let mut tables = || (0..self.tables).map(|_| self.table(order, &mut r)).collect::<Vec<Table>>();
-        (0..self.books).map(|_| bytes(&COUNTS, &tables())).collect()
+        (0..self.books).map(|_| bytes(1, &COUNTS, &tables())).collect()
     }
 }
 

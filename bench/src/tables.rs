@@ -2,7 +2,7 @@
 
 use std::fmt::{Result, Write};
 
-use crate::measure::{Filtering, Listing, Pass, Reading, Report, Shaped};
+use crate::measure::{Filtering, Listing, Pass, Reading, Report, Shaped, Versions};
 
 fn ratio(value: Option<f64>) -> String {
     value.map_or("–".to_string(), |v| format!("{v:.2}"))
@@ -38,12 +38,21 @@ fn most(values: impl Iterator<Item = f64>) -> f64 {
 /// The targets of the one pass, with what was reached in the worst family.
 fn pass_targets(out: &mut String, families: &[(String, Vec<Pass>)]) -> Result {
     let families = || families.iter().map(|family| &family.1);
-    let flat = most(families().map(|p| pass_at(p, 32).library / pass_at(p, 1).library));
+    let flat = most(families().map(|p| p[p.len() - 1].library / p[0].library));
     let plain = most(families().flatten().map(|p| p.library / p.plain));
     let faster = families().map(|p| pass_at(p, 16).separate / pass_at(p, 16).library).fold(f64::MAX, f64::min);
-    writeln!(out, "| time at n = 32 against n = 1 | at most 1.6 | {flat:.2} |")?;
+    writeln!(out, "| time with all fields answered, n = 32 or 60, against n = 1 | at most 1.6 | {flat:.2} |")?;
     writeln!(out, "| library against plain Rust, any n | at most 1.5 | {plain:.2} |")?;
     writeln!(out, "| n + 1 filterings against one pass at n = 16 | at least 8 | {faster:.2} |")
+}
+
+/// The target of the full book of version 2, with what was reached at the worst n.
+fn version_target(out: &mut String, versions: &[Versions]) -> Result {
+    let worst = most(versions.iter().map(|v| v.of_2 / v.of_1));
+    writeln!(
+        out,
+        "| full version 2 book (E) against the full 32-field book (B), any n; n = 60 against n = 32 | at most 2 | {worst:.2} |"
+    )
 }
 
 /// The targets of reading, with what was reached in the worst shape and order.
@@ -65,10 +74,20 @@ fn reading_targets(out: &mut String, shaped: &[Shaped]) -> Result {
     writeln!(out, "| reading ten rows against comparing row by row | at most 1 | {:.2} |", most(small))
 }
 
-pub fn targets(out: &mut String, families: &[(String, Vec<Pass>)], shaped: &[Shaped]) -> Result {
+pub fn targets(out: &mut String, families: &[(String, Vec<Pass>)], versions: &[Versions], shaped: &[Shaped]) -> Result {
     writeln!(out, "| target | asked | worst |\n|---|---|---|")?;
     pass_targets(out, families)?;
+    version_target(out, versions)?;
     reading_targets(out, shaped)
+}
+
+/// One pass on the full book of each version.
+pub fn versions(out: &mut String, versions: &[Versions]) -> Result {
+    writeln!(out, "| n, B | n, E | B, µs | E, µs | E ÷ B |\n|---|---|---|---|---|")?;
+    versions.iter().try_for_each(|v| {
+        let ratio = v.of_2 / v.of_1;
+        writeln!(out, "| {} | {} | {:.1} | {:.1} | {ratio:.2} |", v.n_of_1, v.n_of_2, v.of_1, v.of_2)
+    })
 }
 
 /// Reading, and one plain filtering.
@@ -144,7 +163,8 @@ pub fn listings(out: &mut String, listings: &[(&str, Listing)]) -> Result {
     Ok(())
 }
 
-pub fn stacks(out: &mut String, stacks: &[(&str, usize)]) -> Result {
-    writeln!(out, "| call | stack bytes written |\n|---|---|")?;
-    stacks.iter().try_for_each(|(call, bytes)| writeln!(out, "| {call} | {bytes} |"))
+/// The stack bytes of the calls on the full book of each version.
+pub fn stacks(out: &mut String, b: &[(&str, usize)], e: &[(&str, usize)]) -> Result {
+    writeln!(out, "| call | stack bytes written, B, n = 32 | E, n = 60 |\n|---|---|---|")?;
+    b.iter().zip(e).try_for_each(|((call, of_b), (_, of_e))| writeln!(out, "| {call} | {of_b} | {of_e} |"))
 }

@@ -7,8 +7,9 @@ use std::hint::black_box;
 /// What is timed; its number keeps the work from being left out.
 pub type Contender<'a> = Box<dyn FnMut() -> u64 + 'a>;
 
-/// A contender is run at least this long each time it is timed.
-const LEAST_NANOSECONDS: f64 = 1_000_000.0;
+/// A contender is run at least this long each time it is timed: the first calls after another contender's take up to three times as
+/// long, and are few among so many.
+const LEAST_NANOSECONDS: f64 = 5_000_000.0;
 
 const REPEATS: usize = 31;
 

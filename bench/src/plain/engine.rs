@@ -1,15 +1,18 @@
 //! The engine: all cases in one pass, one bit for each case in a word for each field and code, revised a column at a time.
 
 use super::reader::{check, Checked, Table};
-use super::Refused;
+use super::{Refused, CODES, PLACES};
 
 pub const NO_ANSWER: u8 = 255;
+
+/// A word of marks for each place and code.
+const WORDS: usize = PLACES * CODES;
 
 /// Filters a book in several cases at once: bit k of a mark says that it stands in case k.
 struct Engine<'a> {
     book: &'a Checked<'a>,
-    marks: [u64; 1024],
-    watch: [u64; 32],
+    marks: [u64; WORDS],
+    watch: [u64; PLACES],
     queue: u64,
     struck: u64,
 }
@@ -25,14 +28,14 @@ fn first_bits(n: usize) -> u64 {
 impl<'a> Engine<'a> {
     /// The marks that the answers allow: of an answered field the held code in all cases, the others in those that relax the
     /// field.
-    fn start(book: &'a Checked<'a>, sheet: &[u8; 32], cases: usize, relaxing: &[u64; 32]) -> Engine<'a> {
-        let mut engine = Engine { book, marks: [0; 1024], watch: [0; 32], queue: first_bits(book.view.tables), struck: 0 };
+    fn start(book: &'a Checked<'a>, sheet: &[u8; PLACES], cases: usize, relaxing: &[u64; PLACES]) -> Engine<'a> {
+        let mut engine = Engine { book, marks: [0; WORDS], watch: [0; PLACES], queue: first_bits(book.view.tables), struck: 0 };
         let all = first_bits(cases);
         for f in 0..book.view.fields {
             for c in 0..book.view.codes(f) {
                 let open = sheet[f] == NO_ANSWER || sheet[f] as usize == c;
                 let word = if open { all } else { relaxing[f] };
-                engine.marks[f * 32 + c] = word;
+                engine.marks[f * CODES + c] = word;
                 engine.struck += (all ^ word).count_ones() as u64;
             }
         }
@@ -45,7 +48,7 @@ impl<'a> Engine<'a> {
     }
 
     /// The first row from `from` on that keeps its code in column j in a case of need[code], with those cases.
-    fn support(&self, table: Table, j: usize, need: &[u64; 32], from: usize) -> Option<(usize, u64)> {
+    fn support(&self, table: Table, j: usize, need: &[u64; CODES], from: usize) -> Option<(usize, u64)> {
         let bytes = self.book.view.bytes;
         'rows: for r in from..table.rows {
             let row = table.first + r * table.arity;
@@ -56,7 +59,7 @@ impl<'a> Engine<'a> {
             for k in 0..table.arity {
                 if k != j {
                     let field = bytes[table.at + 1 + k] as usize;
-                    cases &= self.marks[field * 32 + bytes[row + k] as usize];
+                    cases &= self.marks[field * CODES + bytes[row + k] as usize];
                     if cases == 0 {
                         continue 'rows;
                     }
@@ -68,11 +71,11 @@ impl<'a> Engine<'a> {
     }
 
     /// Of the marks of column j, those that no row supports.
-    fn unsupported(&self, table: Table, j: usize, field: usize) -> [u64; 32] {
-        let mut need = [0; 32];
+    fn unsupported(&self, table: Table, j: usize, field: usize) -> [u64; CODES] {
+        let mut need = [0; CODES];
         let mut waiting = 0;
         for (c, word) in need.iter_mut().enumerate().take(self.book.view.codes(field)) {
-            *word = self.marks[field * 32 + c];
+            *word = self.marks[field * CODES + c];
             waiting += (*word != 0) as usize;
         }
         let mut from = 0;
@@ -95,7 +98,7 @@ impl<'a> Engine<'a> {
             let left = self.unsupported(table, j, field);
             let mut any = 0;
             for (c, &word) in left.iter().enumerate().take(self.book.view.codes(field)) {
-                self.marks[field * 32 + c] ^= word;
+                self.marks[field * CODES + c] ^= word;
                 self.struck += word.count_ones() as u64;
                 any |= word;
             }
@@ -120,7 +123,7 @@ impl<'a> Engine<'a> {
     fn empty_cases(&self) -> u64 {
         let mut full = u64::MAX;
         for f in 0..self.book.view.fields {
-            let codes = &self.marks[f * 32..f * 32 + self.book.view.codes(f)];
+            let codes = &self.marks[f * CODES..f * CODES + self.book.view.codes(f)];
             full &= codes.iter().fold(0, |any, word| any | word);
         }
         !full
@@ -128,7 +131,7 @@ impl<'a> Engine<'a> {
 }
 
 /// The lowest place of the sheet at fault: refusal 14.
-fn check_sheet(book: &Checked, sheet: &[u8; 32]) -> Result<(), Refused> {
+fn check_sheet(book: &Checked, sheet: &[u8; PLACES]) -> Result<(), Refused> {
     for (f, &a) in sheet.iter().enumerate() {
         if a != NO_ANSWER && (f >= book.view.fields || a as usize >= book.view.codes(f)) {
             return Err((14, f as u64));
@@ -138,10 +141,10 @@ fn check_sheet(book: &Checked, sheet: &[u8; 32]) -> Result<(), Refused> {
 }
 
 /// Total and struck; the pairs go to `out`. A field has none where, with its answer left out, some field is empty.
-pub fn alternatives(sheet: &[u8; 32], bytes: &[u8], out: &mut [u8]) -> Result<(u64, u64), Refused> {
+pub fn alternatives(sheet: &[u8; PLACES], bytes: &[u8], out: &mut [u8]) -> Result<(u64, u64), Refused> {
     let book = check(bytes)?;
     check_sheet(&book, sheet)?;
-    let mut relaxing = [0; 32];
+    let mut relaxing = [0; PLACES];
     let mut cases = 1;
     for f in (0..book.view.fields).filter(|&f| sheet[f] != NO_ANSWER) {
         relaxing[f] = 1 << cases;
@@ -150,7 +153,7 @@ pub fn alternatives(sheet: &[u8; 32], bytes: &[u8], out: &mut [u8]) -> Result<(u
     let mut engine = Engine::start(&book, sheet, cases, &relaxing);
     engine.propagate();
     let empty = engine.empty_cases();
-    let listed = |f: usize, c: usize| engine.marks[f * 32 + c] & relaxing[f] & !empty != 0;
+    let listed = |f: usize, c: usize| engine.marks[f * CODES + c] & relaxing[f] & !empty != 0;
     let places = || (0..book.view.fields).flat_map(|f| (0..book.view.codes(f)).map(move |c| (f, c)));
     let total = places().filter(|&(f, c)| listed(f, c)).count();
     if out.len() < 2 * total {
@@ -163,16 +166,16 @@ pub fn alternatives(sheet: &[u8; 32], bytes: &[u8], out: &mut [u8]) -> Result<(u
 }
 
 /// One number for each field, with nothing relaxed.
-pub fn filtered(sheet: &[u8; 32], bytes: &[u8], out: &mut [u32]) -> Result<(), Refused> {
+pub fn filtered(sheet: &[u8; PLACES], bytes: &[u8], out: &mut [u32]) -> Result<(), Refused> {
     let book = check(bytes)?;
     check_sheet(&book, sheet)?;
     if out.len() < book.view.fields {
         return Err((18, 0));
     }
-    let mut engine = Engine::start(&book, sheet, 1, &[0; 32]);
+    let mut engine = Engine::start(&book, sheet, 1, &[0; PLACES]);
     engine.propagate();
     for (f, number) in out.iter_mut().enumerate().take(book.view.fields) {
-        *number = (0..book.view.codes(f)).fold(0, |bits, c| bits | (engine.marks[f * 32 + c] as u32) << c);
+        *number = (0..book.view.codes(f)).fold(0, |bits, c| bits | (engine.marks[f * CODES + c] as u32) << c);
     }
     Ok(())
 }

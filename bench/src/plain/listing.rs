@@ -4,7 +4,7 @@ use super::reader::{check, View};
 use super::Refused;
 
 /// The bytes of the longest book that is accepted.
-const LONGEST: usize = 16_870;
+const LONGEST: usize = 16_898;
 
 fn all_bytes(numbers: &[u16]) -> bool {
     numbers.iter().all(|&number| number < 256)
@@ -23,15 +23,15 @@ fn table_end(listing: &[u16], at: usize) -> Option<usize> {
 fn fits(listing: &[u16]) -> Option<bool> {
     let fields = *listing.first()? as usize;
     let tables = *listing.get(1 + fields)? as usize;
-    // each table has one byte more than numbers, and the trailer four more than the numbers of fields and of tables
-    if listing.len() + tables + 4 > LONGEST || !all_bytes(&listing[..2 + fields]) {
+    // each table has one byte more than numbers, and the trailer three more than the numbers of fields and of tables and the version
+    if listing.len() + tables + 3 > LONGEST || !all_bytes(&listing[..2 + fields]) {
         return Some(false);
     }
     let mut at = 2 + fields;
     for _ in 0..tables {
         at = table_end(listing, at)?;
     }
-    Some(at == listing.len())
+    Some(listing.len() - at == 1 && all_bytes(&listing[at..]))
 }
 
 /// Lays out one byte for each number, and answers the place behind them.
@@ -57,7 +57,7 @@ fn lay_table(listing: &[u16], at: usize, out: &mut [u8], to: usize) -> (usize, u
     (end, narrow(&listing[first..end], out, to))
 }
 
-/// Lays out a listing that fits, as a book of version 1, and answers how many bytes it has.
+/// Lays out a listing that fits, and answers how many bytes the book has.
 fn lay_out(listing: &[u16], out: &mut [u8]) -> usize {
     let fields = listing[0] as usize;
     let tables = listing[1 + fields];
@@ -68,7 +68,7 @@ fn lay_out(listing: &[u16], out: &mut [u8]) -> usize {
     let list = to as u16;
     to = narrow(&listing[1..1 + fields], out, to);
     to = put(list.to_le_bytes(), out, to);
-    put([fields as u8, tables as u8, 1, 0xE5], out, to)
+    put([fields as u8, tables as u8, listing[at] as u8, 0xE5], out, to)
 }
 
 /// How many bytes the book has that the listing says; they go to `out`.
@@ -103,8 +103,8 @@ fn show_table(view: &View, from: usize, out: &mut [u16], at: usize) -> (usize, u
 /// How many numbers the book's listing has; they go to `out`.
 pub fn show(bytes: &[u8], out: &mut [u16]) -> Result<u64, Refused> {
     let view = check(bytes)?.view;
-    // every byte of a book shows one number, but for the second byte of each number of rows and four bytes of the trailer
-    let numbers = bytes.len() - view.tables - 4;
+    // every byte of a book shows one number, but for the second byte of each number of rows and three bytes of the trailer
+    let numbers = bytes.len() - view.tables - 3;
     let out = out.get_mut(..numbers).ok_or((18, 0))?;
     out[0] = view.fields as u16;
     let mut at = show_bytes(&view.bytes[view.list..view.list + view.fields], out, 1);
@@ -114,5 +114,6 @@ pub fn show(bytes: &[u8], out: &mut [u16]) -> Result<u64, Refused> {
     for _ in 0..view.tables {
         (from, at) = show_table(&view, from, out, at);
     }
+    out[at] = bytes[bytes.len() - 2] as u16;
     Ok(numbers as u64)
 }

@@ -5,5 +5,11 @@ pub mod engine;
 pub mod listing;
 pub mod reader;
 
+/// The places of a sheet: as many as a book of any version has fields at most.
+pub const PLACES: usize = 60;
+
+/// The most codes of a field.
+pub const CODES: usize = 32;
+
 /// A refusal: number and place.
 pub type Refused = (u64, u64);

@@ -1,6 +1,6 @@
 //! The reader: refusals 1 to 13 in their order, then the counts.
 
-use super::Refused;
+use super::{Refused, CODES, PLACES};
 
 const NO_TABLE: Table = Table { at: 0, arity: 0, first: 0, rows: 0 };
 
@@ -29,16 +29,26 @@ fn refuse<T>(number: u64, place: usize) -> Result<T, Refused> {
     Err((number, place as u64))
 }
 
+/// The most fields of a book of this version; none of one that is neither.
+pub const fn field_limit(version: u8) -> usize {
+    match version {
+        1 => 32,
+        2 => PLACES,
+        _ => 0,
+    }
+}
+
 fn trailer(bytes: &[u8]) -> Result<View<'_>, Refused> {
     let n = bytes.len();
     if !(6..=32_768).contains(&n) {
         return refuse(1, 0);
     }
     let (list, fields, tables) = (pair(bytes, n - 6), bytes[n - 4] as usize, bytes[n - 3] as usize);
+    let limit = field_limit(bytes[n - 2]);
     let tests = [
         (2, n - 1, bytes[n - 1] == 0xE5),
-        (3, n - 2, bytes[n - 2] == 1),
-        (4, n - 4, (1..=32).contains(&fields)),
+        (3, n - 2, limit != 0),
+        (4, n - 4, (1..=limit).contains(&fields)),
         (5, n - 3, tables <= 64),
         (6, n - 6, list + fields + 6 == n),
     ];
@@ -117,7 +127,7 @@ pub struct Checked<'a> {
 fn accept(bytes: &[u8], mut keep: impl FnMut(usize, Table)) -> Result<(View<'_>, usize), Refused> {
     let view = trailer(bytes)?;
     for f in 0..view.fields {
-        if !(1..=32).contains(&view.codes(f)) {
+        if !(1..=CODES).contains(&view.codes(f)) {
             return refuse(7, view.list + f);
         }
     }
