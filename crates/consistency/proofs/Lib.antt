@@ -19,6 +19,7 @@ pub mod AlikeLaws
 pub mod Repeats
 pub mod CountsAlike
 pub mod AlikeExample
+pub mod Elements
 pub mod Answers
 pub mod Chains
 pub mod ChainsExample

@@ -31,7 +31,7 @@ use Rattle.filter.specs.Cases.{casesOf, ownCase, marksOf, plainOf}
 use Rattle.filter.proofs.Words.{domain-bit}
 use Rattle.filter.proofs.Limits.{fields-few, codes-few}
 use Rattle.filter.proofs.Totals.{outside-cases}
-use Rattle.filter.proofs.Lists.{any-default}
+use Rattle.consistency.proofs.Elements.{any-default}
 use Rattle.filter.proofs.CaseMarks.{marks-length, marks-bit}
 use Rattle.filter.proofs.Ends.{outside-struck}
 

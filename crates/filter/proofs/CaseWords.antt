@@ -21,7 +21,7 @@ use Rattle.consistency.proofs.Booleans.{true-T, false-T, T-false, below-suc}
 use Rattle.consistency.proofs.Masks.{zero-bit}
 use Rattle.filter.specs.Start.{CasesAre, casesBelow}
 use Rattle.filter.proofs.Bits.{one-bit, low-bits}
-use Rattle.filter.proofs.Lists.{answer-at}
+use Rattle.consistency.proofs.Elements.{answer-at}
 
 -- a word that is 0 has no case
 no-case : (w k : ℕ) → w ≡ 0 → bit w k ≡ false

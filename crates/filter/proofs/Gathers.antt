@@ -59,7 +59,7 @@ abbrev pub maskBelow : List ℕ → ℕ → ℕ → ℕ
 maskBelow M n f = pick (ltb f n) (maskOf M f) 0
 
 module _ (M : List ℕ) (fields : ℕ) where
-  -- it is there below n, and 0 from n on
+  -- below the number of fields it is the field's, and from there on 0
   pub gathered : (f n : ℕ) → f < fields → n ≡ maskOf M f → n ≡ maskBelow M fields f
   gathered f n l e = e ∙ sym (ap (λ (t : Bool). pick t (maskOf M f) 0) (lt-ltb f fields l))
 

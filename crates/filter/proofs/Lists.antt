@@ -1,6 +1,6 @@
--- Elements of lists: of an array of zeros, also filled one by one, of a sheet, of a list of values. Assumes nothing.
+-- Elements of lists: of an array of zeros, also filled one by one, and of a list of values. Assumes nothing.
 use mathlib.Core.Path.{_≡_, refl, sym, ap, _∙_, subst}
-use mathlib.Core.List.{List, [], _∷_}
+use mathlib.Core.List.{List}
 use Prim.Native.Nat.{ℕ, zero, suc, _+_, _≤_, _<_}
 use native.Mathlib.Nat.{zero-add}
 use native.Mathlib.Decide.{decLt}
@@ -9,18 +9,7 @@ use lib.ListN.{length, getD, set, replicate, length-set, length-replicate}
 use lib.Seq.{ext-getD, getD-set-same, getD-set-other}
 use borrow.Author.Count.{below-more}
 use Rattle.consistency.specs.Counting.{tabulate}
-use Rattle.consistency.specs.Consistency.{answer}
 use Rattle.consistency.proofs.Sums.{length-tabulate, tabulate-at}
-
--- an element of a list does not turn on the value that stands for none
-pub any-default : {A : Type 0} (l : List A) (i : ℕ) (d e : A) → i < length l → getD l i d ≡ getD l i e
-any-default [] i d e h = absurd (omega arith)
-any-default (x ∷ l) zero d e h = refl
-any-default (x ∷ l) (suc i) d e h = any-default l i d e (omega arith)
-
--- an answer within the sheet
-pub answer-at : (a : List ℕ) (f : ℕ) → f < length a → getD a f 0 ≡ answer a f
-answer-at a f l = any-default a f 0 255 l
 
 -- words that are all 0
 pub zeros : (n i : ℕ) → _≡_ {A = ℕ} (getD (replicate n 0) i 0) 0

@@ -22,7 +22,8 @@ use Rattle.consistency.proofs.CodeCounts.{field-in}
 use Rattle.filter.specs.Words.{wordAt, standing}
 use Rattle.filter.specs.Start.{startWord, StartsField, FieldStarted, Starts, Started}
 use Rattle.consistency.proofs.Sums.{sum-ext}
-use Rattle.filter.proofs.Lists.{answer-at, zeros}
+use Rattle.consistency.proofs.Elements.{answer-at}
+use Rattle.filter.proofs.Lists.{zeros}
 use Rattle.filter.proofs.Limits.{fields-few, codes-few}
 use Rattle.filter.proofs.Starts.{casesAt}
 

@@ -9,7 +9,7 @@ use Rattle.format.specs.Basics.{All}
 use Rattle.format.specs.Format.{Table, Book, WellFormed, flat}
 use Rattle.format.proofs.Drops.{byte-front, part-front, drop-behind}
 use Rattle.format.proofs.Encode.{Even, tables-even, rows-read}
-use Rattle.format.specs.Listing.{tableNumbers, tablesNumbers, lastNumbers, listingOf, fieldsIn, tableCountIn, arityIn, rowCountIn, tableEndIn, tableIn, tablesIn, tablesEnd, versionIn, bookIn, listingEnd}
+use Rattle.format.specs.Listing.{tableNumbers, tablesNumbers, lastNumbers, listingOf, tableCountIn, arityIn, rowCountIn, tableEndIn, tableIn, tablesIn, tablesEnd, versionIn, bookIn, listingEnd}
 
 -- the codes of rows that have k codes each
 pub flat-length : (k : ℕ) (rows : List (List ℕ)) → All (λ r. length r ≡ k) rows → length (flat rows) ≡ length rows * k
@@ -53,7 +53,7 @@ module _ (l post : List ℕ) (t : Table) (p : ℕ) (even : Even t) (here : drop 
       (omega (arith, length-append (t .fields) (length (t .rows) ∷ flat (t .rows)), flat-length (length (t .fields)) (t .rows) even))
 
 -- the tables that stand at p, read
-pub tables-read : (l post : List ℕ) (ts : List Table) (p : ℕ) → All Even ts → drop p l ≡ tablesNumbers ts ++ post
+tables-read : (l post : List ℕ) (ts : List Table) (p : ℕ) → All Even ts → drop p l ≡ tablesNumbers ts ++ post
     → (tablesIn l p (length ts) ≡ ts) × ((tablesEnd l p (length ts) ≡ p + length (tablesNumbers ts)) × (drop (tablesEnd l p (length ts)) l ≡ post))
 unfolding tablesIn tablesEnd
 tables-read l post [] p o e = (refl, (sym (add-zero p), e))
@@ -64,48 +64,54 @@ tables-read l post (t ∷ ts) p o e =
     let i = tables-read l post ts (tableEndIn l p) (o .1) (r .1) in
     (rw (r .0, i .0), (omega (arith, i .1 .0, end, length-append (tableNumbers t) (tablesNumbers ts)), i .1 .1))
 
-module _ (b : Book) where
-  -- the parts of its listing, in their places
-  counts-here : drop 1 (listingOf b) ≡ b .counts ++ (length (b .tables) ∷ (tablesNumbers (b .tables) ++ lastNumbers (b .version)))
-  unfolding listingOf
-  counts-here = refl
+-- the numbers of a book's fields and tables, and whatever stands behind them
+abbrev pub numbersThen : Book → List ℕ → List ℕ
+numbersThen b post = length (b .counts) ∷ (b .counts ++ (length (b .tables) ∷ (tablesNumbers (b .tables) ++ post)))
 
-  tables-count-here : drop (1 + length (b .counts)) (listingOf b) ≡ length (b .tables) ∷ (tablesNumbers (b .tables) ++ lastNumbers (b .version))
-  tables-count-here = drop-behind (listingOf b) 1 (b .counts) _ counts-here
+module _ (b : Book) (post : List ℕ) where
+  -- the place behind the tables
+  abbrev pub numbersEnd : ℕ
+  numbersEnd = tablesEnd (numbersThen b post) (2 + length (b .counts)) (length (b .tables))
 
-  tables-here : drop (2 + length (b .counts)) (listingOf b) ≡ tablesNumbers (b .tables) ++ lastNumbers (b .version)
+  tables-count-here : drop (1 + length (b .counts)) (numbersThen b post) ≡ length (b .tables) ∷ (tablesNumbers (b .tables) ++ post)
+  tables-count-here = drop-behind (numbersThen b post) 1 (b .counts) _ refl
+
+  tables-here : drop (2 + length (b .counts)) (numbersThen b post) ≡ tablesNumbers (b .tables) ++ post
   tables-here =
       let e : 2 + length (b .counts) ≡ 1 + length (b .counts) + 1 = omega arith in
-      rw e (drop-behind (listingOf b) (1 + length (b .counts)) (length (b .tables) ∷ []) _ tables-count-here)
+      rw e (drop-behind (numbersThen b post) (1 + length (b .counts)) (length (b .tables) ∷ []) _ tables-count-here)
 
-  fields-count-read : fieldsIn (listingOf b) ≡ length (b .counts)
-  unfolding listingOf
-  fields-count-read = refl
+  pub tables-count-read : tableCountIn (numbersThen b post) ≡ length (b .tables)
+  tables-count-read = byte-front (numbersThen b post) (1 + length (b .counts)) _ _ tables-count-here
 
-  tables-count-read : tableCountIn (listingOf b) ≡ length (b .tables)
-  tables-count-read = rw fields-count-read (byte-front (listingOf b) (1 + length (b .counts)) _ _ tables-count-here)
+  pub numbers-length : length (numbersThen b post) ≡ 2 + length (b .counts) + length (tablesNumbers (b .tables)) + length post
+  numbers-length = simp length-append (omega arith)
 
-  -- its length
+  -- read, they say the book's fields and tables, and end before what stands behind them
+  pub all-read : WellFormed b → (tablesIn (numbersThen b post) (2 + length (b .counts)) (length (b .tables)) ≡ b .tables)
+      × ((numbersEnd ≡ 2 + length (b .counts) + length (tablesNumbers (b .tables))) × (drop numbersEnd (numbersThen b post) ≡ post))
+  all-read well = tables-read (numbersThen b post) post (b .tables) (2 + length (b .counts)) (tables-even (b .counts) (b .tables) (well .each)) tables-here
+
+module _ (b : Book) where
+  -- the length of its listing
   pub listing-length : length (listingOf b) ≡ 2 + length (b .counts) + length (tablesNumbers (b .tables)) + length (lastNumbers (b .version))
   unfolding listingOf
-  listing-length = simp length-append (omega arith)
+  listing-length = numbers-length b (lastNumbers (b .version))
 
   module _ (well : WellFormed b) where
-    all-read : (tablesIn (listingOf b) (2 + length (b .counts)) (length (b .tables)) ≡ b .tables)
-        × ((tablesEnd (listingOf b) (2 + length (b .counts)) (length (b .tables)) ≡ 2 + length (b .counts) + length (tablesNumbers (b .tables)))
-        × (drop (tablesEnd (listingOf b) (2 + length (b .counts)) (length (b .tables))) (listingOf b) ≡ lastNumbers (b .version)))
-    all-read = tables-read (listingOf b) (lastNumbers (b .version)) (b .tables) (2 + length (b .counts)) (tables-even (b .counts) (b .tables) (well .each)) tables-here
-
-    version-read : versionIn (listingOf b) (tablesEnd (listingOf b) (2 + length (b .counts)) (length (b .tables))) ≡ b .version
-    version-read = byte-front (listingOf b) (tablesEnd (listingOf b) (2 + length (b .counts)) (length (b .tables))) _ _ (all-read .1 .1)
-
     -- the listing says the book
     pub book-in : bookIn (listingOf b) ≡ b
-    unfolding bookIn
+    unfolding bookIn listingOf
     book-in =
-        let c = part-front (listingOf b) 1 (b .counts) _ counts-here in
-        rw (tables-count-read, fields-count-read, all-read .0, c, version-read)
+        let last = lastNumbers (b .version) in
+        let r = all-read b last well in
+        let c = part-front (numbersThen b last) 1 (b .counts) _ refl in
+        let v : versionIn (numbersThen b last) (numbersEnd b last) ≡ b .version = byte-front (numbersThen b last) (numbersEnd b last) _ _ (r .1 .1) in
+        rw (tables-count-read b last, r .0, c, v)
 
     -- and ends where its numbers end
     pub listing-ends : listingEnd (listingOf b) ≡ length (listingOf b)
-    listing-ends = rw (tables-count-read, fields-count-read) (omega (arith, all-read .1 .0, listing-length))
+    unfolding listingOf
+    listing-ends =
+        let last = lastNumbers (b .version) in
+        rw (tables-count-read b last) (omega (arith, all-read b last well .1 .0, numbers-length b last))

@@ -14,7 +14,7 @@ use Rattle.consistency.specs.Counts.{answered, Line, bit}
 use Rattle.sheet.proofs.Upward.{join-append}
 use Rattle.report.specs.Text.{spaced, linesText}
 use Rattle.report.specs.Writes.{Room, Puts, pairLines, maskLines, openIn}
-use Rattle.report.proofs.Places.{answer-read}
+use Rattle.consistency.proofs.Elements.{answer-at}
 use Rattle.report.proofs.Turns.{piece-room, piece-on, piece-none}
 
 -- ---- the text of lines
@@ -124,7 +124,7 @@ module _ (w masks s : List ℕ) {o : List ℕ} {at : ℕ} (f : ℕ) {o′ : List
   -- it has no answer
   module _ (e : getD s f 0 ≡ 255) where
     unanswered : fieldPiece w masks s f ≡ linesText w (maskLines f (getD masks f 0) codeLimit)
-    unanswered = rw (eq-eqb (getD s f 255) 255 (sym (answer-read s f l) ∙ e))
+    unanswered = rw (eq-eqb (getD s f 255) 255 (sym (answer-at s f l) ∙ e))
 
     pub field-room : (n : ℕ) → f < n → Room o at (linesText w (openIn masks s n)) → Room o′ r (linesText w (maskLines f (getD masks f 0) codeLimit))
     field-room n k h =
@@ -140,4 +140,4 @@ module _ (w masks s : List ℕ) {o : List ℕ} {at : ℕ} (f : ℕ) {o′ : List
   pub field-none : (getD s f 0 ≡ 255 → ⊥) → Puts o at (linesText w (openIn masks s (f + 1))) o′ r
   field-none n =
       piece-none (λ k. linesText w (openIn masks s k)) (fieldPiece w masks s) (open-more w masks s) f p
-      (rw (ne-eqb (getD s f 255) 255 (λ q. n (answer-read s f l ∙ q))))
+      (rw (ne-eqb (getD s f 255) 255 (λ q. n (answer-at s f l ∙ q))))

@@ -9,22 +9,18 @@ use lib.ListN.{length, getD}
 use Rattle.consistency.specs.Counting.{howMany}
 use Rattle.consistency.specs.Consistency.{answer}
 use Rattle.consistency.specs.Counts.{answered}
-use Rattle.sheet.proofs.Places.{default-unread}
+use Rattle.consistency.proofs.Elements.{answer-at}
 use Rattle.sheet.proofs.Upward.{many-more, many-same}
-
--- the answer at a place is the byte that stands there
-pub answer-read : (s : List ℕ) (f : ℕ) → f < length s → getD s f 0 ≡ answer s f
-answer-read s f l = default-unread s f 0 255 l
 
 module _ (s : List ℕ) (f count : ℕ) (l : f < length s) (e : count ≡ howMany f (answered s)) where
   -- field f has no answer
   pub count-same : getD s f 0 ≡ 255 → count ≡ howMany (f + 1) (answered s)
-  count-same h = e ∙ sym (many-same (answered s) f (ap not (eq-eqb (answer s f) 255 (sym (answer-read s f l) ∙ h))))
+  count-same h = e ∙ sym (many-same (answered s) f (ap not (eq-eqb (answer s f) 255 (sym (answer-at s f l) ∙ h))))
 
   -- field f has one
   pub count-more : (getD s f 0 ≡ 255 → ⊥) → count + 1 ≡ howMany (f + 1) (answered s)
   count-more h =
-      ap (_+ 1) e ∙ sym (many-more (answered s) f (ap not (ne-eqb (answer s f) 255 (λ q. h (answer-read s f l ∙ q)))))
+      ap (_+ 1) e ∙ sym (many-more (answered s) f (ap not (ne-eqb (answer s f) 255 (λ q. h (answer-at s f l ∙ q)))))
 
 -- no field is left
 pub count-end : (s : List ℕ) (f n count : ℕ) → f ≤ n → n ≤ f → count ≡ howMany f (answered s) → count ≡ howMany n (answered s)

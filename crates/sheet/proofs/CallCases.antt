@@ -13,7 +13,7 @@ use Rattle.consistency.specs.Consistency.{places, answer}
 use Rattle.calls.specs.Calls.{turned, done, entered, withdrawn, stored}
 use Rattle.sheet.specs.Opened.{opening}
 use Rattle.sheet.proofs.Openings.{fields-count, fields-few, codes-at, codes-few, on-ready, on-turned, IsOpen}
-use Rattle.sheet.proofs.Places.{answer-at}
+use Rattle.consistency.proofs.Elements.{answer-at}
 
 -- ---- enter
 
@@ -65,7 +65,7 @@ module _ (bytes s : List ℕ) (f : ℕ) where
     module _ (long : length s ≡ places) (h : f < fields) where
       -- what the code reads is the answer
       held : getD s f 0 ≡ answer s f
-      held = answer-at s long f (omega (arith, fields-few bytes list fields (o .at)))
+      held = answer-at s f (omega (arith, fields-few bytes list fields (o .at)))
 
       -- the field has no answer
       pub withdrawn-17 : getD s f 0 ≡ 255 → turned 0 s [] 17 0 ≡ withdrawn bytes s f

@@ -24,7 +24,7 @@ use Rattle.filter.proofs.Limits.{codes-few}
 use Rattle.filter.proofs.Agreement.{own-few}
 use Rattle.sheet.specs.Lists.{stands, linesBelow, InMarks, Room, Passed}
 use Rattle.sheet.proofs.Openings.{fields-end, fields-few, fields-count, codes-at}
-use Rattle.sheet.proofs.Places.{answer-at}
+use Rattle.consistency.proofs.Elements.{answer-at}
 use Rattle.sheet.proofs.Upward.{many-more, many-same}
 use Rattle.sheet.proofs.Fields.{alternativesOf, fieldLines, totalBelow, bytesBelow, lifted, total-is, lines-are-below, length-bytes, SameBelow, total-more, bytes-more, open-same, unmended-same, total-rises}
 
@@ -56,10 +56,10 @@ module _ {s a M : List ℕ} {empty list fields : ℕ} (x : Passed s a M empty li
 
     -- whether it is answered stands on the sheet
     pub answered-here : length a ≡ places → (getD a f 0 ≡ 255 → ⊥) → answered a f ≡ true
-    answered-here long n = ap not (ne-eqb (answer a f) 255 (λ e. n (answer-at a long f (omega (arith, fields-few s list fields (x .at))) ∙ e)))
+    answered-here long n = ap not (ne-eqb (answer a f) 255 (λ e. n (answer-at a f (omega (arith, fields-few s list fields (x .at))) ∙ e)))
 
     pub open-here : length a ≡ places → getD a f 0 ≡ 255 → answered a f ≡ false
-    open-here long e = ap not (eq-eqb (answer a f) 255 (sym (answer-at a long f (omega (arith, fields-few s list fields (x .at)))) ∙ e))
+    open-here long e = ap not (eq-eqb (answer a f) 255 (sym (answer-at a f (omega (arith, fields-few s list fields (x .at)))) ∙ e))
 
     -- the next answered field has the next case
     pub next-case : {k : ℕ} → answered a f ≡ true → k ≡ ownCase a f → k + 1 ≡ ownCase a (f + 1)

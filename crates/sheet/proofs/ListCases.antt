@@ -13,7 +13,7 @@ use Rattle.consistency.specs.Counts.{total, struck, lines, lineBytes, masks}
 use Rattle.calls.specs.Calls.{Result, turned, done, masksInto, filtered, alternatives}
 use Rattle.sheet.specs.Opened.{opening, FieldsAt}
 use Rattle.sheet.proofs.Openings.{fields-count, fields-few, on-ready, on-turned, IsOpen}
-use Rattle.sheet.proofs.Places.{answer-at}
+use Rattle.consistency.proofs.Elements.{answer-at}
 
 -- ---- alternatives
 
@@ -71,7 +71,7 @@ module _ (bytes s o : List ℕ) (f : ℕ) where
       module _ (long : length s ≡ places) (h : f < fields) where
         -- the byte at the field is its answer
         held : getD s f 0 ≡ answer s f
-        held = answer-at s long f (omega (arith, fields-few bytes list fields (p .at)))
+        held = answer-at s f (omega (arith, fields-few bytes list fields (p .at)))
 
         -- the field has no answer
         pub filtered-17 : getD s f 0 ≡ 255 → turned 0 s o 17 0 ≡ filtered bytes s f o
