@@ -45,6 +45,7 @@
  *       18  too few elements lent                                                0
  *       19  a stored sheet's length is not the number of fields                  0
  *       20  no book has this listing                                             0
+ *       21  the book has no such table, or the field is not in it                0
  *
  * 14 looks for a field that holds neither 255 nor one of its codes, and for a place behind the book's fields that does not hold 255.
  * 20 looks for a number that is missing, left over, or too large for its bytes (two for a number of rows and for the place of the field
@@ -129,6 +130,17 @@ uint64_t sighting_filtered(const uint8_t *sheet, const uint8_t *book, size_t boo
  */
 uint64_t sighting_alternatives(const uint8_t *sheet, const uint8_t *book, size_t book_len, uint8_t *out, size_t out_len,
                                uint64_t *outcome);
+
+/*
+ * The row behind a code: the first row of table `table` that has code `code` in the column of field `field` and only standing codes in
+ * its other columns, with all answers kept (standing as sighting_filtered tells it for SIGHTING_NO_ANSWER). Whether the code itself
+ * stands plays no part: a code that the field's own answer forbids may have a row. A code that stands has one in every table with its
+ * field. Tables and rows count from 0 in the book's order, repeated rows too. Any numbers may be passed.
+ *   outcome[3]  place, found (1, or 0 where the table has no such row), row (0 where none was found)
+ * Refusals: 1 to 13, 14, 15, 16, 21.
+ */
+uint64_t sighting_row(const uint8_t *sheet, const uint8_t *book, size_t book_len, size_t field, size_t code, size_t table,
+                      uint64_t *outcome);
 
 /*
  * Loads a stored sheet, one byte for each field. What the sheet held before plays no part; a refused load makes it a fresh one.

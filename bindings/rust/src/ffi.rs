@@ -23,6 +23,15 @@ extern "C" {
         out_len: usize,
         outcome: *mut u64,
     ) -> u64;
+    pub fn sighting_row(
+        sheet: *const u8,
+        book: *const u8,
+        book_len: usize,
+        field: usize,
+        code: usize,
+        table: usize,
+        outcome: *mut u64,
+    ) -> u64;
     pub fn sighting_load(
         sheet: *mut u8,
         book: *const u8,

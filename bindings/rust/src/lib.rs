@@ -3,7 +3,7 @@
 //! A book is a slice of bytes, checked in every call; a [`Sheet`] holds the answers. Nothing is taken from the heap: results go to
 //! buffers that the caller lends; [`PAIRS_BYTES`], [`NUMBERS`], [`STORED_BYTES`], [`REPORT_BYTES`], [`LISTING_NUMBERS`] and
 //! [`BOOK_BYTES`] suffice for every book, sheet and listing. A refused call changes neither the sheet nor a buffer. Any number may be
-//! passed as a field or a code: one that is none is refused.
+//! passed as a field, a code or a table: one that is none is refused.
 //!
 //! The book below has three fields, of 2, 3 and 3 codes, and two tables. With field 0 answered by 0 and field 1 by 1, code 1 of
 //! field 2 stands, and each answer has an alternative beside itself.
@@ -33,6 +33,9 @@
 //! let mut codes = [0; sighting::NUMBERS];
 //! sheet.filtered(&book, None, &mut codes)?;
 //! assert_eq!(codes[..3], [0b001, 0b010, 0b010]); // bit c of number f: code c of field f stands
+//!
+//! assert_eq!(sheet.row(&book, 2, 1, 0)?, Some(1)); // row 1 of table 0 keeps code 1 of field 2
+//! assert_eq!(sheet.row(&book, 0, 1, 0)?, None); // no row of table 0 keeps code 1 of field 0
 //! # Ok(())
 //! # }
 //! ```
@@ -283,6 +286,18 @@ impl Sheet {
             )
         };
         answer(number, cells[0], Alternatives { total: cells[1], struck: cells[2] })
+    }
+
+    /// The row behind a code: the first row of the table that has the code in the field's column and only standing codes in its other
+    /// columns, with all answers kept; or `None` where the table has no such row. Whether the code itself stands plays no part, and one
+    /// that stands has a row in every table with its field. Tables and rows count from 0 in the book's order, repeated rows too.
+    /// Refusals: 1 to 13, 14, 15, 16, 21.
+    pub fn row(&self, book: &[u8], field: usize, code: usize, table: usize) -> Result<Option<u64>, Refusal> {
+        let mut cells = [0; 3];
+        let number =
+            unsafe { ffi::sighting_row(self.0.as_ptr(), book.as_ptr(), book.len(), field, code, table, cells.as_mut_ptr()) };
+        let [place, found, row] = cells;
+        answer(number, place, (found == 1).then_some(row))
     }
 
     /// Loads a stored sheet, one byte for each field of the book. Refusals: 1 to 13, 19, 14.

@@ -3,7 +3,7 @@
 use std::error::Error;
 use std::fmt;
 
-/// A refusal: its number, 1 to 20, and its place. The place is a byte of the book for 1 to 13, the first place of the sheet at fault
+/// A refusal: its number, 1 to 21, and its place. The place is a byte of the book for 1 to 13, the first place of the sheet at fault
 /// for 14, and 0 for the others.
 #[derive(Clone, Copy, Debug, PartialEq, Eq)]
 pub struct Refusal {
@@ -12,7 +12,7 @@ pub struct Refusal {
 }
 
 /// What each number says, from 1.
-const MEANINGS: [&str; 20] = [
+const MEANINGS: [&str; 21] = [
     "the book has fewer than 6 or more than 32,768 bytes",
     "the closing byte is not 0xE5",
     "the version is neither 1 nor 2",
@@ -33,6 +33,7 @@ const MEANINGS: [&str; 20] = [
     "too few elements lent",
     "the stored sheet's length is not the number of fields",
     "no book has this listing",
+    "the book has no such table, or the field is not in it",
 ];
 
 impl Refusal {
@@ -61,7 +62,8 @@ mod tests {
         assert_eq!(meaning(1), "the book has fewer than 6 or more than 32,768 bytes");
         assert_eq!(meaning(19), "the stored sheet's length is not the number of fields");
         assert_eq!(meaning(20), "no book has this listing");
-        assert_eq!((meaning(0), meaning(21)), ("no refusal has this number", "no refusal has this number"));
+        assert_eq!(meaning(21), "the book has no such table, or the field is not in it");
+        assert_eq!((meaning(0), meaning(22)), ("no refusal has this number", "no refusal has this number"));
         assert_eq!(Refusal { number: 3, place: 33 }.to_string(), "refused 3 at 33: the version is neither 1 nor 2");
     }
 }
