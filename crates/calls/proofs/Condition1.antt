@@ -14,27 +14,18 @@ use Rattle.format.specs.Format.{Book, bookCounts, bookOf}
 use Rattle.format.specs.Reading.{Verdict, pass, fail, verdict, outcome, reading}
 use Rattle.format.specs.Listing.{listingOf, listingEnd}
 use Rattle.format.specs.Writing.{Reply, into, showingBy, showing, laidOut, allBytes, writable, writing}
-use Rattle.format.proofs.Scans.{bad-before, all-pass, bad-fails}
 use Rattle.format.proofs.Numbers.{book-refusal}
 use Rattle.format.proofs.ByteTests.{bytes-true, true-bytes}
-use Rattle.consistency.specs.Consistency.{places, codes, answer, relax}
+use Rattle.consistency.specs.Consistency.{codes, nth, answer, relax}
 use Rattle.consistency.specs.Counts.{total}
-use Rattle.calls.specs.Calls.{Result, turned, done, beside, placeOk, faultOf, onSheet, masksInto, sheetFrom, entered, withdrawn, filtered, alternatives, loaded, stored}
-use Rattle.calls.specs.Conditions.{Request, to-read, to-fresh, to-enter, to-withdraw, to-clear, to-filter, to-list, to-store, to-load, to-show, to-write, resultOf, givenBook, sheetGiven, lentTo, countsOf, FirstFault, NoFault, Refusal, enter-14, enter-15, enter-16, withdraw-14, withdraw-15, withdraw-17, filter-14, filter-15, filter-17, filter-18, list-14, list-18, store-14, store-18, load-19, load-14, show-18, WriteRefusal, write-missing, write-left-over, write-too-large, write-unread, write-18, RefusedBy, the-book, the-call, the-listing, IsRefusal, Condition1}
+use Rattle.consistency.specs.Ties.{FieldIn}
+use Rattle.consistency.specs.Rows.{hasField}
+use Rattle.consistency.proofs.Booleans.{false-T}
+use Rattle.consistency.proofs.FirstRows.{has-field}
+use Rattle.calls.specs.Calls.{Result, turned, done, beside, faultOf, onSheet, masksInto, sheetFrom, entered, withdrawn, filtered, alternatives, loaded, stored, rowBehind}
+use Rattle.calls.specs.Conditions.{Request, to-read, to-fresh, to-enter, to-withdraw, to-clear, to-filter, to-list, to-store, to-load, to-row, to-show, to-write, resultOf, givenBook, sheetGiven, lentTo, countsOf, FirstFault, NoFault, Refusal, enter-14, enter-15, enter-16, withdraw-14, withdraw-15, withdraw-17, filter-14, filter-15, filter-17, filter-18, list-14, list-18, store-14, store-18, load-19, load-14, row-14, row-15, row-16, row-21, show-18, WriteRefusal, write-missing, write-left-over, write-too-large, write-unread, write-18, RefusedBy, the-book, the-call, the-listing, IsRefusal, Condition1}
+use Rattle.calls.proofs.Faults.{first-fault, fault-free}
 use Rattle.calls.proofs.CallLaws.{pick-cases, fault-holds, book-holds, sheet-holds}
-
--- the first place at which the test of 14 fails is the first field at fault
-first-fault : (b : Book) (s : List ℕ) → faultOf b s < places → FirstFault b s (faultOf b s)
-first-fault b s l =
-    record {
-      in-sheet = l;
-      fails = bad-fails (placeOk b s) 0 places (omega arith) l;
-      before = λ k u. bad-before (placeOk b s) 0 places k (omega arith) u;
-    }
-
--- where the test fails at no place, there is no 14
-fault-free : (b : Book) (s : List ℕ) → places ≤ faultOf b s → NoFault b s
-fault-free b s l k u = all-pass (placeOk b s) 0 places (omega arith) l k (omega arith) u
 
 -- r is an answer that accepts, or a refusal of call q
 abbrev Settled : List ℕ → List ℕ → Request → Result → Type 0
@@ -138,8 +129,17 @@ write-settled bytes s l o =
     (λ t. into-settled {q = to-write l o} (laidOut l) o (λ k. refused-by (the-listing (write-18 t k))))
     (λ t. refused-by (the-listing (unwritable l o t)))
 
+-- 21: where the test for the field fails, there is no such table, or the field is not in it
+not-there : (b : Book) (f i : ℕ) → hasField (nth b i) f ≡ false
+    → (length (b .tables) ≤ i) ⊎ ((i < length (b .tables)) × (FieldIn f (nth b i) → ⊥))
+not-there b f i e = at (ltb i (length (b .tables))) refl
+  where
+    at : (t : Bool) → ltb i (length (b .tables)) ≡ t → (length (b .tables) ≤ i) ⊎ ((i < length (b .tables)) × (FieldIn f (nth b i) → ⊥))
+    at true t = inr (ltb-true i (length (b .tables)) t, λ q. false-T e (has-field (nth b i) f .1 q))
+    at false t = inl (ltb-false i (length (b .tables)) t)
+
 pub condition1 : Condition1
-unfolding entered withdrawn filtered alternatives loaded stored
+unfolding entered withdrawn filtered alternatives loaded stored rowBehind
 condition1 bytes s to-read = read-settled bytes s
 condition1 bytes s to-fresh = done-settled
 condition1 bytes s (to-enter f c) =
@@ -183,5 +183,13 @@ condition1 bytes s (to-load form) =
     fail-settled e (eqb (length form) n) (λ t. load-19 (eqb-false (length form) n t)) (λ t.
     fault-holds S (refusal s (to-load form)) (faultOf b (sheetFrom form))
     (λ l. by-call e (load-14 (eqb-true (length form) n t) (first-fault b (sheetFrom form) l))) (λ l. done-settled)))
+condition1 bytes s (to-row f c i) =
+    let b : Book = bookOf bytes in
+    let n : ℕ = length (b .counts) in
+    sheet-settled refl _ (λ p. row-14) (λ e w.
+    fail-settled e (ltb f n) (λ t. row-15 w (ltb-false f n t)) (λ t.
+    fail-settled e (ltb c (codes b f)) (λ u. row-16 w (ltb-true f n t) (ltb-false c (codes b f) u)) (λ u.
+    fail-settled e (hasField (nth b i) f) (λ v. row-21 w (ltb-true f n t) (ltb-true c (codes b f) u) (not-there b f i v)) (λ v.
+    done-settled))))
 condition1 bytes s (to-show o) = show-settled bytes s o
 condition1 bytes s (to-write l o) = write-settled bytes s l o

@@ -1,4 +1,4 @@
--- E1 to E8 hold, computed from the bytes over the definitions that the contracts cite; none of E4's eight readings is full. Assumes nothing.
+-- E1 to E8 and the examples of document 02 hold, computed from the bytes over the definitions that the contracts cite; none of E4's eight readings is full. Assumes nothing.
 use mathlib.Core.Path.{refl}
 use Rattle.format.specs.Basics.{scan, firstBad}
 use Rattle.format.specs.Format.{encode, tableBytes, trailerBytes, rowsAt, tableAt, tablesAt, bookOf}
@@ -7,11 +7,12 @@ use Rattle.consistency.specs.Counting.{tabulate}
 use Rattle.consistency.specs.Largest.{removeFrom, remove, countOf, count, rowSupports, tableSupports, bookSupports, start, rounds, largestDomains}
 use Rattle.consistency.specs.Emptiness.{noneEmpty}
 use Rattle.consistency.specs.Counts.{codesIn, outside, total, struck, lines, masks}
-use Rattle.calls.specs.Calls.{loaded, filtered, alternatives}
+use Rattle.consistency.specs.Rows.{firstSupport}
+use Rattle.calls.specs.Calls.{loaded, filtered, alternatives, rowBehind}
 use Rattle.calls.specs.Examples.{ExamplesHold, NoneFull}
 
 pub examples-hold : ExamplesHold
-unfolding scan firstBad encode tableBytes trailerBytes rowsAt tableAt tablesAt bookOf trailerTest listTest rowsStep tableStep tablesStep verdict reading tabulate removeFrom remove countOf count rowSupports tableSupports bookSupports start rounds largestDomains noneEmpty codesIn outside total struck lines masks loaded filtered alternatives
+unfolding scan firstBad encode tableBytes trailerBytes rowsAt tableAt tablesAt bookOf trailerTest listTest rowsStep tableStep tablesStep verdict reading tabulate removeFrom remove countOf count rowSupports tableSupports bookSupports start rounds largestDomains noneEmpty codesIn outside total struck lines masks firstSupport loaded filtered alternatives rowBehind
 examples-hold = refl
 
 pub none-full : NoneFull

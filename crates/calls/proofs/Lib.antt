@@ -1,4 +1,5 @@
 pub mod CallLaws
+pub mod Faults
 pub mod Sheets
 pub mod Steps
 pub mod CallLists
@@ -9,6 +10,7 @@ pub mod Examples
 pub mod Written
 pub mod Condition3
 pub mod Condition1
+pub mod RowsShown
 pub mod Buffers
 pub mod Condition2
 pub mod Repeats

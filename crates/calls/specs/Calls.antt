@@ -1,4 +1,4 @@
--- Document 01, "The sheet and its one pass" and "When a call is turned down": every call on a sheet as a function of its input. Assumes nothing.
+-- Document 01, "The sheet and its one pass" and "When a call is turned down", and document 02's calls on a sheet: each as a function of its input. Assumes nothing.
 use Prim.Native.Nat.{ℕ, _-_, _*_}
 use mathlib.Core.List.{List, [], _∷_, _++_}
 use mathlib.Core.Bool.{Bool, _||_}
@@ -8,8 +8,9 @@ use Rattle.format.specs.Basics.{pick, firstBad}
 use Rattle.format.specs.Format.{Book, bookOf}
 use Rattle.format.specs.Reading.{Outcome, refused, accepted, Verdict, pass, fail, verdict}
 use Rattle.format.specs.Writing.{Reply}
-use Rattle.consistency.specs.Consistency.{places, codes, answer, relax}
+use Rattle.consistency.specs.Consistency.{places, codes, nth, answer, relax}
 use Rattle.consistency.specs.Counts.{total, struck, lines, lineBytes, masks}
+use Rattle.consistency.specs.Rows.{RowFound, at-row, no-row, hasField, firstSupport}
 
 -- what a call leaves behind: its answer, the sheet handed back, and the contents of the buffer lent (none lent: [])
 pub record Result : Type 0 where
@@ -119,3 +120,19 @@ stored bytes s o =
     onSheet 0 bytes s o (λ b.
     pick (ltb (length o) (length (b .counts))) (turned 0 s o 18 0)
     (done [] s (take (length (b .counts)) s ++ drop (length (b .counts)) o)))
+
+-- what is counted of a row: whether there is one, and its number
+abbrev pub rowCounts : RowFound → List ℕ
+rowCounts (at-row r) = 1 ∷ r ∷ []
+rowCounts no-row = 0 ∷ 0 ∷ []
+
+-- Document 02, M-104: "One new call shows it for a book, sheet, field, code and table, with nothing lifted. Tables and rows count from 0 in the
+-- book's order"; "After 14, 15 and 16: 21, no such table or the field isn't in it". (No field is in a table that the book lacks.)
+unfoldable pub rowBehind : List ℕ → List ℕ → ℕ → ℕ → ℕ → Result
+rowBehind bytes s f c i =
+    onSheet 2 bytes s [] (λ b.
+    pick (ltb f (length (b .counts)))
+    (pick (ltb c (codes b f))
+    (pick (hasField (nth b i) f) (done (rowCounts (firstSupport b s f c i)) s []) (turned 2 s [] 21 0))
+    (turned 2 s [] 16 0))
+    (turned 2 s [] 15 0))

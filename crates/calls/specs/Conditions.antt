@@ -14,12 +14,13 @@ use Rattle.format.specs.Layout.{Bytes}
 use Rattle.format.specs.Listing.{listingOf, listingEnd}
 use Rattle.format.specs.Writing.{showing, laidOut, writable, writing}
 use Rattle.consistency.specs.Counting.{sumOver, those}
-use Rattle.consistency.specs.Consistency.{places, Subdomain, codes, answer, relax, IsLargest}
+use Rattle.consistency.specs.Consistency.{places, Subdomain, codes, nth, answer, relax, IsLargest}
 use Rattle.consistency.specs.Emptiness.{NoneEmpty, noneEmpty}
 use Rattle.consistency.specs.Counts.{bit, codesIn, outside, answered, total, Line, lineBytes}
 use Rattle.consistency.specs.Order.{InOrder, In}
 use Rattle.consistency.specs.Alike.{Alike}
-use Rattle.calls.specs.Calls.{Result, freshSheet, done, beside, placeOk, sheetFrom, entered, withdrawn, cleared, filtered, alternatives, loaded, stored}
+use Rattle.consistency.specs.Ties.{FieldIn}
+use Rattle.calls.specs.Calls.{Result, freshSheet, done, beside, placeOk, sheetFrom, entered, withdrawn, cleared, filtered, alternatives, loaded, stored, rowBehind}
 use Rattle.calls.specs.Histories.{Call, Answer, none, is, Answers, given, noAnswers, answersAfter, refusalsFrom, sheetOf, results, sheetAfter}
 
 -- ---- Condition 1: "The answer to any bytes, sheet and call is the one that document 01 defines" is the contracts of the calls;
@@ -36,6 +37,7 @@ pub data Request : Type 0 where
   to-list : List ℕ → Request
   to-store : List ℕ → Request
   to-load : List ℕ → Request
+  to-row : ℕ → ℕ → ℕ → Request
   to-show : List ℕ → Request
   to-write : List ℕ → List ℕ → Request
 
@@ -49,6 +51,7 @@ resultOf bytes s (to-filter f o) = filtered bytes s f o
 resultOf bytes s (to-list o) = alternatives bytes s o
 resultOf bytes s (to-store o) = stored bytes s o
 resultOf bytes s (to-load form) = loaded bytes form
+resultOf bytes s (to-row f c i) = rowBehind bytes s f c i
 resultOf bytes s (to-show o) = beside s (showing bytes o)
 resultOf bytes s (to-write l o) = beside s (writing l o)
 
@@ -63,6 +66,7 @@ givenBook (to-filter f o) = true
 givenBook (to-list o) = true
 givenBook (to-store o) = true
 givenBook (to-load form) = true
+givenBook (to-row f c i) = true
 givenBook (to-show o) = true
 givenBook (to-write l o) = false
 
@@ -77,6 +81,7 @@ sheetGiven s (to-filter f o) = s
 sheetGiven s (to-list o) = s
 sheetGiven s (to-store o) = s
 sheetGiven s (to-load form) = freshSheet
+sheetGiven s (to-row f c i) = s
 sheetGiven s (to-show o) = s
 sheetGiven s (to-write l o) = s
 
@@ -90,6 +95,7 @@ lentTo (to-filter f o) = o
 lentTo (to-list o) = o
 lentTo (to-store o) = o
 lentTo (to-load form) = []
+lentTo (to-row f c i) = []
 lentTo (to-show o) = o
 lentTo (to-write l o) = o
 
@@ -104,6 +110,7 @@ countsOf (to-filter f o) = 0
 countsOf (to-list o) = 2
 countsOf (to-store o) = 0
 countsOf (to-load form) = 0
+countsOf (to-row f c i) = 2
 countsOf (to-show o) = 1
 countsOf (to-write l o) = 1
 
@@ -143,6 +150,12 @@ pub data Refusal (b : Book) (s : List ℕ) : Request → ℕ → ℕ → Type 0 
   -- Loading: "19 if its length isn't the number of fields, 14"
   load-19 : {form : List ℕ} → length form ≢ length (b .counts) → Refusal b s (to-load form) 19 0
   load-14 : {p : ℕ} {form : List ℕ} → length form ≡ length (b .counts) → FirstFault b (sheetFrom form) p → Refusal b s (to-load form) 14 p
+  -- Request M-104: "After 14, 15 and 16: 21, no such table or the field isn't in it; place 0"
+  row-14 : {f c i p : ℕ} → FirstFault b s p → Refusal b s (to-row f c i) 14 p
+  row-15 : {f c i : ℕ} → NoFault b s → length (b .counts) ≤ f → Refusal b s (to-row f c i) 15 0
+  row-16 : {f c i : ℕ} → NoFault b s → f < length (b .counts) → codes b f ≤ c → Refusal b s (to-row f c i) 16 0
+  row-21 : {f c i : ℕ} → NoFault b s → f < length (b .counts) → c < codes b f
+      → (length (b .tables) ≤ i) ⊎ ((i < length (b .tables)) × (FieldIn f (nth b i) → ⊥)) → Refusal b s (to-row f c i) 21 0
   -- Request M-100: "Showing: 1 to 13, then 18, too few numbers lent"
   show-18 : {o : List ℕ} → length o < length (listingOf b) → Refusal b s (to-show o) 18 0
 

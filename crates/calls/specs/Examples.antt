@@ -1,4 +1,5 @@
--- Document 01, "Examples to hold": E1 to E8 as one table, and two of document 02's M-101, in which fields stay empty. Assumes nothing.
+-- Document 01, "Examples to hold": E1 to E8 as one table; two of document 02's M-101, in which fields stay empty; and rows behind codes
+-- of M-104. Assumes nothing.
 use Prim.Native.Nat.{ℕ}
 use mathlib.Core.Path.{_≡_}
 use mathlib.Core.List.{List, [], _∷_, _++_, map}
@@ -7,7 +8,7 @@ use lib.ListN.{length, getD, replicate}
 use Rattle.format.specs.Format.{Table, Book, encode, bookOf, isIn}
 use Rattle.format.specs.Reading.{Outcome, refused, accepted, reading}
 use Rattle.format.specs.Examples.{e1}
-use Rattle.calls.specs.Calls.{loaded, filtered, alternatives}
+use Rattle.calls.specs.Calls.{loaded, filtered, alternatives, rowBehind}
 
 -- the rows of a table that makes two fields of two codes differ
 abbrev pub differing : List (List ℕ)
@@ -51,8 +52,15 @@ e7 = 1 ∷ 0 ∷ 0 ∷ 1 ∷ 0 ∷ 1 ∷ 229 ∷ []
 abbrev pub e8 : List ℕ
 e8 = 1 ∷ 0 ∷ 0 ∷ 1 ∷ 0 ∷ 1 ∷ []
 
--- a book's bytes and a stored sheet; what reading answers; the standing codes as plain filtering's numbers; the lines' bytes; and total
--- and struck, or the refusal
+-- a field, a code and a table; and what is shown of it: 1 and the row, 0 and 0 for none, or the refusal
+pub record Behind : Type 0 where
+  pub field : ℕ
+  pub code : ℕ
+  pub table : ℕ
+  pub row : Outcome
+
+-- a book's bytes and a stored sheet; what reading answers; the standing codes as plain filtering's numbers; the lines' bytes; total and
+-- struck, or the refusal; and rows behind codes
 pub record Example : Type 0 where
   pub book : List ℕ
   pub form : List ℕ
@@ -60,24 +68,54 @@ pub record Example : Type 0 where
   pub standing : List ℕ
   pub pairs : List ℕ
   pub listing : Outcome
+  pub rows : List Behind
+
+-- E1's table 0 is on fields 0 and 2 with rows 0 0, 0 1, 1 2 and 0 1 again; its table 1 on fields 1 and 2 with rows 0 0, 1 1, 1 2, 2 2.
+-- Under its own sheet code 0 of field 0, and code 1 of fields 1 and 2, stand
+abbrev pub rowsOfE1 : List Behind
+rowsOfE1 =
+    -- codes that stand; row 3 repeats row 1
+    record { field = 2; code = 1; table = 0; row = accepted (1 ∷ 1 ∷ []) }
+    ∷ record { field = 0; code = 0; table = 0; row = accepted (1 ∷ 1 ∷ []) }
+    -- table 0 strikes code 2 of field 2; in table 1 it has a row all the same
+    ∷ record { field = 2; code = 2; table = 0; row = accepted (0 ∷ 0 ∷ []) }
+    ∷ record { field = 2; code = 2; table = 1; row = accepted (1 ∷ 2 ∷ []) }
+    -- codes without a row
+    ∷ record { field = 0; code = 1; table = 0; row = accepted (0 ∷ 0 ∷ []) }
+    ∷ record { field = 1; code = 2; table = 1; row = accepted (0 ∷ 0 ∷ []) }
+    -- the field is not in the table; no such table; 15 and 16 come first
+    ∷ record { field = 1; code = 0; table = 0; row = refused 2 21 0 }
+    ∷ record { field = 0; code = 0; table = 2; row = refused 2 21 0 }
+    ∷ record { field = 0; code = 2; table = 2; row = refused 2 16 0 }
+    ∷ record { field = 3; code = 0; table = 2; row = refused 2 15 0 }
+    ∷ []
+
+-- With field 1 alone answered, by 1: code 1 of field 0 stands; code 2 of field 1, which its own answer forbids, still has a row
+abbrev pub rowsOfOne : List Behind
+rowsOfOne =
+    record { field = 0; code = 1; table = 0; row = accepted (1 ∷ 2 ∷ []) } ∷ record { field = 1; code = 2; table = 1; row = accepted (1 ∷ 3 ∷ []) } ∷ []
 
 abbrev pub examples : List Example
 examples =
-    record { book = e1; form = 0 ∷ 1 ∷ 255 ∷ []; read = accepted (3 ∷ 2 ∷ 8 ∷ 7 ∷ []); standing = 1 ∷ 2 ∷ 2 ∷ []; pairs = 0 ∷ 0 ∷ 0 ∷ 1 ∷ 1 ∷ 0 ∷ 1 ∷ 1 ∷ []; listing = accepted (4 ∷ 11 ∷ []) }
-    ∷ record { book = e1; form = 1 ∷ 0 ∷ 255 ∷ []; read = accepted (3 ∷ 2 ∷ 8 ∷ 7 ∷ []); standing = 0 ∷ 0 ∷ 0 ∷ []; pairs = 0 ∷ 0 ∷ 1 ∷ 1 ∷ 1 ∷ 2 ∷ []; listing = accepted (3 ∷ 17 ∷ []) }
-    ∷ record { book = e1; form = 255 ∷ 255 ∷ 255 ∷ []; read = accepted (3 ∷ 2 ∷ 8 ∷ 7 ∷ []); standing = 3 ∷ 7 ∷ 7 ∷ []; pairs = []; listing = accepted (0 ∷ 0 ∷ []) }
-    ∷ record { book = encode e4; form = 255 ∷ 255 ∷ 255 ∷ []; read = accepted (3 ∷ 3 ∷ 6 ∷ 6 ∷ []); standing = 3 ∷ 3 ∷ 3 ∷ []; pairs = []; listing = accepted (0 ∷ 0 ∷ []) }
-    ∷ record { book = encode e4; form = 0 ∷ 255 ∷ 255 ∷ []; read = accepted (3 ∷ 3 ∷ 6 ∷ 6 ∷ []); standing = 0 ∷ 0 ∷ 0 ∷ []; pairs = 0 ∷ 0 ∷ 0 ∷ 1 ∷ []; listing = accepted (2 ∷ 6 ∷ []) }
-    ∷ record { book = encode e6; form = 0 ∷ 255 ∷ []; read = accepted (2 ∷ 1 ∷ 0 ∷ 0 ∷ []); standing = 1 ∷ 0 ∷ []; pairs = []; listing = accepted (0 ∷ 5 ∷ []) }
-    ∷ record { book = e7; form = 0 ∷ []; read = accepted (1 ∷ 0 ∷ 0 ∷ 0 ∷ []); standing = 1 ∷ []; pairs = 0 ∷ 0 ∷ []; listing = accepted (1 ∷ 0 ∷ []) }
-    ∷ record { book = e8; form = 0 ∷ []; read = refused 4 2 5; standing = []; pairs = []; listing = refused 2 2 5 }
+    record { book = e1; form = 0 ∷ 1 ∷ 255 ∷ []; read = accepted (3 ∷ 2 ∷ 8 ∷ 7 ∷ []); standing = 1 ∷ 2 ∷ 2 ∷ []; pairs = 0 ∷ 0 ∷ 0 ∷ 1 ∷ 1 ∷ 0 ∷ 1 ∷ 1 ∷ []; listing = accepted (4 ∷ 11 ∷ []); rows = rowsOfE1 }
+    ∷ record { book = e1; form = 1 ∷ 0 ∷ 255 ∷ []; read = accepted (3 ∷ 2 ∷ 8 ∷ 7 ∷ []); standing = 0 ∷ 0 ∷ 0 ∷ []; pairs = 0 ∷ 0 ∷ 1 ∷ 1 ∷ 1 ∷ 2 ∷ []; listing = accepted (3 ∷ 17 ∷ []); rows = record { field = 0; code = 1; table = 0; row = accepted (0 ∷ 0 ∷ []) } ∷ [] }
+    ∷ record { book = e1; form = 255 ∷ 255 ∷ 255 ∷ []; read = accepted (3 ∷ 2 ∷ 8 ∷ 7 ∷ []); standing = 3 ∷ 7 ∷ 7 ∷ []; pairs = []; listing = accepted (0 ∷ 0 ∷ []); rows = [] }
+    ∷ record { book = encode e4; form = 255 ∷ 255 ∷ 255 ∷ []; read = accepted (3 ∷ 3 ∷ 6 ∷ 6 ∷ []); standing = 3 ∷ 3 ∷ 3 ∷ []; pairs = []; listing = accepted (0 ∷ 0 ∷ []); rows = [] }
+    ∷ record { book = encode e4; form = 0 ∷ 255 ∷ 255 ∷ []; read = accepted (3 ∷ 3 ∷ 6 ∷ 6 ∷ []); standing = 0 ∷ 0 ∷ 0 ∷ []; pairs = 0 ∷ 0 ∷ 0 ∷ 1 ∷ []; listing = accepted (2 ∷ 6 ∷ []); rows = [] }
+    ∷ record { book = encode e6; form = 0 ∷ 255 ∷ []; read = accepted (2 ∷ 1 ∷ 0 ∷ 0 ∷ []); standing = 1 ∷ 0 ∷ []; pairs = []; listing = accepted (0 ∷ 5 ∷ []); rows = record { field = 1; code = 0; table = 0; row = accepted (0 ∷ 0 ∷ []) } ∷ [] }
+    ∷ record { book = e7; form = 0 ∷ []; read = accepted (1 ∷ 0 ∷ 0 ∷ 0 ∷ []); standing = 1 ∷ []; pairs = 0 ∷ 0 ∷ []; listing = accepted (1 ∷ 0 ∷ []); rows = [] }
+    ∷ record { book = e8; form = 0 ∷ []; read = refused 4 2 5; standing = []; pairs = []; listing = refused 2 2 5; rows = record { field = 0; code = 0; table = 0; row = refused 2 2 5 } ∷ [] }
+    ∷ record { book = e1; form = 255 ∷ 1 ∷ 255 ∷ []; read = accepted (3 ∷ 2 ∷ 8 ∷ 7 ∷ []); standing = 3 ∷ 2 ∷ 6 ∷ []; pairs = 1 ∷ 0 ∷ 1 ∷ 1 ∷ 1 ∷ 2 ∷ []; listing = accepted (3 ∷ 3 ∷ []); rows = rowsOfOne }
     -- no answer can mend the field apart: E1's four alternatives are gone, and each of its three cases has one mark more struck
-    ∷ record { book = encode e1Apart; form = 0 ∷ 1 ∷ 255 ∷ 255 ∷ []; read = accepted (4 ∷ 3 ∷ 8 ∷ 7 ∷ []); standing = 1 ∷ 2 ∷ 2 ∷ 0 ∷ []; pairs = []; listing = accepted (0 ∷ 14 ∷ []) }
+    ∷ record { book = encode e1Apart; form = 0 ∷ 1 ∷ 255 ∷ 255 ∷ []; read = accepted (4 ∷ 3 ∷ 8 ∷ 7 ∷ []); standing = 1 ∷ 2 ∷ 2 ∷ 0 ∷ []; pairs = []; listing = accepted (0 ∷ 14 ∷ []); rows = [] }
     -- fields 0 and 1 contradict each other: lifting either mends that, lifting field 2 does not, though both its codes stand then
-    ∷ record { book = encode twoPairs; form = 0 ∷ 1 ∷ 0 ∷ 255 ∷ []; read = accepted (4 ∷ 2 ∷ 4 ∷ 4 ∷ []); standing = 0 ∷ 0 ∷ 1 ∷ 1 ∷ []; pairs = 0 ∷ 1 ∷ 1 ∷ 0 ∷ []; listing = accepted (2 ∷ 18 ∷ []) }
+    ∷ record { book = encode twoPairs; form = 0 ∷ 1 ∷ 0 ∷ 255 ∷ []; read = accepted (4 ∷ 2 ∷ 4 ∷ 4 ∷ []); standing = 0 ∷ 0 ∷ 1 ∷ 1 ∷ []; pairs = 0 ∷ 1 ∷ 1 ∷ 0 ∷ []; listing = accepted (2 ∷ 18 ∷ []); rows = [] }
     ∷ []
 
--- the row as the calls answer it: plain filtering into numbers that were 9, alternatives into bytes that were 9
+abbrev pub shownOf : List ℕ → List ℕ → Behind → Behind
+shownOf bytes s x = record { field = x .field; code = x .code; table = x .table; row = rowBehind bytes s (x .field) (x .code) (x .table) .outcome }
+
+-- the example as the calls answer it: plain filtering into numbers that were 9, alternatives into bytes that were 9
 abbrev pub answered : Example → Example
 answered e =
     record {
@@ -87,6 +125,7 @@ answered e =
       standing = filtered (e .book) (loaded (e .book) (e .form) .sheet) 255 (replicate (length (e .standing)) 9) .buffer;
       pairs = alternatives (e .book) (loaded (e .book) (e .form) .sheet) (replicate (length (e .pairs)) 9) .buffer;
       listing = alternatives (e .book) (loaded (e .book) (e .form) .sheet) (replicate (length (e .pairs)) 9) .outcome;
+      rows = map (shownOf (e .book) (loaded (e .book) (e .form) .sheet)) (e .rows);
     }
 
 abbrev pub ExamplesHold : Type 0

@@ -3,3 +3,4 @@ pub mod Buffers
 pub mod Histories
 pub mod Conditions
 pub mod Examples
+pub mod Rows

@@ -23,3 +23,4 @@ pub mod Elements
 pub mod Answers
 pub mod Chains
 pub mod ChainsExample
+pub mod FirstRows

@@ -7,3 +7,4 @@ pub mod Order
 pub mod Alike
 pub mod Ties
 pub mod Unary
+pub mod Rows

@@ -1,14 +1,16 @@
--- What the book that bytes hold says, by places in the bytes, and that its tables stand one behind another. Assumes nothing.
-use mathlib.Core.Path.{_≡_, refl, ap, _∙_}
-use mathlib.Core.Logic.{⊎-elim}
+-- What the book that bytes hold says, by places in the bytes; its tables stand one behind another, and a table's fields rise. Assumes nothing.
+use mathlib.Core.Path.{_≡_, refl, sym, ap, _∙_, subst}
+use mathlib.Core.Logic.{⊎-elim, _≢_}
 use mathlib.Core.List.{List, []}
 use Prim.Native.Nat.{ℕ, zero, suc, _+_, _*_, _≤_, _<_}
-use native.Mathlib.Nat.{zero-add, add-zero, suc-mul, zero-mul, le-refl, eq-or-lt-of-le}
+use native.Mathlib.Nat.{zero-add, add-zero, suc-mul, zero-mul, le-refl, le-trans, le-of-suc-le-suc, not-suc-le-zero, eq-or-lt-of-le}
+use native.Mathlib.Numerals.{add-one}
+use native.Mathlib.Decide.{decLt}
 use native.Mathlib.Omega.{arith}
 use lib.ListN.{length, getD, drop, length-drop}
 use lib.Seq.{getD-take, getD-drop, length-take-le}
 use Rattle.format.specs.Format.{Table, byte, part, listPlace, fieldCount, tableCount, arityAt, rowsOf, firstRow, tableEnd, rowsAt, tableAt, tablesAt, bookOf}
-use Rattle.format.specs.Promise.{place, fieldAt, codeAt, countAt}
+use Rattle.format.specs.Promise.{TablePromise, place, fieldAt, codeAt, countAt}
 
 -- what stands behind the end of a list of tables
 abbrev pub noTable : Table
@@ -113,3 +115,21 @@ module _ (s : List ℕ) where
     pub table-arity : firstRow s p ≤ length s → length (tableAt s p .fields) ≡ arityAt s p
     unfolding tableAt
     table-arity h = part-length s (p + 1) (arityAt s p) (omega arith)
+
+    module _ (q : TablePromise s p) where
+      -- its fields rise
+      fields-rise : (i l : ℕ) → i < l → l < arityAt s p → fieldAt s p i < fieldAt s p l
+      fields-rise i zero h m = absurd (not-suc-le-zero h)
+      fields-rise i (suc l) h m =
+          let step : fieldAt s p l < fieldAt s p (suc l) =
+          subst (λ (x : ℕ). fieldAt s p l < fieldAt s p x) (add-one l) (q .rising l (omega arith)) in
+          ⊎-elim (λ (e : i ≡ l). subst (λ (x : ℕ). fieldAt s p x < fieldAt s p (suc l)) (sym e) step)
+          (λ (k : i < l). le-trans (fields-rise i l k (omega arith)) (omega arith)) (eq-or-lt-of-le (le-of-suc-le-suc h))
+
+      -- so those of two columns differ
+      pub fields-apart : (i l : ℕ) → i < arityAt s p → l < arityAt s p → i ≢ l → fieldAt s p i ≢ fieldAt s p l
+      fields-apart i l il ll n e = go (decLt i l)
+        where
+          go : Dec (i < l) → ⊥
+          go (yes h) = let r : fieldAt s p i < fieldAt s p l = fields-rise i l h ll in omega arith
+          go (no h) = let r : fieldAt s p l < fieldAt s p i = fields-rise l i (omega arith) il in omega arith

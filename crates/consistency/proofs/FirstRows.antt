@@ -1,0 +1,255 @@
+-- The row behind a code: the answer computed is the first row that keeps the code, or none where no row does; a code that the answers allow
+-- stands exactly where each table with its field has a row. Assumes nothing.
+use mathlib.Core.Path.{_≡_, refl, sym, ap, _∙_, subst}
+use mathlib.Core.Logic.{_⊎_, inl, inr, ⊎-elim, _≢_, _↔_}
+use mathlib.Core.Bool.{Bool, true, false, not, _&&_, _||_}
+use mathlib.Core.List.{List, []}
+use Prim.Native.Nat.{ℕ, _≤_, _<_, zero-le}
+use native.Mathlib.Nat.{not-suc-le-zero}
+use native.Mathlib.Decide.{ℕ-discrete, decLt}
+use native.Mathlib.Omega.{arith}
+use borrow.Author.Tests.{ltb-true, ltb-false, lt-ltb, not-true, not-false}
+use lib.Dec.{T, ltb, eqb, eqb→eq, eqb-refl}
+use lib.ListN.{length, List·getD-eq-default}
+use Rattle.format.specs.Basics.{pick, firstBad}
+use Rattle.format.specs.Format.{Table, Book, tableCount, arityAt, tableAt, bookOf}
+use Rattle.format.specs.Promise.{Promise, TablePromise, place}
+use Rattle.format.proofs.Views.{tables-count, table-view, table-field, table-arity, fields-apart}
+use Rattle.format.proofs.Scans.{bad-before, bad-fails, bad-ext}
+use Rattle.consistency.specs.Consistency.{Subdomain, Support, ArcConsistent, OfBook, WithinAnswers, Inside, fieldOf, codeOf, codes, nth, answer, Standing}
+use Rattle.consistency.specs.Largest.{rowSupports, largest}
+use Rattle.consistency.specs.Ties.{FieldIn}
+use Rattle.consistency.specs.Rows.{RowFound, at-row, no-row, Keeps, IsFirstRow, firstWhere, columnOf, hasField, rowBelow, firstIn, firstSupport}
+use Rattle.consistency.proofs.Booleans.{T-ext, T-true, true-T, false-T, and-in, and-left, and-right, or-left, or-right, or-out, eq→eqb}
+use Rattle.consistency.proofs.Supports.{SupportedIn, support-grows, row-in, row-there, row-others}
+use Rattle.consistency.proofs.Largest.{largest-is, standing-largest}
+
+-- ---- the first number at which p holds
+
+-- what each answer says, of the numbers below n
+abbrev pub FirstIs : (ℕ → Bool) → ℕ → RowFound → Type 0
+FirstIs p n (at-row r) = (r < n) × T (p r) × ((q : ℕ) → q < r → T (p q) → ⊥)
+FirstIs p n no-row = (q : ℕ) → q < n → T (p q) → ⊥
+
+module _ (p : ℕ → Bool) (n : ℕ) where
+  -- p fails before it
+  pub where-before : (q : ℕ) → q < firstWhere p n → T (p q) → ⊥
+  where-before q l = false-T (not-true (p q) (bad-before (λ k. not (p k)) 0 n q zero-le l))
+
+  -- p holds at it
+  pub where-holds : firstWhere p n < n → T (p (firstWhere p n))
+  where-holds l = true-T (not-false (p (firstWhere p n)) (bad-fails (λ k. not (p k)) 0 n zero-le l))
+
+  -- what the answer says
+  pub first-is : FirstIs p n (rowBelow n (firstWhere p n))
+  first-is = go (ltb (firstWhere p n) n) refl
+    where
+      go : (t : Bool) → ltb (firstWhere p n) n ≡ t → FirstIs p n (pick t (at-row (firstWhere p n)) no-row)
+      go true e = let l = ltb-true (firstWhere p n) n e in (l, where-holds l, where-before)
+      go false e = let l = ltb-false (firstWhere p n) n e in λ q m. where-before q (omega arith)
+
+  -- only one answer says it
+  pub first-only : (x y : RowFound) → FirstIs p n x → FirstIs p n y → x ≡ y
+  first-only (at-row r) (at-row q) h g = ap at-row (same (decLt r q) (decLt q r))
+    where
+      same : Dec (r < q) → Dec (q < r) → r ≡ q
+      same (yes l) d = absurd (g .2 r l (h .1))
+      same (no l) (yes m) = absurd (h .2 q m (g .1))
+      same (no l) (no m) = omega arith
+  first-only (at-row r) no-row h g = absurd (g r (h .0) (h .1))
+  first-only no-row (at-row q) h g = absurd (h q (g .0) (g .1))
+  first-only no-row no-row h g = refl
+
+-- an answer turns on the tests below n
+pub first-ext : (p q : ℕ → Bool) (n : ℕ) → ((r : ℕ) → r < n → p r ≡ q r) → rowBelow n (firstWhere p n) ≡ rowBelow n (firstWhere q n)
+first-ext p q n h = ap (rowBelow n) (bad-ext (λ k. not (p k)) (λ k. not (q k)) 0 n zero-le (λ k l u. ap not (h k u)))
+
+-- ---- the column of a field
+
+-- no field has two columns of t: so it is in each table of an accepted book, whose fields rise
+abbrev pub OneColumn : Table → Type 0
+OneColumn t = (j k : ℕ) → j < length (t .fields) → k < length (t .fields) → j ≢ k → fieldOf t j ≢ fieldOf t k
+
+module _ (t : Table) (f : ℕ) where
+  -- a column below the number of columns is for the field
+  pub column-is : columnOf t f < length (t .fields) → fieldOf t (columnOf t f) ≡ f
+  column-is l = eqb→eq (fieldOf t (columnOf t f)) f (where-holds (λ j. eqb (fieldOf t j) f) (length (t .fields)) l)
+
+  -- a field of the table has its column
+  pub column-in : FieldIn f t → columnOf t f < length (t .fields)
+  column-in q = go (decLt (q .0) (columnOf t f))
+    where
+      go : Dec (q .0 < columnOf t f) → columnOf t f < length (t .fields)
+      go (yes l) = absurd (where-before (λ j. eqb (fieldOf t j) f) (length (t .fields)) (q .0) l (eq→eqb (q .2)))
+      go (no l) = omega (arith, q .1)
+
+  -- the test says whether the field is in the table
+  pub has-field : T (hasField t f) ↔ FieldIn f t
+  has-field = (
+    λ u. let l = ltb-true (columnOf t f) (length (t .fields)) (T-true u) in (columnOf t f, l, column-is l),
+    λ q. true-T (lt-ltb (columnOf t f) (length (t .fields)) (column-in q)),
+  )
+
+-- a table with a field is one of the book's
+pub table-in : (b : Book) (f i : ℕ) → FieldIn f (nth b i) → i < length (b .tables)
+table-in b f i q = go (decLt i (length (b .tables)))
+  where
+    go : Dec (i < length (b .tables)) → i < length (b .tables)
+    go (yes l) = l
+    go (no n) =
+        let none : nth b i ≡ record { fields = []; rows = [] } = List·getD-eq-default (b .tables) (record { fields = []; rows = [] }) (omega arith) in
+        absurd (not-suc-le-zero (subst (λ (t : Table). q .0 < length (t .fields)) none (q .1)))
+
+-- ---- the first row that keeps a code
+
+module _ (b : Book) (a : List ℕ) (t : Table) (one : OneColumn t) (f c : ℕ) (q : FieldIn f t) where
+  -- f's column
+  abbrev own : ℕ
+  own = columnOf t f
+
+  own-in : own < length (t .fields)
+  own-in = column-in t f q
+
+  own-is : fieldOf t own ≡ f
+  own-is = column-is t f own-in
+
+  -- a column for f is that one
+  there-only : (k : ℕ) → k < length (t .fields) → fieldOf t k ≡ f → k ≡ own
+  there-only k l e = go (ℕ-discrete k own)
+    where
+      go : Dec (k ≡ own) → k ≡ own
+      go (yes d) = d
+      go (no n) = absurd (one k own l own-in n (e ∙ sym own-is))
+
+  -- a row that keeps the code passes the test of support, and back
+  pub keeps-passes : (r : ℕ) → Keeps b a t f c r → T (rowSupports (largest b a) t own c r)
+  keeps-passes r k =
+      row-in (largest b a) t own c r (k .there own own-in own-is)
+      (λ i l n. standing-largest b a (fieldOf t i) (codeOf t r i) .0 (k .beside i l (λ e. n (there-only i l e))))
+
+  pub passes-keeps : (r : ℕ) → r < length (t .rows) → T (rowSupports (largest b a) t own c r) → Keeps b a t f c r
+  passes-keeps r l u =
+      record {
+        row-in = l;
+        there = λ k m e. ap (codeOf t r) (there-only k m e) ∙ row-there (largest b a) t own c r u;
+        beside = λ k m n.
+            standing-largest b a (fieldOf t k) (codeOf t r k) .1 (row-others (largest b a) t own c r u k m (λ e. n (ap (fieldOf t) e ∙ own-is)));
+      }
+
+  -- what an answer says in both terms
+  says : (x : RowFound) → FirstIs (rowSupports (largest b a) t own c) (length (t .rows)) x → IsFirstRow b a t f c x
+  says (at-row r) h = (passes-keeps r (h .0) (h .1), λ k l u. h .2 k l (keeps-passes k u))
+  says no-row h = λ r k. h r (k .row-in) (keeps-passes r k)
+
+  said : (x : RowFound) → IsFirstRow b a t f c x → FirstIs (rowSupports (largest b a) t own c) (length (t .rows)) x
+  said (at-row r) h =
+      let l = h .0 .row-in in
+      (l, keeps-passes r (h .0), λ k m u. h .1 k m (passes-keeps k (omega (arith, l)) u))
+  said no-row h = λ k m u. h k (passes-keeps k m u)
+
+  -- the answer computed is the first row that keeps the code, and nothing else is
+  pub first-in : (x : RowFound) → (x ≡ firstIn (largest b a) t own c) ↔ IsFirstRow b a t f c x
+  first-in x = (
+    λ e. subst (IsFirstRow b a t f c) (sym e) (says (firstIn (largest b a) t own c) (first-is (rowSupports (largest b a) t own c) (length (t .rows)))),
+    λ h. first-only (rowSupports (largest b a) t own c) (length (t .rows)) x (firstIn (largest b a) t own c) (said x h)
+        (first-is (rowSupports (largest b a) t own c) (length (t .rows))),
+  )
+
+-- ---- codes that stand, and rows
+
+-- some row supports the code exactly where the answer is a row
+found-exactly : (S : Subdomain) (t : Table) (j c : ℕ) → Support S t j c ↔ ((r : ℕ) × (firstIn S t j c ≡ at-row r))
+found-exactly S t j c = (λ u. there u (firstIn S t j c) (first-is (rowSupports S t j c) (length (t .rows))), back)
+  where
+    there : Support S t j c → (x : RowFound) → FirstIs (rowSupports S t j c) (length (t .rows)) x → (r : ℕ) × (x ≡ at-row r)
+    there u (at-row r) h = (r, refl)
+    there u no-row h = absurd (h (u .row) (u .row-in) (row-in S t j c (u .row) (u .there) (u .others)))
+
+    back : ((r : ℕ) × (firstIn S t j c ≡ at-row r)) → Support S t j c
+    back (r , e) =
+        let h : FirstIs (rowSupports S t j c) (length (t .rows)) (at-row r) =
+        subst (FirstIs (rowSupports S t j c) (length (t .rows))) e (first-is (rowSupports S t j c) (length (t .rows))) in
+        record { row = r; row-in = h .0; there = row-there S t j c r (h .1); others = row-others S t j c r (h .1) }
+
+module _ (b : Book) (a : List ℕ) (f c : ℕ) where
+  -- each table with the field has a row
+  abbrev pub RowEach : Type 0
+  RowEach = (i : ℕ) → i < length (b .tables) → FieldIn f (nth b i) → (r : ℕ) × (firstSupport b a f c i ≡ at-row r)
+
+  -- a code that stands has a row in every table with its field
+  pub standing-found : Standing b a f c → RowEach
+  unfolding firstSupport
+  standing-found s i l q =
+      let t : Table = nth b i in
+      let j : ℕ = columnOf t f in
+      let m : j < length (t .fields) = column-in t f q in
+      found-exactly (largest b a) t j c .0
+      (largest-is b a .fits .consistent f c (standing-largest b a f c .0 s) i l j m (column-is t f m))
+
+  -- the largest subdomain with the code
+  abbrev added : Subdomain
+  added g d = largest b a g d || (eqb g f && eqb d c)
+
+  -- a code of it was there, or is the one added
+  was : (g d : ℕ) → T (added g d) → T (largest b a g d) ⊎ ((g ≡ f) × (d ≡ c))
+  was g d u =
+      ⊎-elim {C = T (largest b a g d) ⊎ ((g ≡ f) × (d ≡ c))} inl
+      (λ v. inr (eqb→eq g f (and-left (eqb g f) (eqb d c) v), eqb→eq d c (and-right (eqb g f) (eqb d c) v)))
+      (or-out (largest b a g d) (eqb g f && eqb d c) u)
+
+  grown : Inside (largest b a) added
+  grown g d u = or-left (largest b a g d) (eqb g f && eqb d c) u
+
+  module _ (known : c < codes b f) (allowed : answer a f ≢ 255 → c ≡ answer a f) where
+    -- with all its supports it fits, so it was there before
+    supported-stands : SupportedIn b (largest b a) f c → Standing b a f c
+    supported-stands s =
+        record {
+          subdomain = added;
+          fits =
+              record {
+                of-book = λ g d u. of-book g d (was g d u);
+                consistent = λ g d u i l j m e. consistent g d (was g d u) i l j m e;
+                within = λ g d n u. within g d n (was g d u);
+              };
+          has = or-right (largest b a f c) (eqb f f && eqb c c) (and-in (eqb f f) (eqb c c) (eqb-refl f) (eqb-refl c));
+        }
+      where
+        of-book : (g d : ℕ) → T (largest b a g d) ⊎ ((g ≡ f) × (d ≡ c)) → d < codes b g
+        of-book g d (inl u) = largest-is b a .fits .of-book g d u
+        of-book g d (inr e) = rw (e .0, e .1) known
+
+        consistent : (g d : ℕ) → T (largest b a g d) ⊎ ((g ≡ f) × (d ≡ c))
+            → (i : ℕ) → i < length (b .tables) → (j : ℕ) → j < length (nth b i .fields) → fieldOf (nth b i) j ≡ g → Support added (nth b i) j d
+        consistent g d (inl u) i l j m e = support-grows grown (nth b i) j d (largest-is b a .fits .consistent g d u i l j m e)
+        consistent g d (inr w) i l j m e =
+            support-grows grown (nth b i) j d (subst (Support (largest b a) (nth b i) j) (sym (w .1)) (s i l j m (e ∙ w .0)))
+
+        within : (g d : ℕ) → answer a g ≢ 255 → T (largest b a g d) ⊎ ((g ≡ f) × (d ≡ c)) → d ≡ answer a g
+        within g d n (inl u) = largest-is b a .fits .within g d n u
+        within g d n (inr e) = e .1 ∙ allowed (λ z. n (ap (answer a) (e .0) ∙ z)) ∙ ap (answer a) (sym (e .0))
+
+    -- a code that the answers allow stands exactly where each table with its field has a row
+    pub stands-exactly : ((i : ℕ) → i < length (b .tables) → OneColumn (nth b i)) → Standing b a f c ↔ RowEach
+    unfolding firstSupport
+    stands-exactly one = (
+      standing-found,
+      λ each. supported-stands (λ i l j m e.
+          let t : Table = nth b i in
+          let q : FieldIn f t = (j, m, e) in
+          subst (λ (k : ℕ). Support (largest b a) t k c) (sym (there-only b a t (one i l) f c q j m e))
+          (found-exactly (largest b a) t (columnOf t f) c .1 (each i l q))),
+    )
+
+-- ---- an accepted book
+
+-- two columns of a table have two fields
+pub one-column : (s : List ℕ) → Promise s → (i : ℕ) → i < length (bookOf s .tables) → OneColumn (nth (bookOf s) i)
+one-column s q i l =
+    let h : i < tableCount s = omega (arith, tables-count s) in
+    let t : TablePromise s (place s i) = q .tables i h in
+    subst OneColumn (sym (table-view s (record { fields = []; rows = [] }) i h)) (λ j k jl kl n e.
+    let arity : length (tableAt s (place s i) .fields) ≡ arityAt s (place s i) = table-arity s (place s i) (omega (arith, t .ends, q .whole)) in
+    let jm : j < arityAt s (place s i) = omega arith in
+    let km : k < arityAt s (place s i) = omega arith in
+    fields-apart s (place s i) t j k jm km n (sym (table-field s (place s i) j jm) ∙ e ∙ table-field s (place s i) k km))
