@@ -1,15 +1,16 @@
 -- The calls that only read the sheet hand it back as given, accepted or refused. Assumes nothing.
 use Prim.Native.Nat.{ℕ, _*_}
 use mathlib.Core.Path.{_≡_, refl}
-use mathlib.Core.List.{List}
+use mathlib.Core.List.{List, []}
 use lib.ListN.{length}
 use lib.Dec.{ltb, eqb}
 use Rattle.format.specs.Format.{Book, bookOf}
 use Rattle.format.specs.Reading.{Verdict, pass, fail, verdict}
 use Rattle.format.proofs.Picks.{pick-holds}
-use Rattle.consistency.specs.Consistency.{places, answer}
+use Rattle.consistency.specs.Consistency.{places, codes, nth, answer}
 use Rattle.consistency.specs.Counts.{total}
-use Rattle.calls.specs.Calls.{Result, turned, faultOf, withBook, faultThen, onSheet, masksInto, filtered, alternatives, stored}
+use Rattle.consistency.specs.Rows.{hasField}
+use Rattle.calls.specs.Calls.{Result, turned, faultOf, withBook, faultThen, onSheet, masksInto, filtered, alternatives, stored, rowBehind}
 
 module _ (bytes s o : List ℕ) where
   -- a result with this sheet
@@ -41,3 +42,11 @@ module _ (bytes s o : List ℕ) where
   pub stored-keeps : stored bytes s o .sheet ≡ s
   unfolding stored
   stored-keeps = on-sheet 0 _ (pick-holds Kept (ltb (length o) (length (bookOf bytes .counts))) refl refl)
+
+pub row-keeps : (bytes s : List ℕ) (f c i : ℕ) → rowBehind bytes s f c i .sheet ≡ s
+unfolding rowBehind
+row-keeps bytes s f c i =
+    let K : Result → Type 0 = Kept bytes s [] in
+    on-sheet bytes s [] 2 _
+    (pick-holds K (ltb f (length (bookOf bytes .counts)))
+    (pick-holds K (ltb c (codes (bookOf bytes) f)) (pick-holds K (hasField (nth (bookOf bytes) i) f) refl refl) refl) refl)

@@ -166,7 +166,7 @@ found-exactly S t j c = (λ u. there u (firstIn S t j c) (first-is (rowSupports 
     there u no-row h = absurd (h (u .row) (u .row-in) (row-in S t j c (u .row) (u .there) (u .others)))
 
     back : ((r : ℕ) × (firstIn S t j c ≡ at-row r)) → Support S t j c
-    back (r , e) =
+    back (r, e) =
         let h : FirstIs (rowSupports S t j c) (length (t .rows)) (at-row r) =
         subst (FirstIs (rowSupports S t j c) (length (t .rows))) e (first-is (rowSupports S t j c) (length (t .rows))) in
         record { row = r; row-in = h .0; there = row-there S t j c r (h .1); others = row-others S t j c r (h .1) }

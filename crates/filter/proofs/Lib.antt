@@ -33,3 +33,4 @@ pub mod Passes
 pub mod Agreement
 pub mod Emptied
 pub mod ViewCalls
+pub mod Lookups

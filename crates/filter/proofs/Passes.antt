@@ -115,33 +115,34 @@ module _ (s : List ℕ) (list fields tables : ℕ) (a own : List ℕ) (h : Numbe
   pub one-case-given : RunGiven s list fields tables a own 1
   one-case-given = record { numbers = h; cases = a ∷ []; are = one-case a own z }
 
-  module _ (N : List ℕ) (r : ℕ) (y : Ran (bookOf s) a own 1 N r) where
-    -- each field's number
-    number-is : (f : ℕ) → f < places → maskOf N f ≡ mask codeLimit (largest (bookOf s) a f)
-    number-is f l =
-        mask-ext codeLimit (domainOf N 0 f) (largest (bookOf s) a f)
-        (λ c m.
-        domain-bit N 0 f c m ∙ ap (λ (M : List ℕ). bit (wordAt M f c) 0) (y .marks (a ∷ []) (one-case a own z))
-        ∙ marks-bit (bookOf s) (a ∷ []) 0 f c (omega arith) l m)
+  pub one-case-marks : (N : List ℕ) (r : ℕ) → Ran (bookOf s) a own 1 N r → N ≡ marksOf (bookOf s) (a ∷ [])
+  one-case-marks N r y = y .marks (a ∷ []) (one-case a own z)
 
-    -- 0 where the book has no field
-    none-there : (f : ℕ) → fields ≤ f → mask codeLimit (largest (bookOf s) a f) ≡ 0
-    none-there f l =
-        mask-none codeLimit (largest (bookOf s) a f)
-        (λ c t.
-        omega (
-          arith,
-          field-in (bookOf s) f c (largest-is (bookOf s) a .fits .of-book f c t),
-          counts-count s (h .promise .whole),
-          h .fields-is,
-        ))
+module _ (s : List ℕ) (list fields tables : ℕ) (a : List ℕ) (h : Numbered s list fields tables) (N : List ℕ) (e : N ≡ marksOf (bookOf s) (a ∷ [])) where
+  -- each field's number
+  number-is : (f : ℕ) → f < places → maskOf N f ≡ mask codeLimit (largest (bookOf s) a f)
+  number-is f l =
+      mask-ext codeLimit (domainOf N 0 f) (largest (bookOf s) a f)
+      (λ c m. domain-bit N 0 f c m ∙ ap (λ (M : List ℕ). bit (wordAt M f c) 0) e ∙ marks-bit (bookOf s) (a ∷ []) 0 f c (omega arith) l m)
 
-    number-below : (f : ℕ) → f < places → maskBelow N fields f ≡ mask codeLimit (largest (bookOf s) a f)
-    number-below f l = at (decLt f fields)
-      where
-        at : Dec (f < fields) → maskBelow N fields f ≡ mask codeLimit (largest (bookOf s) a f)
-        at (yes m) = ap (λ (t : Bool). pick t (maskOf N f) 0) (lt-ltb f fields m) ∙ number-is f l
-        at (no n) = ap (λ (t : Bool). pick t (maskOf N f) 0) (le-ltb f fields (omega arith)) ∙ sym (none-there f (omega arith))
+  -- 0 where the book has no field
+  none-there : (f : ℕ) → fields ≤ f → mask codeLimit (largest (bookOf s) a f) ≡ 0
+  none-there f l =
+      mask-none codeLimit (largest (bookOf s) a f)
+      (λ c t.
+      omega (
+        arith,
+        field-in (bookOf s) f c (largest-is (bookOf s) a .fits .of-book f c t),
+        counts-count s (h .promise .whole),
+        h .fields-is,
+      ))
 
-    pub one-case-done : (n : List ℕ) → n ≡ tabulate (maskBelow N fields) places 0 → n ≡ plainOf (bookOf s) a
-    one-case-done n e = e ∙ tabulate-ext (maskBelow N fields) (λ f. mask codeLimit (largest (bookOf s) a f)) places number-below
+  number-below : (f : ℕ) → f < places → maskBelow N fields f ≡ mask codeLimit (largest (bookOf s) a f)
+  number-below f l = at (decLt f fields)
+    where
+      at : Dec (f < fields) → maskBelow N fields f ≡ mask codeLimit (largest (bookOf s) a f)
+      at (yes m) = ap (λ (t : Bool). pick t (maskOf N f) 0) (lt-ltb f fields m) ∙ number-is f l
+      at (no n) = ap (λ (t : Bool). pick t (maskOf N f) 0) (le-ltb f fields (omega arith)) ∙ sym (none-there f (omega arith))
+
+  pub one-case-done : (n : List ℕ) → n ≡ tabulate (maskBelow N fields) places 0 → n ≡ plainOf (bookOf s) a
+  one-case-done n d = d ∙ tabulate-ext (maskBelow N fields) (λ f. mask codeLimit (largest (bookOf s) a f)) places number-below

@@ -1,21 +1,22 @@
 -- The shape of a table of an accepted book: where its rows and fields stand in the bytes, and how large they are. Assumes nothing.
-use mathlib.Core.Path.{_≡_, sym, ap, _∙_, subst}
-use mathlib.Core.Logic.{⊎-elim, _≢_}
+use mathlib.Core.Path.{_≡_, refl, sym, ap, ap₂, _∙_, subst}
+use mathlib.Core.Logic.{_≢_}
 use mathlib.Core.List.{List, []}
-use Prim.Native.Nat.{ℕ, zero, suc, _+_, _*_, _≤_, _<_}
-use native.Mathlib.Nat.{le-trans, not-suc-le-zero, mul-le-mul-right}
-use native.Mathlib.Numerals.{add-one}
-use native.Mathlib.Decide.{decLt}
+use Prim.Native.Nat.{ℕ, _+_, _*_, _≤_, _<_}
+use native.Mathlib.Nat.{mul-one, mul-le-mul-left, mul-le-mul-right}
 use native.Mathlib.Omega.{arith}
 use lib.ListN.{length}
-use Rattle.format.specs.Format.{Table, codeLimit, byte, fieldCount, arityAt, rowsOf, firstRow, tableEnd, tableAt, bookOf}
-use Rattle.format.specs.Promise.{TablePromise, fieldAt, codeAt, countAt}
-use Rattle.format.proofs.Views.{tables-count, table-view, table-rows, table-code, table-field, table-arity}
+use Rattle.format.specs.Format.{Table, codeLimit, lengthLimit, byte, fieldCount, tableCount, arityAt, rowsOf, firstRow, tableEnd, tableAt, bookOf}
+use Rattle.format.specs.Promise.{Promise, TablePromise, place, codeAt, fieldAt, countAt}
+use Rattle.format.proofs.Views.{tables-count, table-view, table-rows, table-code, table-field, table-arity, fields-apart as table-fields-apart}
 use Rattle.consistency.specs.Consistency.{places, fieldOf, codeOf, nth}
-use Rattle.consistency.proofs.Booleans.{below-suc}
 use Rattle.filter.specs.declared.support.Shape.{Shape}
-use Rattle.filter.specs.Support.{InTable}
+use Rattle.filter.specs.Support.{InTable, shapeAt}
 use Rattle.filter.proofs.Limits.{fields-few}
+
+-- table i of the book is the table at its place
+pub nth-at : (s : List ℕ) (i at : ℕ) → i < tableCount s → at ≡ place s i → nth (bookOf s) i ≡ tableAt s at
+nth-at s i at l e = table-view s (record { fields = []; rows = [] }) i l ∙ ap (tableAt s) (sym e)
 
 module _ (s : List ℕ) (t : Shape) (q : InTable s t) where
   -- the table
@@ -70,25 +71,10 @@ module _ (s : List ℕ) (t : Shape) (q : InTable s t) where
   pub field-known : (i : ℕ) → i < t .arity → fieldOf of i < fieldCount s
   field-known i l = subst (λ (x : ℕ). x < fieldCount s) (field-is i l) (promised .known i (omega (arith, arity-is)))
 
-  -- fields rise
-  rise : (i l : ℕ) → i < l → l < arityAt s (t .at) → fieldAt s (t .at) i < fieldAt s (t .at) l
-  rise i zero h m = absurd (not-suc-le-zero h)
-  rise i (suc l) h m =
-      let step : fieldAt s (t .at) l < fieldAt s (t .at) (suc l) =
-      subst (λ (x : ℕ). fieldAt s (t .at) l < fieldAt s (t .at) x) (add-one l) (promised .rising l (omega arith)) in
-      ⊎-elim (λ (e : i ≡ l). subst (λ (x : ℕ). fieldAt s (t .at) x < fieldAt s (t .at) (suc l)) (sym e) step)
-      (λ (k : i < l). le-trans (rise i l k (omega arith)) (omega arith)) (below-suc h)
-
-  -- so those of two columns differ
+  -- those of two columns differ
   pub fields-apart : (i l : ℕ) → i < t .arity → l < t .arity → i ≢ l → fieldOf of i ≢ fieldOf of l
-  fields-apart i l il ll n e = go (decLt i l)
-    where
-      same : fieldAt s (t .at) i ≡ fieldAt s (t .at) l
-      same = field-is i il ∙ e ∙ sym (field-is l ll)
-
-      go : Dec (i < l) → ⊥
-      go (yes h) = let r : fieldAt s (t .at) i < fieldAt s (t .at) l = rise i l h (omega (arith, arity-is)) in omega (arith, same)
-      go (no h) = let r : fieldAt s (t .at) l < fieldAt s (t .at) i = rise l i (omega arith) (omega (arith, arity-is)) in omega (arith, same)
+  fields-apart i l il ll n e =
+      table-fields-apart s (t .at) promised i l (omega (arith, arity-is)) (omega (arith, arity-is)) n (field-is i il ∙ e ∙ sym (field-is l ll))
 
   -- a code is one of its field's
   code-known : (r i : ℕ) → r < t .rows → i < t .arity → codeOf of r i < countAt s (fieldOf of i)
@@ -112,4 +98,41 @@ module _ (s : List ℕ) (t : Shape) (q : InTable s t) where
   index-below = omega (arith, tables-count s, q .index-in)
 
   pub nth-is : nth (bookOf s) (q .index) ≡ of
-  nth-is = table-view s (record { fields = []; rows = [] }) (q .index) (q .index-in) ∙ ap (tableAt s) (sym (q .at-is))
+  nth-is = nth-at s (q .index) (t .at) (q .index-in) (q .at-is)
+
+-- ---- a table at its place, and its shape as it is read there
+
+-- table i of an accepted book
+pub table-at : {s : List ℕ} → Promise s → (i : ℕ) → i < tableCount s → (at : ℕ) → at ≡ place s i → InTable s (shapeAt s at)
+table-at p i l at e = record { promise = p; index = i; index-in = l; at-is = e; shape = refl }
+
+module _ {s : List ℕ} {at : ℕ} (q : InTable s (shapeAt s at)) where
+  -- its head stands within the bytes
+  pub head-in : at + 3 + arityAt s at + 6 ≤ length s
+  head-in = go (rowsOf s at * arityAt s at) (end-in s (shapeAt s at) q)
+    where
+      go : (x : ℕ) → at + 3 + arityAt s at + x + 6 ≤ length s → at + 3 + arityAt s at + 6 ≤ length s
+      go x h = omega arith
+
+  -- it has no more rows than the book has bytes
+  pub rows-in : rowsOf s at ≤ lengthLimit
+  rows-in =
+      go (rowsOf s at) (rowsOf s at * arityAt s at) (end-in s (shapeAt s at) q)
+      (subst (_≤ rowsOf s at * arityAt s at) (mul-one (rowsOf s at)) (mul-le-mul-left (rowsOf s at) (promised s (shapeAt s at) q .some)))
+    where
+      go : (x y : ℕ) → at + 3 + arityAt s at + y + 6 ≤ length s → x ≤ y → x ≤ lengthLimit
+      go x y h l = omega (arith, q .promise .short)
+
+  -- a shape that is the table's, taken apart
+  pub shape-in : {t : Shape} → t ≡ shapeAt s at → InTable s (record { at = at; arity = t .arity; first = t .first; rows = t .rows })
+  shape-in e = subst (λ (t : Shape). InTable s (record { at = at; arity = t .arity; first = t .first; rows = t .rows })) (sym e) q
+
+  -- what is read there
+  module _ {arity low high : ℕ} (ae : arity ≡ byte s at) (le : low ≡ byte s (at + 1 + arity)) (he : high ≡ byte s (at + 2 + arity)) where
+    pub rows-read : low + 256 * high ≡ rowsOf s at
+    rows-read =
+        ap₂ (λ (x y : ℕ). x + 256 * y) (le ∙ ap (λ (x : ℕ). byte s (at + 1 + x)) ae)
+        (he ∙ ap (byte s) (let e : at + 2 + arity ≡ at + 1 + byte s at + 1 = omega arith in e))
+
+    pub shape-read : record { at = at; arity = arity; first = at + 3 + arity; rows = low + 256 * high } ≡ shapeAt s at
+    shape-read = rw (rows-read, ae)

@@ -133,7 +133,7 @@ pub place-zero : (s : List ℕ) → 0 ≡ place s 0
 unfolding place
 place-zero s = refl
 
-next-place : (s : List ℕ) (i p : ℕ) → p ≡ place s i → tableEnd s p ≡ place s (i + 1)
+pub next-place : (s : List ℕ) (i p : ℕ) → p ≡ place s i → tableEnd s p ≡ place s (i + 1)
 unfolding place
 next-place s i p e = ap (tableEnd s) e ∙ ap (place s) (sym (add-one i))
 

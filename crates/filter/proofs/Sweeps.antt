@@ -19,7 +19,7 @@ use Rattle.filter.specs.Support.{InTable, shapeAt}
 use Rattle.filter.specs.Revise.{Removal, Revised, ColumnSupported, TableSupported, Queued, Swept}
 use Rattle.filter.specs.Asks.{ReviseAsks, SweepAsks}
 use Rattle.filter.proofs.Removals.{removal-none, removal-then, removal-room}
-use Rattle.filter.proofs.Shapes.{arity-is, arity-of, field-is, field-known, fields-apart}
+use Rattle.filter.proofs.Shapes.{nth-at, table-at, arity-is, arity-of, field-is, field-known, fields-apart}
 use Rattle.filter.proofs.Limits.{fields-few}
 use Rattle.filter.proofs.ColumnKept.{column-supported, column-kept}
 use Rattle.filter.proofs.Queueing.{queued-none, queued-next}
@@ -36,44 +36,9 @@ pub swept-none : {s W M : List ℕ} {i at n d : ℕ} → SweptTo s W M M i at 0 
 swept-none {s} {W} {M} {i} {at} {n} =
     record { removal = removal-none (bookOf s) M n; supported = λ l h. absurd (not-suc-le-zero h); queued = queued-none; rest = λ e. refl }
 
--- ---- the table's shape
-
-module _ {s W M : List ℕ} {i at list n : ℕ} (a : SweepAsks s W M i at list n) where
-  -- the table's head stands within the bytes
-  promised-at : TablePromise s at
-  promised-at = subst (TablePromise s) (sym (a .at-is)) (a .promise .tables i (a .index-in))
-
-  pub head-in : at + 3 + arityAt s at + 6 ≤ length s
-  head-in = go (rowsOf s at * arityAt s at) (promised-at .ends)
-    where
-      go : (x : ℕ) → at + 3 + arityAt s at + x ≤ listPlace s → at + 3 + arityAt s at + 6 ≤ length s
-      go x h = omega (arith, a .promise .whole)
-
-  module _ {arity low high : ℕ} (ae : arity ≡ byte s at) (le : low ≡ byte s (at + 1 + arity)) (he : high ≡ byte s (at + 2 + arity)) where
-    abbrev shape : Shape
-    shape = record { at = at; arity = arity; first = at + 3 + arity; rows = low + 256 * high }
-
-    rows : low + 256 * high ≡ rowsOf s at
-    rows =
-        ap₂ (λ (x y : ℕ). x + 256 * y) (le ∙ ap (λ (x : ℕ). byte s (at + 1 + x)) ae)
-        (he ∙ ap (byte s) (let e : at + 2 + arity ≡ at + 1 + byte s at + 1 = omega arith in e))
-
-    whole : shape ≡ shapeAt s at
-    whole = rw (rows, ae)
-
-    -- what is read is the table's shape
-    pub shape-is : InTable s shape
-    shape-is = record { promise = a .promise; index = i; index-in = a .index-in; at-is = a .at-is; shape = whole }
-
-    -- a table has no more rows than the book has bytes
-    pub rows-in : low + 256 * high ≤ lengthLimit
-    rows-in =
-        go (rowsOf s at) (rowsOf s at * arityAt s at) rows
-        (subst (_≤ rowsOf s at * arityAt s at) (mul-one (rowsOf s at)) (mul-le-mul-left (rowsOf s at) (promised-at .some)))
-        (promised-at .ends)
-      where
-        go : (x y : ℕ) → low + 256 * high ≡ x → x ≤ y → at + 3 + arityAt s at + y ≤ listPlace s → low + 256 * high ≤ lengthLimit
-        go x y e l m = omega (arith, a .promise .whole, a .promise .short)
+-- the table at its place
+pub table-asked : {s W M : List ℕ} {i at list n : ℕ} → SweepAsks s W M i at list n → InTable s (shapeAt s at)
+table-asked {i = i} {at = at} a = table-at (a .promise) i (a .index-in) at (a .at-is)
 
 -- ---- column by column
 
@@ -84,13 +49,10 @@ module _ {s W M : List ℕ} {t : Shape} {i list n : ℕ} (a : SweepAsks s W M i 
   swept-all l =
       record {
         removal = h .removal;
-        supported = subst (λ (x : Table). TableSupported N x) (sym table) (λ c cl. h .supported c (omega (arith, arity-of s t q)));
+        supported = subst (λ (x : Table). TableSupported N x) (sym (nth-at s i (t .at) (a .index-in) (a .at-is))) (λ c cl. h .supported c (omega (arith, arity-of s t q)));
         queued = h .queued;
         rest = h .rest;
       }
-    where
-      table : nth (bookOf s) i ≡ tableAt s (t .at)
-      table = table-view s (record { fields = []; rows = [] }) i (a .index-in) ∙ ap (tableAt s) (sym (a .at-is))
 
   module _ (jl : j < t .arity) {f : ℕ} (fe : f ≡ byte s (t .at + 1 + j)) where
     -- its field is one of the book's

@@ -6,3 +6,4 @@ pub mod Start
 pub mod Asks
 pub mod Queue
 pub mod Summaries
+pub mod Rows

@@ -1,5 +1,5 @@
-// The filter over an accepted book: the one pass for all cases, plain filtering by the same engine with one case, and the cases of a pass in
-// which some field is empty.
+// The filter over an accepted book: the one pass for all cases, plain filtering by the same engine with one case, the cases of a pass in
+// which some field is empty, and the row behind a code.
 ghost use mathlib.Core.Path.{_≡_};
 ghost use Rattle.format.specs.Format.{bookOf};
 ghost use Rattle.book.specs.View.{Viewed};
@@ -11,6 +11,7 @@ use book::CODES;
 use book::PLACES;
 
 mod gather;
+mod lookup;
 mod pass;
 mod queue;
 mod revise;
@@ -18,11 +19,22 @@ mod start;
 mod summary;
 mod support;
 
+// The row behind a code.
+pub use lookup::row_behind;
+
 // A word of marks for each place and code.
 pub const WORDS: usize = PLACES * CODES;
 
 // Every bit of a word of cases.
 const EVERY_CASE: u64 = 18446744073709551615;
+
+// The row behind a code: the number of the first row of the table that supports it; no row where none does; no such table where the book
+// lacks it or the field is not in it.
+pub enum Behind {
+    Row(usize),
+    NoRow,
+    NoTable,
+}
 
 // The one pass over a view of an accepted book: the marks of all cases, and the number struck.
 fn one_pass_over<'a>(book: Book<'a>, answers: &[u8; PLACES], marks: &mut [u64; WORDS]) -> u32

@@ -1,5 +1,6 @@
 // The pass over a book's bytes, with the numbers that a view of it holds: the work of the crate's entries.
 ghost use mathlib.Core.Path.{_≡_};
+ghost use mathlib.Core.List.{[], _∷_};
 ghost use Rattle.format.specs.Format.{bookOf};
 ghost use Rattle.book.specs.View.{Numbered};
 ghost use Rattle.consistency.specs.Counts.{struck};
@@ -59,7 +60,23 @@ pub(crate) fn all_cases(
     run(bytes, list, fields, tables, answers, &own, cases.all, marks)
 }
 
-// Plain filtering: one case, with the answers as they are. A number for each field, bit c of it for code c.
+// Plain filtering's marks: one case, with the answers as they are. Bit 0 of a word is its mark. The words lent are 0.
+pub(crate) fn case_marks(
+    bytes: &[u8],
+    list: usize,
+    fields: usize,
+    tables: usize,
+    answers: &[u8; PLACES],
+    marks: &mut [u64; WORDS],
+)
+    requires { ⌜ Numbered (now bytes) list fields tables × (now marks ≡ noMarks) ⌝ }
+    ensures { λ _. ⌜ now (marks .exit) ≡ marksOf (bookOf (now (bytes .entry))) (now (answers .entry) ∷ []) ⌝ }
+{
+    let own = [0u64; PLACES];
+    run(bytes, list, fields, tables, answers, &own, 1, marks);
+}
+
+// Plain filtering: a number for each field, bit c of it for code c.
 pub(crate) fn one_case(
     bytes: &[u8],
     list: usize,
@@ -70,8 +87,7 @@ pub(crate) fn one_case(
     requires { ⌜ Numbered (now bytes) list fields tables ⌝ }
     ensures { λ r. ⌜ r ≡ plainOf (bookOf (now (bytes .entry))) (now (answers .entry)) ⌝ }
 {
-    let own = [0u64; PLACES];
     let mut marks = [0u64; WORDS];
-    run(bytes, list, fields, tables, answers, &own, 1, &mut marks);
+    case_marks(bytes, list, fields, tables, answers, &mut marks);
     gather(&marks, fields)
 }

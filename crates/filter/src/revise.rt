@@ -12,6 +12,7 @@ ghost use Rattle.filter.specs.Asks.{Looks, Counted, Struck, ReviseAsks, 
 use super::WORDS;
 use super::support::Found;
 use super::support::Shape;
+use super::support::shape_at;
 use super::support::support;
 use super::support::wide;
 use book::CODES;
@@ -141,9 +142,10 @@ pub(crate) fn sweep(
     requires { ⌜ SweepAsks (now book) (now watch) (now marks) i at list s ⌝ }
     ensures { λ r. ⌜ Swept (now (book .entry)) (now (watch .entry)) (now (marks .entry)) (now (marks .exit)) i s (r .struck) queue (r .queue) ⌝ }
 {
-    let arity = wide(book[at]);
-    let rows = wide(book[at + 1 + arity]) + 256 * wide(book[at + 2 + arity]);
-    let first = at + 3 + arity;
+    let table = shape_at(book, at);
+    let arity = table.arity;
+    let first = table.first;
+    let rows = table.rows;
     let mut struck = s;
     let mut tables = queue;
     for j in 0..arity {

@@ -2,7 +2,7 @@
 ghost use mathlib.Core.Path.{_≡_};
 ghost use Prim.Native.Nat.{_-_, _≤_, _<_};
 ghost use Rattle.format.specs.Format.{tableAt};
-ghost use Rattle.filter.specs.Support.{InTable, firstFrom, rowCases};
+ghost use Rattle.filter.specs.Support.{InTable, shapeAt, firstFrom, rowCases};
 use super::WORDS;
 use book::CODES;
 
@@ -24,6 +24,22 @@ pub(crate) fn wide(x: u8) -> usize
     ensures { λ r. ⌜ r ≡ x ⌝ }
 {
     x as usize
+}
+
+// The shape of the table at `at`.
+pub(crate) fn shape_at(book: &[u8], at: usize) -> Shape
+    requires { ⌜ InTable (now book) (shapeAt (now book) at) ⌝ }
+    ensures { λ r. ⌜ r ≡ shapeAt (now (book .entry)) at ⌝ }
+{
+    let arity = wide(book[at]);
+    let low = wide(book[at + 1 + arity]);
+    let high = wide(book[at + 2 + arity]);
+    Shape {
+        at: at,
+        arity: arity,
+        first: at + 3 + arity,
+        rows: low + 256 * high,
+    }
 }
 
 // The first row at or after `from` that supports its own code in column j in at least one of the cases that need[code] asks

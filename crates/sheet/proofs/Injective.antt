@@ -6,21 +6,23 @@ use native.Mathlib.Omega.{arith}
 use lib.ListN.{getD}
 use Rattle.format.specs.Reading.{Outcome}
 use Rattle.book.specs.declared.Refusal.the-variants as book
-use Rattle.sheet.specs.Shown.{numberOf, shown, shownListing}
+use Rattle.sheet.specs.Shown.{numberOf, shown, shownListing, shownRow}
 use Rattle.sheet.specs.declared.Reason.{Reason}
-use Rattle.sheet.specs.declared.Reason.the-variants.{Book, Fault, Field, Code, NoAnswer, Room, Length}
+use Rattle.sheet.specs.declared.Reason.the-variants.{Book, Fault, Field, Code, NoAnswer, Room, Length, Table}
 use Rattle.sheet.specs.declared.Answer.{Answer}
 use Rattle.sheet.specs.declared.Answer.the-variants.{Done, Refused}
 use Rattle.sheet.specs.declared.Listing.{Listing}
 use Rattle.sheet.specs.declared.Listing.the-variants.{Listed, Unlisted}
+use Rattle.sheet.specs.declared.Showing.{Showing}
+use Rattle.sheet.specs.declared.Showing.the-variants.{Row, NoRow, Unshown}
 
--- the reason of a number from 1 to 19
+-- the reason of a number from 1 to 19, and of 21
 reasonOf : ℕ → Reason
 reasonOf n =
     getD
     (Length ∷ Book book.Length ∷ Book book.Closing ∷ Book book.Version ∷ Book book.FieldCount ∷ Book book.TableCount
     ∷ Book book.ListPlace ∷ Book book.CodeCount ∷ Book book.Short ∷ Book book.Arity ∷ Book book.FieldNumber ∷ Book book.Code
-    ∷ Book book.RowCount ∷ Book book.LeftOver ∷ Fault ∷ Field ∷ Code ∷ NoAnswer ∷ Room ∷ Length ∷ [])
+    ∷ Book book.RowCount ∷ Book book.LeftOver ∷ Fault ∷ Field ∷ Code ∷ NoAnswer ∷ Room ∷ Length ∷ Length ∷ Table ∷ [])
     n Length
 
 -- a reason's number is not 0, and tells the reason
@@ -45,6 +47,7 @@ numbered Code = (omega arith, refl)
 numbered NoAnswer = (omega arith, refl)
 numbered Room = (omega arith, refl)
 numbered Length = (omega arith, refl)
+numbered Table = (omega arith, refl)
 
 -- no refusal is shown as accepted
 pub number-some : (r : Reason) → 1 ≤ numberOf r
@@ -77,3 +80,15 @@ shownListing-injective (Listed t n) (Listed t′ n′) e = ap₂ Listed (count 0
 shownListing-injective (Listed t n) (Unlisted r p) e = absurd (omega (arith, numbers e, number-some r))
 shownListing-injective (Unlisted r p) (Listed t n) e = absurd (omega (arith, numbers e, number-some r))
 shownListing-injective (Unlisted r p) (Unlisted r′ p′) e = ap₂ Unlisted (number-injective r r′ (numbers e)) (places e)
+
+-- the answers of row
+pub shownRow-injective : (x y : Showing) → shownRow x ≡ shownRow y → x ≡ y
+shownRow-injective (Row n) (Row n′) e = ap Row (count 1 e)
+shownRow-injective (Row n) NoRow e = let d : _≡_ {A = ℕ} 1 0 = count 0 e in absurd (omega arith)
+shownRow-injective (Row n) (Unshown r p) e = absurd (omega (arith, numbers e, number-some r))
+shownRow-injective NoRow (Row n) e = let d : _≡_ {A = ℕ} 0 1 = count 0 e in absurd (omega arith)
+shownRow-injective NoRow NoRow e = refl
+shownRow-injective NoRow (Unshown r p) e = absurd (omega (arith, numbers e, number-some r))
+shownRow-injective (Unshown r p) (Row n) e = absurd (omega (arith, numbers e, number-some r))
+shownRow-injective (Unshown r p) NoRow e = absurd (omega (arith, numbers e, number-some r))
+shownRow-injective (Unshown r p) (Unshown r′ p′) e = ap₂ Unshown (number-injective r r′ (numbers e)) (places e)

@@ -4,6 +4,7 @@ pub mod FieldTurns
 pub mod OwnCases
 pub mod PlainMasks
 pub mod ListCases
+pub mod RowCases
 pub mod Replays
 pub mod Openings
 pub mod Places

@@ -1,19 +1,24 @@
--- The answers of the calls in document 01's terms: its number for each reason, and number, place and counts for each answer. Assumes nothing.
+-- The answers of the calls in the papers' terms: their number for each reason, and number, place and counts for each answer. Assumes nothing.
 use Prim.Native.Nat.{ℕ}
 use mathlib.Core.List.{List, [], _∷_}
 use Rattle.format.specs.Reading.{Outcome, accepted, refused}
 use Rattle.calls.specs.Calls.{Result}
 use Rattle.book.specs.Shown as book
+use Rattle.filter.specs.declared.Behind.{Behind}
+use Rattle.filter.specs.declared.Behind.the-variants as filter
 use Rattle.sheet.specs.declared.Reason.{Reason}
-use Rattle.sheet.specs.declared.Reason.the-variants.{Book, Fault, Field, Code, NoAnswer, Room, Length}
+use Rattle.sheet.specs.declared.Reason.the-variants.{Book, Fault, Field, Code, NoAnswer, Room, Length, Table}
 use Rattle.sheet.specs.declared.Answer.{Answer}
 use Rattle.sheet.specs.declared.Answer.the-variants.{Done, Refused}
 use Rattle.sheet.specs.declared.Listing.{Listing}
 use Rattle.sheet.specs.declared.Listing.the-variants.{Listed, Unlisted}
+use Rattle.sheet.specs.declared.Showing.{Showing}
+use Rattle.sheet.specs.declared.Showing.the-variants.{Row, NoRow, Unshown}
 use Rattle.sheet.specs.declared.Handed.{Handed}
 use Rattle.sheet.specs.declared.HandedList.{HandedList}
+use Rattle.sheet.specs.declared.HandedRow.{HandedRow}
 
--- document 01's number of each reason
+-- the papers' number of each reason
 abbrev pub numberOf : Reason → ℕ
 numberOf (Book kind) = book.numberOf kind
 numberOf Fault = 14
@@ -22,6 +27,7 @@ numberOf Code = 16
 numberOf NoAnswer = 17
 numberOf Room = 18
 numberOf Length = 19
+numberOf Table = 21
 
 -- the answer of a call that counts nothing
 abbrev pub shown : Answer → Outcome
@@ -33,9 +39,24 @@ abbrev pub shownListing : Listing → Outcome
 shownListing (Listed total struck) = accepted (total ∷ struck ∷ [])
 shownListing (Unlisted reason place) = refused 2 (numberOf reason) place
 
+-- the answer of row: 1 and the row's number, or 0 and 0 for none
+abbrev pub shownRow : Showing → Outcome
+shownRow (Row number) = accepted (1 ∷ number ∷ [])
+shownRow NoRow = accepted (0 ∷ 0 ∷ [])
+shownRow (Unshown reason place) = refused 2 (numberOf reason) place
+
+-- what the filter found, as an answer: 21 where there is no such table with the field
+abbrev pub showingOf : Behind → Showing
+showingOf (filter.Row number) = Row number
+showingOf filter.NoRow = NoRow
+showingOf filter.NoTable = Unshown Table 0
+
 -- what a call left behind: its answer, the sheet handed back, and the contents of the buffer lent
 abbrev pub resultOf : Handed → List ℕ → Result
 resultOf r o = record { outcome = shown (r .answer); sheet = r .sheet .places; buffer = o }
 
 abbrev pub listResultOf : HandedList → List ℕ → Result
 listResultOf r o = record { outcome = shownListing (r .answer); sheet = r .sheet .places; buffer = o }
+
+abbrev pub rowResultOf : HandedRow → Result
+rowResultOf r = record { outcome = shownRow (r .answer); sheet = r .sheet .places; buffer = [] }

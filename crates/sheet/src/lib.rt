@@ -1,14 +1,15 @@
-// The sheet and its calls. Document 01, "The sheet and its one pass" and "When a call is turned down".
+// The sheet and its calls. Document 01, "The sheet and its one pass" and "When a call is turned down"; document 02, M-104.
 ghost use mathlib.Core.Path.{_≡_};
 ghost use mathlib.Core.List.{List, []};
 ghost use Prim.Native.Nat.{ℕ};
-ghost use Rattle.calls.specs.Calls.{freshSheet, turned, entered, withdrawn, cleared, filtered, alternatives, stored, loaded};
+ghost use Rattle.calls.specs.Calls.{freshSheet, turned, entered, withdrawn, cleared, filtered, alternatives, stored, loaded, rowBehind};
 ghost use Rattle.calls.specs.Histories.{callsIn, sheetAfter};
-ghost use Rattle.sheet.specs.Shown.{numberOf, resultOf, listResultOf};
+ghost use Rattle.sheet.specs.Shown.{numberOf, resultOf, listResultOf, showingOf, rowResultOf};
 ghost use Rattle.sheet.specs.Replayed.{Replayed};
 use book::Checked;
 use book::PLACES;
 use book::Refusal;
+use filter::Behind;
 use filter::WORDS;
 use opened::Opened;
 
@@ -22,7 +23,7 @@ pub struct Sheet {
     pub places: [u8; PLACES],
 }
 
-// Why a call is turned down: the reader's refusal of the book, or 14 to 19. numberOf (specs) gives each document 01's number.
+// Why a call is turned down: the reader's refusal of the book, 14 to 19, or 21. numberOf (specs) gives each the papers' number.
 pub enum Reason {
     Book(Refusal),
     Fault,
@@ -31,9 +32,10 @@ pub enum Reason {
     NoAnswer,
     Room,
     Length,
+    Table,
 }
 
-// Document 01's number of a reason.
+// The papers' number of a reason.
 pub fn number(reason: Reason) -> u64
     ensures { λ r. ⌜ r ≡ numberOf reason ⌝ }
 {
@@ -45,6 +47,7 @@ pub fn number(reason: Reason) -> u64
         Reason::NoAnswer => 17,
         Reason::Room => 18,
         Reason::Length => 19,
+        Reason::Table => 21,
     }
 }
 
@@ -72,6 +75,19 @@ pub struct HandedList {
     pub sheet: Sheet,
 }
 
+// The answer of row: the number of a row, or that there is none.
+pub enum Showing {
+    Row(usize),
+    NoRow,
+    Unshown(Reason, usize),
+}
+
+// The answer of row beside the sheet that it hands back.
+pub struct HandedRow {
+    pub answer: Showing,
+    pub sheet: Sheet,
+}
+
 // A refusal: the sheet comes back as given, and so does whatever is lent.
 fn refuse(sheet: Sheet, reason: Reason, place: usize) -> Handed
     ensures { λ r. ⌜ ((o : List ℕ) → resultOf r o ≡ turned 0 (sheet .places) o (numberOf reason) place) ⌝ }
@@ -89,6 +105,27 @@ fn refuse_list(sheet: Sheet, reason: Reason, place: usize) -> HandedList
     HandedList {
         answer: Listing::Unlisted(reason, place),
         sheet: sheet,
+    }
+}
+
+// A refusal of row.
+fn refuse_row(sheet: Sheet, reason: Reason, place: usize) -> HandedRow
+    ensures { λ r. ⌜ rowResultOf r ≡ turned 2 (sheet .places) [] (numberOf reason) place ⌝ }
+{
+    HandedRow {
+        answer: Showing::Unshown(reason, place),
+        sheet: sheet,
+    }
+}
+
+// What the filter found, as the answer of row: 21 where there is no such table with the field.
+fn row_answer(behind: Behind) -> Showing
+    ensures { λ r. ⌜ r ≡ showingOf behind ⌝ }
+{
+    match behind {
+        Behind::Row(number) => Showing::Row(number),
+        Behind::NoRow => Showing::NoRow,
+        Behind::NoTable => Showing::Unshown(Reason::Table, 0),
     }
 }
 
@@ -237,6 +274,45 @@ impl Sheet {
                         total: total,
                         struck: struck,
                     },
+                    sheet: self,
+                }
+            }
+        }
+    }
+
+    // The row behind a code: the first row of a table that has the code in the field's column and only standing codes beside it.
+    pub fn row(self, book: &[u8], field: usize, code: usize, table: usize) -> HandedRow
+        ensures { λ r. ⌜ rowResultOf r ≡ rowBehind (now (book .entry)) (self .places) field code table ⌝ }
+    {
+        let places = self.places;
+        let opened = opened::open(book, places);
+        match opened {
+            Opened::Turned(reason, place) => refuse_row(self, reason, place),
+            Opened::Ready {
+                list,
+                fields,
+                tables,
+                rows: _,
+            } => {
+                if fields <= field {
+                    return refuse_row(self, Reason::Field, 0);
+                }
+                if lists::wide(book[list + field]) <= code {
+                    return refuse_row(self, Reason::Code, 0);
+                }
+                let behind = filter::row_behind(
+                    book,
+                    list,
+                    fields,
+                    tables,
+                    &places,
+                    field,
+                    code,
+                    table,
+                );
+                let answer = row_answer(behind);
+                HandedRow {
+                    answer: answer,
                     sheet: self,
                 }
             }

@@ -2,13 +2,15 @@
 ghost use mathlib.Core.List.{List, [], _∷_};
 ghost use Prim.Native.Nat.{ℕ};
 ghost use Rattle.format.specs.Reading.{accepted, refused};
-ghost use Rattle.sheet.specs.Shown.{shown, shownListing, resultOf, listResultOf};
+ghost use Rattle.sheet.specs.Shown.{numberOf, shown, shownListing, shownRow, resultOf, listResultOf};
 ghost use Rattle.sighting.specs.Exported.{Tells, Exports};
 use book::PLACES;
 use sheet::Answer;
 use sheet::Handed;
 use sheet::HandedList;
 use sheet::Listing;
+use sheet::Reason;
+use sheet::Showing;
 
 // The answer of a call that counts nothing.
 pub(crate) fn tell(answer: Answer, outcome: &mut [u64; 1]) -> u64
@@ -26,6 +28,14 @@ pub(crate) fn tell(answer: Answer, outcome: &mut [u64; 1]) -> u64
     }
 }
 
+// The answer of a call with two counts that is refused.
+fn tell_refused(reason: Reason, place: usize, outcome: &mut [u64; 3]) -> u64
+    ensures { λ r. ⌜ Tells r (now (outcome .exit)) (refused 2 (numberOf reason) place) ⌝ }
+{
+    *outcome = [place as u64, 0, 0];
+    sheet::number(reason)
+}
+
 // The answer of a call that counts alternatives.
 pub(crate) fn tell_list(listing: Listing, outcome: &mut [u64; 3]) -> u64
     ensures { λ r. ⌜ Tells r (now (outcome .exit)) (shownListing listing) ⌝ }
@@ -35,10 +45,24 @@ pub(crate) fn tell_list(listing: Listing, outcome: &mut [u64; 3]) -> u64
             *outcome = [0, total as u64, struck as u64];
             0
         }
-        Listing::Unlisted(reason, place) => {
-            *outcome = [place as u64, 0, 0];
-            sheet::number(reason)
+        Listing::Unlisted(reason, place) => tell_refused(reason, place, outcome),
+    }
+}
+
+// The answer of the call that shows a row: whether there is one, and its number.
+pub(crate) fn tell_row(showing: Showing, outcome: &mut [u64; 3]) -> u64
+    ensures { λ r. ⌜ Tells r (now (outcome .exit)) (shownRow showing) ⌝ }
+{
+    match showing {
+        Showing::Row(row) => {
+            *outcome = [0, 1, row as u64];
+            0
         }
+        Showing::NoRow => {
+            *outcome = [0, 0, 0];
+            0
+        }
+        Showing::Unshown(reason, place) => tell_refused(reason, place, outcome),
     }
 }
 

@@ -1,7 +1,7 @@
 // The library for other languages: each call of the crates below, exported with numbers, slices and arrays alone.
 // A sheet is an array of a byte for each place. A call that changes answers writes it whole with the sheet that it hands back; one that hands it back as
 // given only reads it, so that it may be shared. A call returns its outcome's number, 0 where it is accepted, and writes the place and the
-// counts into the cells lent for them. A field or a code is any number: one that the book lacks has its refusal.
+// counts into the cells lent for them. A field, a code or a table is any number: one that the book lacks has its refusal.
 ghost use mathlib.Core.Path.{_≡_};
 ghost use mathlib.Core.Logic.{_≢_, _↔_};
 ghost use mathlib.Core.List.{[]};
@@ -9,7 +9,7 @@ ghost use Rattle.format.specs.Layout.{HasLayout};
 ghost use Rattle.format.specs.Reading.{reading};
 ghost use Rattle.format.specs.Writing.{into, showing, writing};
 ghost use Rattle.format.specs.WriteAndShow.{HasListing};
-ghost use Rattle.calls.specs.Calls.{freshSheet, cleared, entered, withdrawn, filtered, alternatives, loaded, stored};
+ghost use Rattle.calls.specs.Calls.{freshSheet, cleared, entered, withdrawn, filtered, alternatives, loaded, stored, rowBehind};
 ghost use Rattle.calls.specs.Histories.{sheetAfter, callsIn};
 ghost use Rattle.report.specs.Text.{reportText};
 ghost use Rattle.sheet.specs.Replayed.{Replayed};
@@ -21,6 +21,7 @@ use handed::hand_list;
 use handed::tell;
 use handed::tell_declined;
 use handed::tell_list;
+use handed::tell_row;
 use handed::tell_written;
 use listing::Shown;
 use listing::Written;
@@ -171,6 +172,24 @@ pub extern "C" fn sighting_alternatives(
     let handed = given.alternatives(book, out);
     let listing = handed.answer;
     tell_list(listing, outcome)
+}
+
+// The row of a table behind a code of a field. Cells: place, found, row.
+#[no_mangle]
+pub extern "C" fn sighting_row(
+    sheet: &[u8; PLACES],
+    book: &[u8],
+    field: usize,
+    code: usize,
+    table: usize,
+    outcome: &mut [u64; 3],
+) -> u64
+    ensures { λ r. ⌜ Exports r (now (outcome .exit)) (now (sheet .entry)) [] (rowBehind (now (book .entry)) (now (sheet .entry)) field code table) ⌝ }
+{
+    let given = Sheet { places: *sheet };
+    let handed = given.row(book, field, code, table);
+    let showing = handed.answer;
+    tell_row(showing, outcome)
 }
 
 // Reads the stored form of a sheet; a refusal leaves a fresh one. Cells: place.

@@ -15,16 +15,22 @@ cast-t9 c = search needs
 enum-known-listing-2 : tie.Need-enum-known-listing-2
 enum-known-listing-2 c = search needs
 
-number-requires : tie.Need-number-requires
-number-requires c κs = search needs
+tell-refused-requires : tie.Need-tell-refused-requires
+tell-refused-requires c κs = search needs
 
 returns : tie.Need-returns
 returns c = tells-along (record { number-is = refl; cells-are = refl }) (sym (ap shownListing (c .before .before .listing .given .1)))
 
 returns-2 : tie.Need-returns-2
-returns-2 c = tells-along (record { number-is = c .number .ensures; cells-are = refl }) (sym (ap shownListing (c .before .before .before .listing2 .given .1)))
+returns-2 c = tells-along (c .tell-refused .ensures) (sym (ap shownListing (c .before .before .before .listing2 .given .1)))
 
 pub tell-list-spec : {M : Type 1} → statement M
 tell-list-spec =
     tie.close
-    (tie.spec enum-known-listing cast-t9 enum-known-listing-2 number-requires returns returns-2)
+    (tie.spec
+    enum-known-listing
+    cast-t9
+    enum-known-listing-2
+    tell-refused-requires
+    returns
+    returns-2)
