@@ -297,7 +297,8 @@ impl Sheet {
                 if fields <= field {
                     return refuse_row(self, Reason::Field, 0);
                 }
-                if lists::wide(book[list + field]) <= code {
+                let codes = lists::wide(book[list + field]);
+                if codes <= code {
                     return refuse_row(self, Reason::Code, 0);
                 }
                 let behind = filter::row_behind(
