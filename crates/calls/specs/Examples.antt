@@ -53,7 +53,7 @@ abbrev pub e8 : List ℕ
 e8 = 1 ∷ 0 ∷ 0 ∷ 1 ∷ 0 ∷ 1 ∷ []
 
 -- a field, a code and a table; and what is shown of it: 1 and the row, 0 and 0 for none, or the refusal
-pub record Behind : Type 0 where
+pub record RowShown : Type 0 where
   pub field : ℕ
   pub code : ℕ
   pub table : ℕ
@@ -68,11 +68,11 @@ pub record Example : Type 0 where
   pub standing : List ℕ
   pub pairs : List ℕ
   pub listing : Outcome
-  pub rows : List Behind
+  pub rows : List RowShown
 
 -- E1's table 0 is on fields 0 and 2 with rows 0 0, 0 1, 1 2 and 0 1 again; its table 1 on fields 1 and 2 with rows 0 0, 1 1, 1 2, 2 2.
 -- Under its own sheet code 0 of field 0, and code 1 of fields 1 and 2, stand
-abbrev pub rowsOfE1 : List Behind
+abbrev pub rowsOfE1 : List RowShown
 rowsOfE1 =
     -- codes that stand; row 3 repeats row 1
     record { field = 2; code = 1; table = 0; row = accepted (1 ∷ 1 ∷ []) }
@@ -91,7 +91,7 @@ rowsOfE1 =
     ∷ []
 
 -- With field 1 alone answered, by 1: code 1 of field 0 stands; code 2 of field 1, which its own answer forbids, still has a row
-abbrev pub rowsOfOne : List Behind
+abbrev pub rowsOfOne : List RowShown
 rowsOfOne =
     record { field = 0; code = 1; table = 0; row = accepted (1 ∷ 2 ∷ []) } ∷ record { field = 1; code = 2; table = 1; row = accepted (1 ∷ 3 ∷ []) } ∷ []
 
@@ -112,7 +112,7 @@ examples =
     ∷ record { book = encode twoPairs; form = 0 ∷ 1 ∷ 0 ∷ 255 ∷ []; read = accepted (4 ∷ 2 ∷ 4 ∷ 4 ∷ []); standing = 0 ∷ 0 ∷ 1 ∷ 1 ∷ []; pairs = 0 ∷ 1 ∷ 1 ∷ 0 ∷ []; listing = accepted (2 ∷ 18 ∷ []); rows = [] }
     ∷ []
 
-abbrev pub shownOf : List ℕ → List ℕ → Behind → Behind
+abbrev pub shownOf : List ℕ → List ℕ → RowShown → RowShown
 shownOf bytes s x = record { field = x .field; code = x .code; table = x .table; row = rowBehind bytes s (x .field) (x .code) (x .table) .outcome }
 
 -- the example as the calls answer it: plain filtering into numbers that were 9, alternatives into bytes that were 9
