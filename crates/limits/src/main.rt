@@ -4,12 +4,15 @@ use book::CODES;
 use book::FIELDS_OF_VERSION_1;
 use book::PLACES;
 use book::Reading;
+use book::TABLE_LIMIT;
 use libc::STDOUT_FILENO;
 use report::PAIR_BYTES;
 use report::Printed;
 use report::TEXT_LIMIT;
 use sheet::Answer;
 use sheet::Listing;
+use sheet::Sheet;
+use sheet::Showing;
 
 // One more than a book may have.
 const BYTES: usize = 32769;
@@ -197,7 +200,29 @@ fn try_lent(lent: usize) {
     }
 }
 
-// Printing that book and sheet, with that many bytes lent.
+// The row behind the only code in that table of a book with the most tables, each of one row.
+fn try_table(table: usize) {
+    let mut bytes = [0; BYTES];
+    let length = put_book(&mut bytes, 1, 1, 1, TABLE_LIMIT as u8, 1);
+    let n = within(length, &bytes);
+    let sheet = Sheet::fresh();
+    let shown = sheet.row(&bytes[..n], 0, 0, table);
+    print_tried(b"table", table as u64);
+    let showing = shown.answer;
+    match showing {
+        Showing::Unshown(reason, place) => print_refused(sheet::number(reason), place),
+        Showing::NoRow => {
+            io::write_all(STDOUT_FILENO, b": none\n");
+        }
+        Showing::Row(row) => {
+            io::write_all(STDOUT_FILENO, b": row");
+            print_number(row as u64);
+            io::write_all(STDOUT_FILENO, b"\n");
+        }
+    }
+}
+
+// Printing the widest book and sheet, with that many bytes lent.
 fn try_text(lent: usize) {
     let mut bytes = [0; BYTES];
     let length = put_widest(&mut bytes);
@@ -230,8 +255,16 @@ fn main() {
     try_fields(b"version 2, fields", (PLACES + 1) as u8, 2);
     try_codes(CODES as u8);
     try_codes((CODES + 1) as u8);
-    try_book(b"tables", 64, 1, 1, 1, 64, 0);
-    try_book(b"tables", 65, 1, 1, 1, 65, 0);
+    try_book(b"tables", TABLE_LIMIT, 1, 1, 1, TABLE_LIMIT as u8, 0);
+    try_book(
+        b"tables",
+        TABLE_LIMIT + 1,
+        1,
+        1,
+        1,
+        (TABLE_LIMIT + 1) as u8,
+        0,
+    );
     try_book(b"rows", 4096, 1, 1, 1, 1, 4096);
     try_book(b"rows", 4097, 1, 1, 1, 1, 4097);
     try_length(32768);
@@ -242,6 +275,8 @@ fn main() {
     try_stored(PLACES + 1, 0, 0);
     try_lent(PAIR_BYTES);
     try_lent(PAIR_BYTES - 1);
+    try_table(TABLE_LIMIT - 1);
+    try_table(TABLE_LIMIT);
     try_text(18315);
     try_text(18314);
 }
