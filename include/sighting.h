@@ -14,8 +14,8 @@
  * What each call returns
  *
  * Every call but sighting_fresh and sighting_clear returns a number: 0 for accepted, else the number of the refusal. It writes all
- * cells of `outcome` in every case. outcome[0] is the place, 0 for an accepted call; the other cells are counts, all 0 for a refused
- * call.
+ * cells of `outcome` in every case. outcome[0] is the place, 0 for an accepted call; the other cells are what the call counted or found,
+ * all 0 for a refused call.
  *
  * A refused call leaves every element of `out` as it was, an accepted one every element behind those that it writes.
  *
@@ -135,7 +135,8 @@ uint64_t sighting_alternatives(const uint8_t *sheet, const uint8_t *book, size_t
  * The row behind a code: the first row of table `table` that has code `code` in the column of field `field` and only standing codes in
  * its other columns, with all answers kept (standing as sighting_filtered tells it for SIGHTING_NO_ANSWER). Whether the code itself
  * stands plays no part: a code that the field's own answer forbids may have a row. A code that stands has one in every table with its
- * field. Tables and rows count from 0 in the book's order, repeated rows too. Any numbers may be passed.
+ * field. Tables and rows count from 0 in the book's order, repeated rows too. Any numbers may be passed: one that is no field of the
+ * book is refused by 15, one that is no code of the field by 16, one that is no table, or a table without the field, by 21.
  *   outcome[3]  place, found (1, or 0 where the table has no such row), row (0 where none was found)
  * Refusals: 1 to 13, 14, 15, 16, 21.
  */

@@ -1,4 +1,5 @@
 -- 14: the scan over the places finds the first field at fault, and none exactly where no place is at fault. Assumes nothing.
+use mathlib.Core.Path.{_≡_}
 use mathlib.Core.List.{List}
 use Prim.Native.Nat.{ℕ, _≤_, _<_}
 use native.Mathlib.Omega.{arith}
@@ -23,5 +24,5 @@ module _ (b : Book) (s : List ℕ) where
   fault-free l k u = all-pass (placeOk b s) 0 places (omega arith) l k (omega arith) u
 
   -- and back
-  pub fault-none : NoFault b s → places ≤ faultOf b s
-  fault-none w = omega (arith, pass-all (placeOk b s) 0 places (omega arith) (λ k l u. w k u))
+  pub fault-none : NoFault b s → faultOf b s ≡ places
+  fault-none w = pass-all (placeOk b s) 0 places (omega arith) (λ k l u. w k u)

@@ -11,10 +11,10 @@ use lib.Seq.{set-getD}
 use lib.Dec.{ltb}
 use Rattle.format.specs.Format.{Book, bookOf}
 use Rattle.format.specs.Reading.{Accepted}
-use Rattle.format.proofs.Scans.{all-pass}
 use Rattle.format.proofs.Accepted.{accepted-verdict}
 use Rattle.consistency.specs.Consistency.{places, codes, answer}
 use Rattle.calls.specs.Calls.{done, placeOk, faultOf, entered}
+use Rattle.calls.proofs.Faults.{fault-free}
 use Rattle.calls.proofs.CallLaws.{sheet-go}
 use Rattle.calls.proofs.Sheets.{Within, accepted-within}
 
@@ -26,7 +26,7 @@ module _ (bytes s : List ℕ) (ok : Accepted bytes) (good : places ≤ faultOf (
   held-code : answer s f ≢ 255 → ltb (answer s f) (codes b f) ≡ true
   held-code n =
       let w : Within b = accepted-within bytes ok in
-      let fine : placeOk b s f ≡ true = all-pass (placeOk b s) 0 places (omega arith) good f (omega arith) (omega (arith, w .few)) in
+      let fine : placeOk b s f ≡ true = fault-free b s good f (omega (arith, w .few)) in
       rw (ne-eqb (answer s f) 255 n) at fine
 
   -- entering it hands the sheet back as it was

@@ -14,7 +14,6 @@ use Rattle.format.specs.Format.{Book, fieldLimit, codeLimit, versionOf, fieldCo
 use Rattle.format.specs.Promise.{Promise}
 use Rattle.format.specs.Reading.{Accepted}
 use Rattle.format.proofs.Limits.{limit-most}
-use Rattle.format.proofs.Scans.{pass-all}
 use Rattle.format.proofs.Views.{counts-count, counts-view}
 use Rattle.format.proofs.Accepted.{accepted-promise}
 use Rattle.consistency.specs.Counting.{tabulate}
@@ -22,8 +21,9 @@ use Rattle.consistency.specs.Consistency.{places, codes, answer}
 use Rattle.consistency.specs.Counts.{answered}
 use Rattle.consistency.proofs.Sums.{length-tabulate, tabulate-at}
 use Rattle.consistency.proofs.CodeCounts.{field-in}
-use Rattle.calls.specs.Calls.{freshSheet, placeOk, faultOf}
+use Rattle.calls.specs.Calls.{freshSheet, faultOf}
 use Rattle.calls.specs.Histories.{Answer, none, is, Answers, given, put, noAnswers, byteOf, sheetOf}
+use Rattle.calls.proofs.Faults.{fault-none}
 
 -- ---- its places
 
@@ -127,5 +127,4 @@ module _ (b : Book) (w : Within b) (a : Answers) (s : Sound b a) where
   -- 14 never happens
   pub no-fault : faultOf b (sheetOf a) ≡ places
   no-fault =
-      pass-all (placeOk b (sheetOf a)) 0 places (omega arith)
-      (λ f l u. ap (λ (x : ℕ). eqb x 255 || ltb x (codes b f)) (sheet-at a f u) ∙ byte-ok f (a f) refl)
+      fault-none b (sheetOf a) (λ f u. ap (λ (x : ℕ). eqb x 255 || ltb x (codes b f)) (sheet-at a f u) ∙ byte-ok f (a f) refl)

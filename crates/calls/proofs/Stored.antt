@@ -12,11 +12,11 @@ use borrow.Author.Tests.{eqb-true, eq-eqb, ltb-false, le-ltb}
 use Rattle.format.specs.Format.{Book, bookOf}
 use Rattle.format.specs.Reading.{pass, verdict}
 use Rattle.format.proofs.Accepted.{verdict-accepted}
-use Rattle.format.proofs.Scans.{all-pass}
 use Rattle.consistency.specs.Consistency.{places, codes}
 use Rattle.consistency.proofs.Booleans.{true-T, or-out}
 use Rattle.calls.specs.Calls.{Result, freshSheet, turned, done, placeOk, faultOf, sheetFrom, loaded, stored}
 use Rattle.calls.specs.Conditions.{StoreAndLoad}
+use Rattle.calls.proofs.Faults.{fault-free}
 use Rattle.calls.proofs.CallLaws.{Where, pick-cases, book-where, sheet-where, book-go, sheet-go}
 use Rattle.calls.proofs.Sheets.{accepted-within}
 
@@ -91,7 +91,7 @@ module _ (b : Book) (s : List ℕ) (w : places ≤ faultOf b s) where
   later-place : (i : ℕ) → length (b .counts) ≤ i → i < places → getD s i 255 ≡ 255
   later-place i l u =
       let none : codes b i ≡ 0 = List·getD-eq-default (b .counts) 0 l in
-      let ok : placeOk b s i ≡ true = all-pass (placeOk b s) 0 places (omega arith) w i (omega arith) u in
+      let ok : placeOk b s i ≡ true = fault-free b s w i u in
       ⊎-elim (eqb→eq (getD s i 255) 255) (λ t. absurd (omega (arith, ltb→lt (getD s i 255) (codes b i) t)))
       (or-out (eqb (getD s i 255) 255) (ltb (getD s i 255) (codes b i)) (true-T ok))
 

@@ -45,6 +45,10 @@ twoPairs =
       tables = record { fields = 0 ∷ 1 ∷ []; rows = equal } ∷ record { fields = 2 ∷ 3 ∷ []; rows = equal } ∷ [];
     }
 
+-- one field of two codes, in a table of its own with the row 1 twice
+abbrev pub alone : Book
+alone = record { version = 1; counts = 2 ∷ []; tables = record { fields = 0 ∷ []; rows = (1 ∷ []) ∷ (1 ∷ []) ∷ [] } ∷ [] }
+
 abbrev pub e7 : List ℕ
 e7 = 1 ∷ 0 ∷ 0 ∷ 1 ∷ 0 ∷ 1 ∷ 229 ∷ []
 
@@ -53,11 +57,11 @@ abbrev pub e8 : List ℕ
 e8 = 1 ∷ 0 ∷ 0 ∷ 1 ∷ 0 ∷ 1 ∷ []
 
 -- a field, a code and a table; and what is shown of it: 1 and the row, 0 and 0 for none, or the refusal
-pub record RowShown : Type 0 where
+pub record RowExample : Type 0 where
   pub field : ℕ
   pub code : ℕ
   pub table : ℕ
-  pub row : Outcome
+  pub outcome : Outcome
 
 -- a book's bytes and a stored sheet; what reading answers; the standing codes as plain filtering's numbers; the lines' bytes; total and
 -- struck, or the refusal; and rows behind codes
@@ -68,52 +72,61 @@ pub record Example : Type 0 where
   pub standing : List ℕ
   pub pairs : List ℕ
   pub listing : Outcome
-  pub rows : List RowShown
+  pub rows : List RowExample
 
 -- E1's table 0 is on fields 0 and 2 with rows 0 0, 0 1, 1 2 and 0 1 again; its table 1 on fields 1 and 2 with rows 0 0, 1 1, 1 2, 2 2.
 -- Under its own sheet code 0 of field 0, and code 1 of fields 1 and 2, stand
-abbrev pub rowsOfE1 : List RowShown
+abbrev pub rowsOfE1 : List RowExample
 rowsOfE1 =
     -- codes that stand; row 3 repeats row 1
-    record { field = 2; code = 1; table = 0; row = accepted (1 ∷ 1 ∷ []) }
-    ∷ record { field = 0; code = 0; table = 0; row = accepted (1 ∷ 1 ∷ []) }
+    record { field = 2; code = 1; table = 0; outcome = accepted (1 ∷ 1 ∷ []) }
+    ∷ record { field = 0; code = 0; table = 0; outcome = accepted (1 ∷ 1 ∷ []) }
     -- table 0 strikes code 2 of field 2; in table 1 it has a row all the same
-    ∷ record { field = 2; code = 2; table = 0; row = accepted (0 ∷ 0 ∷ []) }
-    ∷ record { field = 2; code = 2; table = 1; row = accepted (1 ∷ 2 ∷ []) }
+    ∷ record { field = 2; code = 2; table = 0; outcome = accepted (0 ∷ 0 ∷ []) }
+    ∷ record { field = 2; code = 2; table = 1; outcome = accepted (1 ∷ 2 ∷ []) }
     -- codes without a row
-    ∷ record { field = 0; code = 1; table = 0; row = accepted (0 ∷ 0 ∷ []) }
-    ∷ record { field = 1; code = 2; table = 1; row = accepted (0 ∷ 0 ∷ []) }
+    ∷ record { field = 0; code = 1; table = 0; outcome = accepted (0 ∷ 0 ∷ []) }
+    ∷ record { field = 1; code = 2; table = 1; outcome = accepted (0 ∷ 0 ∷ []) }
     -- the field is not in the table; no such table; 15 and 16 come first
-    ∷ record { field = 1; code = 0; table = 0; row = refused 2 21 0 }
-    ∷ record { field = 0; code = 0; table = 2; row = refused 2 21 0 }
-    ∷ record { field = 0; code = 2; table = 2; row = refused 2 16 0 }
-    ∷ record { field = 3; code = 0; table = 2; row = refused 2 15 0 }
+    ∷ record { field = 1; code = 0; table = 0; outcome = refused 2 21 0 }
+    ∷ record { field = 0; code = 0; table = 2; outcome = refused 2 21 0 }
+    ∷ record { field = 0; code = 2; table = 2; outcome = refused 2 16 0 }
+    ∷ record { field = 3; code = 0; table = 2; outcome = refused 2 15 0 }
     ∷ []
 
 -- With field 1 alone answered, by 1: code 1 of field 0 stands; code 2 of field 1, which its own answer forbids, still has a row
-abbrev pub rowsOfOne : List RowShown
-rowsOfOne =
-    record { field = 0; code = 1; table = 0; row = accepted (1 ∷ 2 ∷ []) } ∷ record { field = 1; code = 2; table = 1; row = accepted (1 ∷ 3 ∷ []) } ∷ []
+abbrev pub rowsWithOneAnswer : List RowExample
+rowsWithOneAnswer =
+    record { field = 0; code = 1; table = 0; outcome = accepted (1 ∷ 2 ∷ []) } ∷ record { field = 1; code = 2; table = 1; outcome = accepted (1 ∷ 3 ∷ []) } ∷ []
+
+-- In a table of one field: the first row with the code, whatever its field's answer
+abbrev pub rowsOfAlone : List RowExample
+rowsOfAlone =
+    record { field = 0; code = 1; table = 0; outcome = accepted (1 ∷ 0 ∷ []) } ∷ record { field = 0; code = 0; table = 0; outcome = accepted (0 ∷ 0 ∷ []) } ∷ []
 
 abbrev pub examples : List Example
 examples =
     record { book = e1; form = 0 ∷ 1 ∷ 255 ∷ []; read = accepted (3 ∷ 2 ∷ 8 ∷ 7 ∷ []); standing = 1 ∷ 2 ∷ 2 ∷ []; pairs = 0 ∷ 0 ∷ 0 ∷ 1 ∷ 1 ∷ 0 ∷ 1 ∷ 1 ∷ []; listing = accepted (4 ∷ 11 ∷ []); rows = rowsOfE1 }
-    ∷ record { book = e1; form = 1 ∷ 0 ∷ 255 ∷ []; read = accepted (3 ∷ 2 ∷ 8 ∷ 7 ∷ []); standing = 0 ∷ 0 ∷ 0 ∷ []; pairs = 0 ∷ 0 ∷ 1 ∷ 1 ∷ 1 ∷ 2 ∷ []; listing = accepted (3 ∷ 17 ∷ []); rows = record { field = 0; code = 1; table = 0; row = accepted (0 ∷ 0 ∷ []) } ∷ [] }
+    ∷ record { book = e1; form = 1 ∷ 0 ∷ 255 ∷ []; read = accepted (3 ∷ 2 ∷ 8 ∷ 7 ∷ []); standing = 0 ∷ 0 ∷ 0 ∷ []; pairs = 0 ∷ 0 ∷ 1 ∷ 1 ∷ 1 ∷ 2 ∷ []; listing = accepted (3 ∷ 17 ∷ []); rows = record { field = 0; code = 1; table = 0; outcome = accepted (0 ∷ 0 ∷ []) } ∷ [] }
     ∷ record { book = e1; form = 255 ∷ 255 ∷ 255 ∷ []; read = accepted (3 ∷ 2 ∷ 8 ∷ 7 ∷ []); standing = 3 ∷ 7 ∷ 7 ∷ []; pairs = []; listing = accepted (0 ∷ 0 ∷ []); rows = [] }
     ∷ record { book = encode e4; form = 255 ∷ 255 ∷ 255 ∷ []; read = accepted (3 ∷ 3 ∷ 6 ∷ 6 ∷ []); standing = 3 ∷ 3 ∷ 3 ∷ []; pairs = []; listing = accepted (0 ∷ 0 ∷ []); rows = [] }
     ∷ record { book = encode e4; form = 0 ∷ 255 ∷ 255 ∷ []; read = accepted (3 ∷ 3 ∷ 6 ∷ 6 ∷ []); standing = 0 ∷ 0 ∷ 0 ∷ []; pairs = 0 ∷ 0 ∷ 0 ∷ 1 ∷ []; listing = accepted (2 ∷ 6 ∷ []); rows = [] }
-    ∷ record { book = encode e6; form = 0 ∷ 255 ∷ []; read = accepted (2 ∷ 1 ∷ 0 ∷ 0 ∷ []); standing = 1 ∷ 0 ∷ []; pairs = []; listing = accepted (0 ∷ 5 ∷ []); rows = record { field = 1; code = 0; table = 0; row = accepted (0 ∷ 0 ∷ []) } ∷ [] }
+    ∷ record { book = encode e6; form = 0 ∷ 255 ∷ []; read = accepted (2 ∷ 1 ∷ 0 ∷ 0 ∷ []); standing = 1 ∷ 0 ∷ []; pairs = []; listing = accepted (0 ∷ 5 ∷ []); rows = record { field = 1; code = 0; table = 0; outcome = accepted (0 ∷ 0 ∷ []) } ∷ [] }
     ∷ record { book = e7; form = 0 ∷ []; read = accepted (1 ∷ 0 ∷ 0 ∷ 0 ∷ []); standing = 1 ∷ []; pairs = 0 ∷ 0 ∷ []; listing = accepted (1 ∷ 0 ∷ []); rows = [] }
-    ∷ record { book = e8; form = 0 ∷ []; read = refused 4 2 5; standing = []; pairs = []; listing = refused 2 2 5; rows = record { field = 0; code = 0; table = 0; row = refused 2 2 5 } ∷ [] }
-    ∷ record { book = e1; form = 255 ∷ 1 ∷ 255 ∷ []; read = accepted (3 ∷ 2 ∷ 8 ∷ 7 ∷ []); standing = 3 ∷ 2 ∷ 6 ∷ []; pairs = 1 ∷ 0 ∷ 1 ∷ 1 ∷ 1 ∷ 2 ∷ []; listing = accepted (3 ∷ 3 ∷ []); rows = rowsOfOne }
+    ∷ record { book = e8; form = 0 ∷ []; read = refused 4 2 5; standing = []; pairs = []; listing = refused 2 2 5; rows = record { field = 0; code = 0; table = 0; outcome = refused 2 2 5 } ∷ [] }
+    -- E1's book with field 1 alone answered
+    ∷ record { book = e1; form = 255 ∷ 1 ∷ 255 ∷ []; read = accepted (3 ∷ 2 ∷ 8 ∷ 7 ∷ []); standing = 3 ∷ 2 ∷ 6 ∷ []; pairs = 1 ∷ 0 ∷ 1 ∷ 1 ∷ 1 ∷ 2 ∷ []; listing = accepted (3 ∷ 3 ∷ []); rows = rowsWithOneAnswer }
+    -- nothing stands, and the code that the answer forbids has its first row
+    ∷ record { book = encode alone; form = 0 ∷ []; read = accepted (1 ∷ 1 ∷ 2 ∷ 1 ∷ []); standing = 0 ∷ []; pairs = 0 ∷ 1 ∷ []; listing = accepted (1 ∷ 3 ∷ []); rows = rowsOfAlone }
     -- no answer can mend the field apart: E1's four alternatives are gone, and each of its three cases has one mark more struck
     ∷ record { book = encode e1Apart; form = 0 ∷ 1 ∷ 255 ∷ 255 ∷ []; read = accepted (4 ∷ 3 ∷ 8 ∷ 7 ∷ []); standing = 1 ∷ 2 ∷ 2 ∷ 0 ∷ []; pairs = []; listing = accepted (0 ∷ 14 ∷ []); rows = [] }
     -- fields 0 and 1 contradict each other: lifting either mends that, lifting field 2 does not, though both its codes stand then
     ∷ record { book = encode twoPairs; form = 0 ∷ 1 ∷ 0 ∷ 255 ∷ []; read = accepted (4 ∷ 2 ∷ 4 ∷ 4 ∷ []); standing = 0 ∷ 0 ∷ 1 ∷ 1 ∷ []; pairs = 0 ∷ 1 ∷ 1 ∷ 0 ∷ []; listing = accepted (2 ∷ 18 ∷ []); rows = [] }
     ∷ []
 
-abbrev pub shownOf : List ℕ → List ℕ → RowShown → RowShown
-shownOf bytes s x = record { field = x .field; code = x .code; table = x .table; row = rowBehind bytes s (x .field) (x .code) (x .table) .outcome }
+-- the same, as the call answers it
+abbrev pub rowAnswered : List ℕ → List ℕ → RowExample → RowExample
+rowAnswered bytes s x = record { field = x .field; code = x .code; table = x .table; outcome = rowBehind bytes s (x .field) (x .code) (x .table) .outcome }
 
 -- the example as the calls answer it: plain filtering into numbers that were 9, alternatives into bytes that were 9
 abbrev pub answered : Example → Example
@@ -125,7 +138,7 @@ answered e =
       standing = filtered (e .book) (loaded (e .book) (e .form) .sheet) 255 (replicate (length (e .standing)) 9) .buffer;
       pairs = alternatives (e .book) (loaded (e .book) (e .form) .sheet) (replicate (length (e .pairs)) 9) .buffer;
       listing = alternatives (e .book) (loaded (e .book) (e .form) .sheet) (replicate (length (e .pairs)) 9) .outcome;
-      rows = map (shownOf (e .book) (loaded (e .book) (e .form) .sheet)) (e .rows);
+      rows = map (rowAnswered (e .book) (loaded (e .book) (e .form) .sheet)) (e .rows);
     }
 
 abbrev pub ExamplesHold : Type 0

@@ -9,34 +9,33 @@ use Rattle.format.specs.Reading.{accepted, Accepted}
 use Rattle.consistency.specs.Consistency.{codes, nth, answer, Standing}
 use Rattle.consistency.specs.Ties.{FieldIn}
 use Rattle.consistency.specs.Rows.{RowFound, Keeps, IsFirstRow}
-use Rattle.calls.specs.Calls.{Result, done, rowCounts, rowBehind}
+use Rattle.calls.specs.Calls.{done, rowCounts, rowBehind}
 use Rattle.calls.specs.Conditions.{NoFault}
 
--- r shows, of table i, the first row that has code c of field f with only standing codes beside it, or none where there is no such row
-pub record ShowsRow (bytes s : List ℕ) (f c i : ℕ) (r : Result) : Type 0 where
-  pub table-in : i < length (bookOf bytes .tables)
-  pub field-in : FieldIn f (nth (bookOf bytes) i)
-  pub row : RowFound
-  pub is-first : IsFirstRow (bookOf bytes) s (nth (bookOf bytes) i) f c row
-  pub result : r ≡ done (rowCounts row) s []
+-- the answers allow code c of field f: the field has no other answer
+abbrev pub Allowed : List ℕ → ℕ → ℕ → Type 0
+Allowed s f c = answer s f ≢ 255 → c ≡ answer s f
 
--- every table with field f shows a row behind code c
-abbrev pub ShownInEach : List ℕ → List ℕ → ℕ → ℕ → Type 0
-ShownInEach bytes s f c =
-    (i : ℕ) → i < length (bookOf bytes .tables) → FieldIn f (nth (bookOf bytes) i)
-    → (r : ℕ) × (rowBehind bytes s f c i ≡ done (1 ∷ r ∷ []) s [])
+-- table i of the book has field f
+abbrev pub TableWith : List ℕ → ℕ → ℕ → Type 0
+TableWith bytes f i = (i < length (bookOf bytes .tables)) × FieldIn f (nth (bookOf bytes) i)
 
 pub record Request104 : Type 0 where
-  -- the row shown is the first
-  pub shows : (bytes s : List ℕ) (f c i : ℕ) → rowBehind bytes s f c i .outcome .number ≡ 0
-      → ShowsRow bytes s f c i (rowBehind bytes s f c i)
+  -- no other condition turns the call down
+  pub accepts-exactly : (bytes s : List ℕ) (f c i : ℕ)
+      → (rowBehind bytes s f c i .outcome .number ≡ 0)
+      ↔ (Accepted bytes × NoFault (bookOf bytes) s × (c < codes (bookOf bytes) f) × TableWith bytes f i)
+  -- it shows the first row of the table that has the code with only standing codes beside it, or none, and nothing else
+  pub shows-exactly : (bytes s : List ℕ) (f c i : ℕ) → rowBehind bytes s f c i .outcome .number ≡ 0 → (x : RowFound)
+      → (rowBehind bytes s f c i ≡ done (rowCounts x) s []) ↔ IsFirstRow (bookOf bytes) s (nth (bookOf bytes) i) f c x
   -- "None is shown exactly when no row of that table has the code with only standing codes beside it"
   pub none-exactly : (bytes s : List ℕ) (f c i : ℕ) → rowBehind bytes s f c i .outcome .number ≡ 0
       → (rowBehind bytes s f c i .outcome ≡ accepted (0 ∷ 0 ∷ []))
       ↔ ((r : ℕ) → Keeps (bookOf bytes) s (nth (bookOf bytes) i) f c r → ⊥)
   -- a code that stands has a row in every table with its field
-  pub standing-shown : (bytes s : List ℕ) → Accepted bytes → NoFault (bookOf bytes) s
-      → (f c : ℕ) → Standing (bookOf bytes) s f c → ShownInEach bytes s f c
-  -- and a code that the answers allow stands only so: where it is struck, some table with its field shows none
-  pub shown-stands : (bytes s : List ℕ) → Accepted bytes → NoFault (bookOf bytes) s
-      → (f c : ℕ) → c < codes (bookOf bytes) f → (answer s f ≢ 255 → c ≡ answer s f) → ShownInEach bytes s f c → Standing (bookOf bytes) s f c
+  pub standing-shown : (bytes s : List ℕ) → Accepted bytes → NoFault (bookOf bytes) s → (f c : ℕ) → Standing (bookOf bytes) s f c
+      → (i : ℕ) → TableWith bytes f i → (r : ℕ) × (rowBehind bytes s f c i ≡ done (1 ∷ r ∷ []) s [])
+  -- a code that is struck, though the answers allow it, has none in some table with its field
+  pub struck-shown : (bytes s : List ℕ) → Accepted bytes → NoFault (bookOf bytes) s → (f c : ℕ) → c < codes (bookOf bytes) f → Allowed s f c
+      → (Standing (bookOf bytes) s f c → ⊥)
+      → (i : ℕ) × TableWith bytes f i × (rowBehind bytes s f c i ≡ done (0 ∷ 0 ∷ []) s [])

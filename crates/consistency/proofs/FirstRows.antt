@@ -1,55 +1,56 @@
 -- The row behind a code: the answer computed is the first row that keeps the code, or none where no row does; a code that the answers allow
--- stands exactly where each table with its field has a row. Assumes nothing.
+-- stands exactly where each table with its field has a row, and where it does not, some table has none. Assumes nothing.
 use mathlib.Core.Path.{_≡_, refl, sym, ap, _∙_, subst}
 use mathlib.Core.Logic.{_⊎_, inl, inr, ⊎-elim, _≢_, _↔_}
 use mathlib.Core.Bool.{Bool, true, false, not, _&&_, _||_}
-use mathlib.Core.List.{List, []}
-use Prim.Native.Nat.{ℕ, _≤_, _<_, zero-le}
+use mathlib.Core.List.{List}
+use Prim.Native.Nat.{ℕ, _<_, zero-le}
 use native.Mathlib.Nat.{not-suc-le-zero}
 use native.Mathlib.Decide.{ℕ-discrete, decLt}
 use native.Mathlib.Omega.{arith}
 use borrow.Author.Tests.{ltb-true, ltb-false, lt-ltb, not-true, not-false}
-use lib.Dec.{T, ltb, eqb, eqb→eq, eqb-refl}
+use lib.Dec.{T, ltb, eqb, eqb→eq, eqb-refl, T-not}
 use lib.ListN.{length, List·getD-eq-default}
-use Rattle.format.specs.Basics.{pick, firstBad}
+use Rattle.format.specs.Basics.{pick}
 use Rattle.format.specs.Format.{Table, Book, tableCount, arityAt, tableAt, bookOf}
 use Rattle.format.specs.Promise.{Promise, TablePromise, place}
-use Rattle.format.proofs.Views.{tables-count, table-view, table-field, table-arity, fields-apart}
+use Rattle.format.proofs.Views.{noTable, tables-count, table-view, table-field, table-arity, fields-apart}
 use Rattle.format.proofs.Scans.{bad-before, bad-fails, bad-ext}
-use Rattle.consistency.specs.Consistency.{Subdomain, Support, ArcConsistent, OfBook, WithinAnswers, Inside, fieldOf, codeOf, codes, nth, answer, Standing}
+use Rattle.consistency.specs.Counting.{anyBelow}
+use Rattle.consistency.specs.Consistency.{Subdomain, Support, Inside, fieldOf, codeOf, codes, nth, answer, Standing}
 use Rattle.consistency.specs.Largest.{rowSupports, largest}
 use Rattle.consistency.specs.Ties.{FieldIn}
-use Rattle.consistency.specs.Rows.{RowFound, at-row, no-row, Keeps, IsFirstRow, firstWhere, columnOf, hasField, rowBelow, firstIn, firstSupport}
-use Rattle.consistency.proofs.Booleans.{T-ext, T-true, true-T, false-T, and-in, and-left, and-right, or-left, or-right, or-out, eq→eqb}
+use Rattle.consistency.specs.Rows.{RowFound, at-row, no-row, Keeps, IsFirstRow, firstWhere, columnOf, hasField, rowBelow, firstSupportIn, firstSupport}
+use Rattle.consistency.proofs.Booleans.{T-or-not, T-true, true-T, false-T, and-in, and-left, and-right, or-left, or-right, or-out, eq→eqb, any-in, any-out}
 use Rattle.consistency.proofs.Supports.{SupportedIn, support-grows, row-in, row-there, row-others}
 use Rattle.consistency.proofs.Largest.{largest-is, standing-largest}
 
 -- ---- the first number at which p holds
 
 -- what each answer says, of the numbers below n
-abbrev pub FirstIs : (ℕ → Bool) → ℕ → RowFound → Type 0
-FirstIs p n (at-row r) = (r < n) × T (p r) × ((q : ℕ) → q < r → T (p q) → ⊥)
-FirstIs p n no-row = (q : ℕ) → q < n → T (p q) → ⊥
+abbrev pub IsFirstBelow : (ℕ → Bool) → ℕ → RowFound → Type 0
+IsFirstBelow p n (at-row r) = (r < n) × T (p r) × ((q : ℕ) → q < r → T (p q) → ⊥)
+IsFirstBelow p n no-row = (q : ℕ) → q < n → T (p q) → ⊥
 
 module _ (p : ℕ → Bool) (n : ℕ) where
   -- p fails before it
-  pub where-before : (q : ℕ) → q < firstWhere p n → T (p q) → ⊥
+  where-before : (q : ℕ) → q < firstWhere p n → T (p q) → ⊥
   where-before q l = false-T (not-true (p q) (bad-before (λ k. not (p k)) 0 n q zero-le l))
 
   -- p holds at it
-  pub where-holds : firstWhere p n < n → T (p (firstWhere p n))
+  where-holds : firstWhere p n < n → T (p (firstWhere p n))
   where-holds l = true-T (not-false (p (firstWhere p n)) (bad-fails (λ k. not (p k)) 0 n zero-le l))
 
   -- what the answer says
-  pub first-is : FirstIs p n (rowBelow n (firstWhere p n))
-  first-is = go (ltb (firstWhere p n) n) refl
+  pub first-below : IsFirstBelow p n (rowBelow n (firstWhere p n))
+  first-below = go (ltb (firstWhere p n) n) refl
     where
-      go : (t : Bool) → ltb (firstWhere p n) n ≡ t → FirstIs p n (pick t (at-row (firstWhere p n)) no-row)
+      go : (t : Bool) → ltb (firstWhere p n) n ≡ t → IsFirstBelow p n (pick t (at-row (firstWhere p n)) no-row)
       go true e = let l = ltb-true (firstWhere p n) n e in (l, where-holds l, where-before)
       go false e = let l = ltb-false (firstWhere p n) n e in λ q m. where-before q (omega arith)
 
   -- only one answer says it
-  pub first-only : (x y : RowFound) → FirstIs p n x → FirstIs p n y → x ≡ y
+  pub first-only : (x y : RowFound) → IsFirstBelow p n x → IsFirstBelow p n y → x ≡ y
   first-only (at-row r) (at-row q) h g = ap at-row (same (decLt r q) (decLt q r))
     where
       same : Dec (r < q) → Dec (q < r) → r ≡ q
@@ -72,12 +73,12 @@ OneColumn t = (j k : ℕ) → j < length (t .fields) → k < length (t .fields) 
 
 module _ (t : Table) (f : ℕ) where
   -- a column below the number of columns is for the field
-  pub column-is : columnOf t f < length (t .fields) → fieldOf t (columnOf t f) ≡ f
+  column-is : columnOf t f < length (t .fields) → fieldOf t (columnOf t f) ≡ f
   column-is l = eqb→eq (fieldOf t (columnOf t f)) f (where-holds (λ j. eqb (fieldOf t j) f) (length (t .fields)) l)
 
   -- a field of the table has its column
-  pub column-in : FieldIn f t → columnOf t f < length (t .fields)
-  column-in q = go (decLt (q .0) (columnOf t f))
+  column-there : FieldIn f t → columnOf t f < length (t .fields)
+  column-there q = go (decLt (q .0) (columnOf t f))
     where
       go : Dec (q .0 < columnOf t f) → columnOf t f < length (t .fields)
       go (yes l) = absurd (where-before (λ j. eqb (fieldOf t j) f) (length (t .fields)) (q .0) l (eq→eqb (q .2)))
@@ -87,17 +88,17 @@ module _ (t : Table) (f : ℕ) where
   pub has-field : T (hasField t f) ↔ FieldIn f t
   has-field = (
     λ u. let l = ltb-true (columnOf t f) (length (t .fields)) (T-true u) in (columnOf t f, l, column-is l),
-    λ q. true-T (lt-ltb (columnOf t f) (length (t .fields)) (column-in q)),
+    λ q. true-T (lt-ltb (columnOf t f) (length (t .fields)) (column-there q)),
   )
 
 -- a table with a field is one of the book's
-pub table-in : (b : Book) (f i : ℕ) → FieldIn f (nth b i) → i < length (b .tables)
-table-in b f i q = go (decLt i (length (b .tables)))
+pub table-known : (b : Book) (f i : ℕ) → FieldIn f (nth b i) → i < length (b .tables)
+table-known b f i q = go (decLt i (length (b .tables)))
   where
     go : Dec (i < length (b .tables)) → i < length (b .tables)
     go (yes l) = l
     go (no n) =
-        let none : nth b i ≡ record { fields = []; rows = [] } = List·getD-eq-default (b .tables) (record { fields = []; rows = [] }) (omega arith) in
+        let none : nth b i ≡ noTable = List·getD-eq-default (b .tables) (noTable) (omega arith) in
         absurd (not-suc-le-zero (subst (λ (t : Table). q .0 < length (t .fields)) none (q .1)))
 
 -- ---- the first row that keeps a code
@@ -108,67 +109,77 @@ module _ (b : Book) (a : List ℕ) (t : Table) (one : OneColumn t) (f c : ℕ) (
   own = columnOf t f
 
   own-in : own < length (t .fields)
-  own-in = column-in t f q
+  own-in = column-there t f q
 
   own-is : fieldOf t own ≡ f
   own-is = column-is t f own-in
 
   -- a column for f is that one
-  there-only : (k : ℕ) → k < length (t .fields) → fieldOf t k ≡ f → k ≡ own
-  there-only k l e = go (ℕ-discrete k own)
+  own-only : (w : FieldIn f t) → w .0 ≡ own
+  own-only w = go (ℕ-discrete (w .0) own)
     where
-      go : Dec (k ≡ own) → k ≡ own
+      go : Dec (w .0 ≡ own) → w .0 ≡ own
       go (yes d) = d
-      go (no n) = absurd (one k own l own-in n (e ∙ sym own-is))
+      go (no n) = absurd (one (w .0) own (w .1) own-in n (w .2 ∙ sym own-is))
 
   -- a row that keeps the code passes the test of support, and back
-  pub keeps-passes : (r : ℕ) → Keeps b a t f c r → T (rowSupports (largest b a) t own c r)
-  keeps-passes r k =
-      row-in (largest b a) t own c r (k .there own own-in own-is)
-      (λ i l n. standing-largest b a (fieldOf t i) (codeOf t r i) .0 (k .beside i l (λ e. n (there-only i l e))))
-
-  pub passes-keeps : (r : ℕ) → r < length (t .rows) → T (rowSupports (largest b a) t own c r) → Keeps b a t f c r
+  passes-keeps : (r : ℕ) → r < length (t .rows) → T (rowSupports (largest b a) t own c r) → Keeps b a t f c r
   passes-keeps r l u =
       record {
         row-in = l;
-        there = λ k m e. ap (codeOf t r) (there-only k m e) ∙ row-there (largest b a) t own c r u;
-        beside = λ k m n.
-            standing-largest b a (fieldOf t k) (codeOf t r k) .1 (row-others (largest b a) t own c r u k m (λ e. n (ap (fieldOf t) e ∙ own-is)));
+        column = (own, own-in, own-is);
+        there = row-there (largest b a) t own c r u;
+        beside = λ k m n. standing-largest b a (fieldOf t k) (codeOf t r k) .1 (row-others (largest b a) t own c r u k m n);
       }
 
+  keeps-passes : (r : ℕ) → Keeps b a t f c r → T (rowSupports (largest b a) t own c r)
+  keeps-passes r k =
+      let e : k .column .0 ≡ own = own-only (k .column) in
+      row-in (largest b a) t own c r (ap (codeOf t r) (sym e) ∙ k .there)
+      (λ i l n. standing-largest b a (fieldOf t i) (codeOf t r i) .0 (k .beside i l (λ d. n (d ∙ e))))
+
   -- what an answer says in both terms
-  says : (x : RowFound) → FirstIs (rowSupports (largest b a) t own c) (length (t .rows)) x → IsFirstRow b a t f c x
+  says : (x : RowFound) → IsFirstBelow (rowSupports (largest b a) t own c) (length (t .rows)) x → IsFirstRow b a t f c x
   says (at-row r) h = (passes-keeps r (h .0) (h .1), λ k l u. h .2 k l (keeps-passes k u))
   says no-row h = λ r k. h r (k .row-in) (keeps-passes r k)
 
-  said : (x : RowFound) → IsFirstRow b a t f c x → FirstIs (rowSupports (largest b a) t own c) (length (t .rows)) x
+  said : (x : RowFound) → IsFirstRow b a t f c x → IsFirstBelow (rowSupports (largest b a) t own c) (length (t .rows)) x
   said (at-row r) h =
       let l = h .0 .row-in in
       (l, keeps-passes r (h .0), λ k m u. h .1 k m (passes-keeps k (omega (arith, l)) u))
   said no-row h = λ k m u. h k (passes-keeps k m u)
 
   -- the answer computed is the first row that keeps the code, and nothing else is
-  pub first-in : (x : RowFound) → (x ≡ firstIn (largest b a) t own c) ↔ IsFirstRow b a t f c x
+  pub first-in : (x : RowFound) → (x ≡ firstSupportIn (largest b a) t own c) ↔ IsFirstRow b a t f c x
   first-in x = (
-    λ e. subst (IsFirstRow b a t f c) (sym e) (says (firstIn (largest b a) t own c) (first-is (rowSupports (largest b a) t own c) (length (t .rows)))),
-    λ h. first-only (rowSupports (largest b a) t own c) (length (t .rows)) x (firstIn (largest b a) t own c) (said x h)
-        (first-is (rowSupports (largest b a) t own c) (length (t .rows))),
+    λ e. subst (IsFirstRow b a t f c) (sym e) (says (firstSupportIn (largest b a) t own c) (first-below (rowSupports (largest b a) t own c) (length (t .rows)))),
+    λ h. first-only (rowSupports (largest b a) t own c) (length (t .rows)) x (firstSupportIn (largest b a) t own c) (said x h)
+        (first-below (rowSupports (largest b a) t own c) (length (t .rows))),
   )
 
 -- ---- codes that stand, and rows
 
+-- there is no row
+abbrev isNone : RowFound → Bool
+isNone (at-row r) = false
+isNone no-row = true
+
+none-is : (x : RowFound) → T (isNone x) → x ≡ no-row
+none-is (at-row r) u = absurd u
+none-is no-row u = refl
+
 -- some row supports the code exactly where the answer is a row
-found-exactly : (S : Subdomain) (t : Table) (j c : ℕ) → Support S t j c ↔ ((r : ℕ) × (firstIn S t j c ≡ at-row r))
-found-exactly S t j c = (λ u. there u (firstIn S t j c) (first-is (rowSupports S t j c) (length (t .rows))), back)
+found-exactly : (S : Subdomain) (t : Table) (j c : ℕ) → Support S t j c ↔ ((r : ℕ) × (firstSupportIn S t j c ≡ at-row r))
+found-exactly S t j c = (λ u. there u (firstSupportIn S t j c) (first-below (rowSupports S t j c) (length (t .rows))), back)
   where
-    there : Support S t j c → (x : RowFound) → FirstIs (rowSupports S t j c) (length (t .rows)) x → (r : ℕ) × (x ≡ at-row r)
+    there : Support S t j c → (x : RowFound) → IsFirstBelow (rowSupports S t j c) (length (t .rows)) x → (r : ℕ) × (x ≡ at-row r)
     there u (at-row r) h = (r, refl)
     there u no-row h = absurd (h (u .row) (u .row-in) (row-in S t j c (u .row) (u .there) (u .others)))
 
-    back : ((r : ℕ) × (firstIn S t j c ≡ at-row r)) → Support S t j c
+    back : ((r : ℕ) × (firstSupportIn S t j c ≡ at-row r)) → Support S t j c
     back (r, e) =
-        let h : FirstIs (rowSupports S t j c) (length (t .rows)) (at-row r) =
-        subst (FirstIs (rowSupports S t j c) (length (t .rows))) e (first-is (rowSupports S t j c) (length (t .rows))) in
+        let h : IsFirstBelow (rowSupports S t j c) (length (t .rows)) (at-row r) =
+        subst (IsFirstBelow (rowSupports S t j c) (length (t .rows))) e (first-below (rowSupports S t j c) (length (t .rows))) in
         record { row = r; row-in = h .0; there = row-there S t j c r (h .1); others = row-others S t j c r (h .1) }
 
 module _ (b : Book) (a : List ℕ) (f c : ℕ) where
@@ -182,7 +193,7 @@ module _ (b : Book) (a : List ℕ) (f c : ℕ) where
   standing-found s i l q =
       let t : Table = nth b i in
       let j : ℕ = columnOf t f in
-      let m : j < length (t .fields) = column-in t f q in
+      let m : j < length (t .fields) = column-there t f q in
       found-exactly (largest b a) t j c .0
       (largest-is b a .fits .consistent f c (standing-largest b a f c .0 s) i l j m (column-is t f m))
 
@@ -200,7 +211,7 @@ module _ (b : Book) (a : List ℕ) (f c : ℕ) where
   grown : Inside (largest b a) added
   grown g d u = or-left (largest b a g d) (eqb g f && eqb d c) u
 
-  module _ (known : c < codes b f) (allowed : answer a f ≢ 255 → c ≡ answer a f) where
+  module _ (known : c < codes b f) (permitted : answer a f ≢ 255 → c ≡ answer a f) where
     -- with all its supports it fits, so it was there before
     supported-stands : SupportedIn b (largest b a) f c → Standing b a f c
     supported-stands s =
@@ -227,7 +238,7 @@ module _ (b : Book) (a : List ℕ) (f c : ℕ) where
 
         within : (g d : ℕ) → answer a g ≢ 255 → T (largest b a g d) ⊎ ((g ≡ f) × (d ≡ c)) → d ≡ answer a g
         within g d n (inl u) = largest-is b a .fits .within g d n u
-        within g d n (inr e) = e .1 ∙ allowed (λ z. n (ap (answer a) (e .0) ∙ z)) ∙ ap (answer a) (sym (e .0))
+        within g d n (inr e) = e .1 ∙ permitted (λ z. n (ap (answer a) (e .0) ∙ z)) ∙ ap (answer a) (sym (e .0))
 
     -- a code that the answers allow stands exactly where each table with its field has a row
     pub stands-exactly : ((i : ℕ) → i < length (b .tables) → OneColumn (nth b i)) → Standing b a f c ↔ RowEach
@@ -237,9 +248,38 @@ module _ (b : Book) (a : List ℕ) (f c : ℕ) where
       λ each. supported-stands (λ i l j m e.
           let t : Table = nth b i in
           let q : FieldIn f t = (j, m, e) in
-          subst (λ (k : ℕ). Support (largest b a) t k c) (sym (there-only b a t (one i l) f c q j m e))
+          subst (λ (k : ℕ). Support (largest b a) t k c) (sym (own-only b a t (one i l) f c q q))
           (found-exactly (largest b a) t (columnOf t f) c .1 (each i l q))),
     )
+
+    -- where it does not stand, some table with its field has no row
+    pub struck-somewhere : ((i : ℕ) → i < length (b .tables) → OneColumn (nth b i)) → (Standing b a f c → ⊥)
+        → (i : ℕ) × (i < length (b .tables)) × FieldIn f (nth b i) × (firstSupport b a f c i ≡ no-row)
+    struck-somewhere one n = at (T-or-not (anyBelow (length (b .tables)) lacking))
+      where
+        -- table i has the field and no row
+        lacking : ℕ → Bool
+        lacking i = hasField (nth b i) f && isNone (firstSupport b a f c i)
+
+        -- one that does not lack it
+        row-of : (i : ℕ) → FieldIn f (nth b i) → (T (lacking i) → ⊥) → (x : RowFound) → firstSupport b a f c i ≡ x → (r : ℕ) × (x ≡ at-row r)
+        row-of i q k (at-row r) e = (r, refl)
+        row-of i q k no-row e =
+            absurd (k (and-in (hasField (nth b i) f) (isNone (firstSupport b a f c i)) (has-field (nth b i) f .1 q) (true-T (ap isNone e))))
+
+        at : T (anyBelow (length (b .tables)) lacking) ⊎ T (not (anyBelow (length (b .tables)) lacking))
+            → (i : ℕ) × (i < length (b .tables)) × FieldIn f (nth b i) × (firstSupport b a f c i ≡ no-row)
+        at (inl u) =
+            let w = any-out (length (b .tables)) lacking u in
+            let i : ℕ = w .0 in (
+              i,
+              w .1,
+              has-field (nth b i) f .0 (and-left (hasField (nth b i) f) (isNone (firstSupport b a f c i)) (w .2)),
+              none-is (firstSupport b a f c i) (and-right (hasField (nth b i) f) (isNone (firstSupport b a f c i)) (w .2)),
+            )
+        at (inr u) =
+            absurd (n (stands-exactly one .1 (λ i l q.
+            row-of i q (λ v. T-not (anyBelow (length (b .tables)) lacking) u (any-in (length (b .tables)) lacking i l v)) (firstSupport b a f c i) refl)))
 
 -- ---- an accepted book
 
@@ -248,7 +288,7 @@ pub one-column : (s : List ℕ) → Promise s → (i : ℕ) → i < length (book
 one-column s q i l =
     let h : i < tableCount s = omega (arith, tables-count s) in
     let t : TablePromise s (place s i) = q .tables i h in
-    subst OneColumn (sym (table-view s (record { fields = []; rows = [] }) i h)) (λ j k jl kl n e.
+    subst OneColumn (sym (table-view s (noTable) i h)) (λ j k jl kl n e.
     let arity : length (tableAt s (place s i) .fields) ≡ arityAt s (place s i) = table-arity s (place s i) (omega (arith, t .ends, q .whole)) in
     let jm : j < arityAt s (place s i) = omega arith in
     let km : k < arityAt s (place s i) = omega arith in

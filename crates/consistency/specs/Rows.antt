@@ -10,6 +10,7 @@ use Rattle.format.specs.Basics.{pick, firstBad}
 use Rattle.format.specs.Format.{Table, Book}
 use Rattle.consistency.specs.Consistency.{Subdomain, fieldOf, codeOf, nth, Standing}
 use Rattle.consistency.specs.Largest.{rowSupports, largest}
+use Rattle.consistency.specs.Ties.{FieldIn}
 
 -- ---- what it is
 
@@ -22,8 +23,9 @@ pub data RowFound : Type 0 where
 -- chosen code itself stands plays no part"
 pub record Keeps (b : Book) (a : List ℕ) (t : Table) (f c r : ℕ) : Type 0 where
   pub row-in : r < length (t .rows)
-  pub there : (k : ℕ) → k < length (t .fields) → fieldOf t k ≡ f → codeOf t r k ≡ c
-  pub beside : (k : ℕ) → k < length (t .fields) → fieldOf t k ≢ f → Standing b a (fieldOf t k) (codeOf t r k)
+  pub column : FieldIn f t
+  pub there : codeOf t r (column .0) ≡ c
+  pub beside : (k : ℕ) → k < length (t .fields) → k ≢ column .0 → Standing b a (fieldOf t k) (codeOf t r k)
 
 -- the first such row; none where there is no such row
 abbrev pub IsFirstRow : Book → List ℕ → Table → ℕ → ℕ → RowFound → Type 0
@@ -49,9 +51,9 @@ abbrev pub rowBelow : ℕ → ℕ → RowFound
 rowBelow n r = pick (ltb r n) (at-row r) no-row
 
 -- the first row of t that supports code c in column j under S
-abbrev pub firstIn : Subdomain → Table → ℕ → ℕ → RowFound
-firstIn S t j c = rowBelow (length (t .rows)) (firstWhere (rowSupports S t j c) (length (t .rows)))
+abbrev pub firstSupportIn : Subdomain → Table → ℕ → ℕ → RowFound
+firstSupportIn S t j c = rowBelow (length (t .rows)) (firstWhere (rowSupports S t j c) (length (t .rows)))
 
 -- the row of table i behind code c of field f under answers a, "with nothing lifted"
 unfoldable pub firstSupport : Book → List ℕ → ℕ → ℕ → ℕ → RowFound
-firstSupport b a f c i = firstIn (largest b a) (nth b i) (columnOf (nth b i) f) c
+firstSupport b a f c i = firstSupportIn (largest b a) (nth b i) (columnOf (nth b i) f) c

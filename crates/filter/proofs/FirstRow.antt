@@ -1,6 +1,6 @@
--- Asked for one code in one case, from row 0, the search answers the first row of the table that supports the code. Assumes nothing.
+-- Asked for one code in one case, from row 0, the search answers the first row of the table that supports the code, or none. Assumes nothing.
 use mathlib.Core.Path.{_≡_, refl, sym, ap, ap₂, _∙_, subst}
-use mathlib.Core.Logic.{_≢_, _↔_}
+use mathlib.Core.Logic.{_≢_}
 use mathlib.Core.Bool.{Bool, true, false, _&&_}
 use mathlib.Core.List.{List}
 use Prim.Native.Nat.{ℕ, _-_, _^_, _<_, zero-le}
@@ -13,12 +13,14 @@ use lib.ListN.{length, getD}
 use lib.Pow.{pow-pos}
 use Rattle.format.specs.Basics.{pick}
 use Rattle.format.specs.Format.{Table, codeLimit, tableAt}
-use Rattle.consistency.specs.Consistency.{Subdomain, Support, codeOf}
+use Rattle.consistency.specs.Consistency.{codeOf}
 use Rattle.consistency.specs.Largest.{rowSupports}
+use Rattle.consistency.specs.Rows.{RowFound, at-row, no-row, firstSupportIn}
 use Rattle.consistency.specs.Counts.{bit}
 use Rattle.consistency.proofs.Booleans.{T-ext, true-T, false-T, and-in, and-left, and-right, eq→eqb}
-use Rattle.consistency.proofs.Supports.{row-in, row-there, row-others}
+use Rattle.consistency.proofs.Supports.{row-there}
 use Rattle.consistency.proofs.Masks.{zero-bit}
+use Rattle.consistency.proofs.FirstRows.{IsFirstBelow, first-below, first-only}
 use Rattle.filter.specs.Words.{domainOf}
 use Rattle.filter.specs.declared.support.Shape.{Shape}
 use Rattle.filter.specs.declared.support.Found.{Found}
@@ -35,20 +37,10 @@ pub record OneMark (need : List ℕ) (c k : ℕ) : Type 0 where
   pub here : getD need c 0 ≡ 2 ^ k
   pub elsewhere : (d : ℕ) → d ≢ c → getD need d 0 ≡ 0
 
--- the first row that supports code c in column j under S, with case k alone; or nothing, where no row does
-abbrev pub FirstRow : Subdomain → Table → ℕ → ℕ → ℕ → Found → Type 0
-FirstRow S t j c k (Row r v) =
-    (r < length (t .rows)) × T (rowSupports S t j c r) × ((q : ℕ) → q < r → T (rowSupports S t j c q) → ⊥) × (v ≡ 2 ^ k)
-FirstRow S t j c k Nothing = Support S t j c → ⊥
-
--- the answer is nothing exactly where no row supports the code
-pub nothing-exactly : (S : Subdomain) (t : Table) (j c k : ℕ) (x : Found) → FirstRow S t j c k x → (x ≡ Nothing) ↔ (Support S t j c → ⊥)
-nothing-exactly S t j c k x h = (λ e. subst (FirstRow S t j c k) e h, back x h)
-  where
-    back : (y : Found) → FirstRow S t j c k y → (Support S t j c → ⊥) → y ≡ Nothing
-    back (Row r v) g n =
-        absurd (n (record { row = r; row-in = g .0; there = row-there S t j c r (g .1); others = row-others S t j c r (g .1) }))
-    back Nothing g n = refl
+-- the number of the row that the search answers, or none
+abbrev pub rowNumber : Found → RowFound
+rowNumber (Row r v) = at-row r
+rowNumber Nothing = no-row
 
 -- what is asked for, and that it is
 asked : (need : List ℕ) (c k : ℕ) → OneMark need c k → (d i : ℕ) → T (bit (getD need d 0) i) → (d ≡ c) × (i ≡ k)
@@ -69,9 +61,9 @@ alone-bit : (x : Bool) (k i : ℕ) → bit (alone x k) i ≡ (x && eqb i k)
 alone-bit true k i = one-bit k i
 alone-bit false k i = zero-bit i
 
-alone-some : (x : Bool) (k v : ℕ) → alone x k ≡ v → (v ≡ 0 → ⊥) → T x × (v ≡ 2 ^ k)
-alone-some true k v e n = (tt, sym e)
-alone-some false k v e n = absurd (n (sym e))
+alone-some : (x : Bool) (k : ℕ) → (alone x k ≡ 0 → ⊥) → T x
+alone-some true k n = tt
+alone-some false k n = absurd (n refl)
 
 alone-none : (x : Bool) (k : ℕ) → alone x k ≡ 0 → T x → ⊥
 alone-none true k e u = omega (arith, pow-pos k)
@@ -112,16 +104,21 @@ module _ (M : List ℕ) (t : Table) (j c k : ℕ) (need : List ℕ) (one : OneMa
     none : (r : ℕ) → r < length (t .rows) → rowCases M need t j r ≡ 0 → T (supports r) → ⊥
     none r l z = alone-none (supports r) k (sym (one-case r l) ∙ z)
 
-    answer : (x : Found) → FirstIs (length (t .rows)) 0 (rowCases M need t j) x → FirstRow (domainOf M k) t j c k x
-    answer (Row r v) h =
-        let a = alone-some (supports r) k v (sym (one-case r (h .below)) ∙ h .value) (h .some) in
-        (h .below, a .0, λ q l. none q (le-trans l (le-trans (le-suc r) (h .below))) (h .none q zero-le l), a .1)
-    answer Nothing h = λ u. none (u .row) (u .row-in) (h (u .row) zero-le (u .row-in)) (row-in (domainOf M k) t j c (u .row) (u .there) (u .others))
+    answer : (x : Found) → FirstIs (length (t .rows)) 0 (rowCases M need t j) x → IsFirstBelow supports (length (t .rows)) (rowNumber x)
+    answer (Row r v) h = (
+      h .below,
+      alone-some (supports r) k (λ z. h .some (sym (h .value) ∙ one-case r (h .below) ∙ z)),
+      λ q l. none q (le-trans l (le-trans (le-suc r) (h .below))) (h .none q zero-le l),
+    )
+    answer Nothing h = λ q l. none q l (h q zero-le l)
 
 -- Document 01's question, of a table of an accepted book: need asks for one code in one case, and the search begins at row 0
 module _ (s : List ℕ) (t : Shape) (q : InTable s t) (M : List ℕ) (j c k : ℕ) (need : List ℕ) (one : OneMark need c k) where
-  -- the answer is the first supporting row of the table, or nothing where it has none
+  -- the answer is the first supporting row of the table, or none where it has none
   pub first-row : (x : Found) → x ≡ firstFrom (t .rows - 0) 0 (rowCases M need (tableAt s (t .at)) j)
-      → FirstRow (domainOf M k) (tableAt s (t .at)) j c k x
+      → rowNumber x ≡ firstSupportIn (domainOf M k) (tableAt s (t .at)) j c
   first-row x e =
-      answer M (tableAt s (t .at)) j c k need one (codes-small s t q) x (search-is s t q 0 (rowCases M need (tableAt s (t .at)) j) x zero-le e)
+      let u : Table = tableAt s (t .at) in
+      first-only (rowSupports (domainOf M k) u j c) (length (u .rows)) (rowNumber x) (firstSupportIn (domainOf M k) u j c)
+      (answer M u j c k need one (codes-small s t q) x (search-is s t q 0 (rowCases M need u j) x zero-le e))
+      (first-below (rowSupports (domainOf M k) u j c) (length (u .rows)))

@@ -1,15 +1,15 @@
 -- The row behind a code: the place of a table, the column of a field, and what the inner question answers for one code in case 0.
 -- Assumes nothing.
-use mathlib.Core.Path.{_≡_, refl, sym, ap, _∙_, subst}
+use mathlib.Core.Path.{_≡_, sym, ap, _∙_, subst}
 use mathlib.Core.Logic.{_≢_}
 use mathlib.Core.Bool.{Bool, not}
 use mathlib.Core.List.{List, [], _∷_}
-use Prim.Native.Nat.{ℕ, _+_, _-_, _*_, _≤_, _<_, zero-le}
+use Prim.Native.Nat.{ℕ, _+_, _-_, _≤_, _<_, zero-le}
 use native.Mathlib.Nat.{le-trans}
 use native.Mathlib.Omega.{arith}
 use borrow.Author.Tests.{lt-ltb, le-ltb, eq-eqb, ne-eqb}
 use lib.Dec.{T, eqb}
-use lib.ListN.{length, getD, set, replicate}
+use lib.ListN.{length, set, replicate}
 use lib.Seq.{getD-set-same, getD-set-other}
 use Rattle.format.specs.Basics.{pick, firstBad}
 use Rattle.format.specs.Format.{Table, codeLimit, byte, tableCount, arityAt, tableAt, bookOf}
@@ -19,40 +19,30 @@ use Rattle.format.proofs.Scans.{bad-on, bad-here, bad-none}
 use Rattle.book.specs.View.{Numbered}
 use Rattle.consistency.specs.Consistency.{Subdomain, fieldOf, codeOf, nth}
 use Rattle.consistency.specs.Largest.{rowSupports, largest}
-use Rattle.consistency.specs.Rows.{RowFound, at-row, no-row, columnOf, hasField, firstIn, firstSupport}
+use Rattle.consistency.specs.Rows.{no-row, columnOf, hasField, firstSupportIn, firstSupport}
 use Rattle.consistency.proofs.Booleans.{T-ext, T-false}
 use Rattle.consistency.proofs.Supports.{row-in, row-there, row-others}
 use Rattle.consistency.proofs.FirstRows as rows
 use Rattle.filter.specs.declared.support.Shape.{Shape}
 use Rattle.filter.specs.declared.support.Found.{Found}
 use Rattle.filter.specs.declared.support.Found.the-variants as found
-use Rattle.filter.specs.declared.Behind.{Behind}
-use Rattle.filter.specs.declared.Behind.the-variants.{Row, NoRow, NoTable}
+use Rattle.filter.specs.declared.Supporting.{Supporting}
+use Rattle.filter.specs.declared.Supporting.the-variants.{Row, NoRow, NoColumn}
 use Rattle.filter.specs.Words.{domainOf}
 use Rattle.filter.specs.Cases.{marksOf}
 use Rattle.filter.specs.Support.{InTable, shapeAt, firstFrom, rowCases}
-use Rattle.filter.specs.Rows.{behind, behindOf}
+use Rattle.filter.specs.Rows.{supporting, supportingRow}
 use Rattle.filter.proofs.Lists.{zeros}
 use Rattle.filter.proofs.Words.{domain-bit}
 use Rattle.filter.proofs.CaseMarks.{marks-bit}
-use Rattle.filter.proofs.Shapes.{nth-at, table-at, end-in, arity-of, field-is, field-small, codes-small}
-use Rattle.filter.proofs.Surveys.{next-place}
-use Rattle.filter.proofs.FirstRow.{OneMark, FirstRow, first-row}
+use Rattle.filter.proofs.Shapes.{nth-at, table-at, arity-of, field-is, field-small, codes-small}
+use Rattle.filter.proofs.FirstRow.{OneMark, rowNumber, first-row}
 
 -- ---- the place of a table
 
-module _ {s : List ℕ} {i : ℕ} (p : Promise s) (l : i < tableCount s) {k at : ℕ} (kl : k < i) (e : at ≡ place s k) where
-  -- a table before table i
-  pub table-before : InTable s (shapeAt s at)
-  table-before = table-at p k (le-trans kl (omega arith)) at e
-
-  -- ends within the bytes
-  pub end-before : {t : Shape} → t ≡ shapeAt s at → t .first + t .rows * t .arity + 6 ≤ length s
-  end-before {t} d = end-in s t (subst (InTable s) (sym d) table-before)
-
-  -- and the next one stands there
-  pub place-on : {t : Shape} → t ≡ shapeAt s at → t .first + t .rows * t .arity ≡ place s (k + 1)
-  place-on d = ap (λ (t : Shape). t .first + t .rows * t .arity) d ∙ next-place s k at e
+-- a table before table i
+pub table-before : {s : List ℕ} {i k at : ℕ} → Promise s → i < tableCount s → k < i → at ≡ place s k → InTable s (shapeAt s at)
+table-before {k = k} {at = at} p l m e = table-at p k (le-trans m (omega arith)) at e
 
 -- ---- the column of a field
 
@@ -100,11 +90,6 @@ one-mark c l =
       elsewhere = λ d n. getD-set-other (replicate codeLimit 0) c d 1 0 n ∙ zeros codeLimit d;
     }
 
--- the row's number, as the question's answer has it
-abbrev numberIn : Found → RowFound
-numberIn (found.Row r v) = at-row r
-numberIn found.Nothing = no-row
-
 module _ {s : List ℕ} {at : ℕ} (q : InTable s (shapeAt s at)) where
   -- the question may be asked of column j
   pub asks-first : {j : ℕ} → j < arityAt s at → {t : Shape} → t ≡ shapeAt s at → InTable s t × ((j < t .arity) × (0 ≤ t .rows))
@@ -112,48 +97,29 @@ module _ {s : List ℕ} {at : ℕ} (q : InTable s (shapeAt s at)) where
 
   module _ (M : List ℕ) (j c : ℕ) (cl : c < codeLimit) {t : Shape} (d : t ≡ shapeAt s at) (x : Found)
       (e : x ≡ firstFrom (t .rows - 0) 0 (rowCases M (set (replicate codeLimit 0) c 1) (tableAt s (t .at)) j)) where
-    abbrev supports : ℕ → Bool
-    supports = rowSupports (domainOf M 0) (tableAt s at) j c
-
-    -- of the table at its place
-    moved : x ≡ firstFrom (shapeAt s at .rows - 0) 0 (rowCases M (set (replicate codeLimit 0) c 1) (tableAt s at) j)
-    moved = e ∙ ap (λ (y : Shape). firstFrom (y .rows - 0) 0 (rowCases M (set (replicate codeLimit 0) c 1) (tableAt s (y .at)) j)) d
-
-    says : (y : Found) → FirstRow (domainOf M 0) (tableAt s at) j c 0 y → rows.FirstIs supports (length (tableAt s at .rows)) (numberIn y)
-    says (found.Row r v) h = (h .0, h .1, h .2)
-    says found.Nothing h =
-        λ k m u.
-        h (record {
-          row = k;
-          row-in = m;
-          there = row-there (domainOf M 0) (tableAt s at) j c k u;
-          others = row-others (domainOf M 0) (tableAt s at) j c k u;
-        })
-
-    answer : numberIn x ≡ firstIn (domainOf M 0) (tableAt s at) j c
-    answer =
-        rows.first-only supports (length (tableAt s at .rows)) (numberIn x) (firstIn (domainOf M 0) (tableAt s at) j c)
-        (says x (first-row s (shapeAt s at) q M j c 0 (set (replicate codeLimit 0) c 1) (one-mark c cl) x moved))
-        (rows.first-is supports (length (tableAt s at .rows)))
+    number-is : rowNumber x ≡ firstSupportIn (domainOf M 0) (tableAt s at) j c
+    number-is =
+        first-row s (shapeAt s at) q M j c 0 (set (replicate codeLimit 0) c 1) (one-mark c cl) x
+        (e ∙ ap (λ (y : Shape). firstFrom (y .rows - 0) 0 (rowCases M (set (replicate codeLimit 0) c 1) (tableAt s (y .at)) j)) d)
 
     -- a row, or none
-    pub row-answer : (r v : ℕ) → x ≡ found.Row r v → Row r ≡ behind (firstIn (domainOf M 0) (tableAt s at) j c)
-    row-answer r v f = ap behind (ap numberIn (sym f) ∙ answer)
+    pub row-answer : (r v : ℕ) → x ≡ found.Row r v → Row r ≡ supporting (firstSupportIn (domainOf M 0) (tableAt s at) j c)
+    row-answer r v f = ap supporting (ap rowNumber (sym f) ∙ number-is)
 
-    pub none-answer : x ≡ found.Nothing → NoRow ≡ behind (firstIn (domainOf M 0) (tableAt s at) j c)
-    none-answer f = ap behind (ap numberIn (sym f) ∙ answer)
+    pub none-answer : x ≡ found.Nothing → NoRow ≡ supporting (firstSupportIn (domainOf M 0) (tableAt s at) j c)
+    none-answer f = ap supporting (ap rowNumber (sym f) ∙ number-is)
 
   -- a code that no field can have has no row
-  no-code : (S : Subdomain) (j c : ℕ) → j < arityAt s at → codeLimit ≤ c → no-row ≡ firstIn S (tableAt s at) j c
+  no-code : (S : Subdomain) (j c : ℕ) → j < arityAt s at → codeLimit ≤ c → no-row ≡ firstSupportIn S (tableAt s at) j c
   no-code S j c jl l =
-      rows.first-only (rowSupports S (tableAt s at) j c) (length (tableAt s at .rows)) no-row (firstIn S (tableAt s at) j c)
+      rows.first-only (rowSupports S (tableAt s at) j c) (length (tableAt s at .rows)) no-row (firstSupportIn S (tableAt s at) j c)
       (λ k m u.
       absurd (omega (
         arith,
         row-there S (tableAt s at) j c k u,
         codes-small s (shapeAt s at) q k j m (omega (arith, arity-of s (shapeAt s at) q)),
       )))
-      (rows.first-is (rowSupports S (tableAt s at) j c) (length (tableAt s at .rows)))
+      (rows.first-below (rowSupports S (tableAt s at) j c) (length (tableAt s at .rows)))
 
   -- the marks of plain filtering are the largest subdomain
   module _ (a M : List ℕ) (e : M ≡ marksOf (bookOf s) (a ∷ [])) where
@@ -178,7 +144,7 @@ module _ {s : List ℕ} {at : ℕ} (q : InTable s (shapeAt s at)) where
         row-in (domainOf M 0) (tableAt s at) j c r (row-there (largest (bookOf s) a) (tableAt s at) j c r u)
         (λ k m n. subst T (sym (same-mark r k l m)) (row-others (largest (bookOf s) a) (tableAt s at) j c r u k m n)))
 
-    marks-rows : (j c : ℕ) → firstIn (domainOf M 0) (tableAt s at) j c ≡ firstIn (largest (bookOf s) a) (tableAt s at) j c
+    marks-rows : (j c : ℕ) → firstSupportIn (domainOf M 0) (tableAt s at) j c ≡ firstSupportIn (largest (bookOf s) a) (tableAt s at) j c
     marks-rows j c =
         rows.first-ext (rowSupports (domainOf M 0) (tableAt s at) j c) (rowSupports (largest (bookOf s) a) (tableAt s at) j c)
         (length (tableAt s at .rows)) (same-rows j c)
@@ -187,12 +153,12 @@ module _ {s : List ℕ} {at : ℕ} (q : InTable s (shapeAt s at)) where
 
 module _ {s : List ℕ} {list fields tables : ℕ} (n : Numbered s list fields tables) where
   -- the book has no such table
-  pub no-table : (a : List ℕ) (f c i : ℕ) → tables ≤ i → NoTable ≡ behindOf (bookOf s) a f c i
-  unfolding behindOf
+  pub no-table : (a : List ℕ) (f c i : ℕ) → tables ≤ i → NoColumn ≡ supportingRow (bookOf s) a f c i
+  unfolding supportingRow
   no-table a f c i l =
-      sym (ap (λ (t : Bool). pick t (behind (firstSupport (bookOf s) a f c i)) NoTable)
+      sym (ap (λ (t : Bool). pick t (supporting (firstSupport (bookOf s) a f c i)) NoColumn)
       (T-false {x = hasField (nth (bookOf s) i) f} (λ u.
-      omega (arith, rows.table-in (bookOf s) f i (rows.has-field (nth (bookOf s) i) f .0 u), tables-count s, n .tables-is))))
+      omega (arith, rows.table-known (bookOf s) f i (rows.has-field (nth (bookOf s) i) f .0 u), tables-count s, n .tables-is))))
 
   module _ {i at : ℕ} (l : i < tables) (e : at ≡ place s i) where
     -- the table at its place
@@ -201,11 +167,11 @@ module _ {s : List ℕ} {list fields tables : ℕ} (n : Numbered s list fields t
 
     module _ (a : List ℕ) (f c : ℕ) where
       -- the answer by the table
-      abbrev answerOf : Table → Behind
-      answerOf t = pick (hasField t f) (behind (firstIn (largest (bookOf s) a) t (columnOf t f) c)) NoTable
+      abbrev answerOf : Table → Supporting
+      answerOf t = pick (hasField t f) (supporting (firstSupportIn (largest (bookOf s) a) t (columnOf t f) c)) NoColumn
 
-      by-table : behindOf (bookOf s) a f c i ≡ answerOf (tableAt s at)
-      unfolding behindOf firstSupport
+      by-table : supportingRow (bookOf s) a f c i ≡ answerOf (tableAt s at)
+      unfolding supportingRow firstSupport
       by-table = ap answerOf (nth-at s i at (omega (arith, n .tables-is)) e)
 
       module _ {arity j : ℕ} (ae : arity ≡ byte s at) (je : j ≡ columnOf (tableAt s at) f) where
@@ -213,25 +179,25 @@ module _ {s : List ℕ} {list fields tables : ℕ} (n : Numbered s list fields t
         columns = wide-is table-here ae
 
         -- the field is not in it
-        pub not-in : arity ≤ j → NoTable ≡ behindOf (bookOf s) a f c i
+        pub not-in : arity ≤ j → NoColumn ≡ supportingRow (bookOf s) a f c i
         not-in h =
             sym (by-table
-            ∙ ap (λ (t : Bool). pick t (behind (firstIn (largest (bookOf s) a) (tableAt s at) (columnOf (tableAt s at) f) c)) NoTable)
+            ∙ ap (λ (t : Bool). pick t (supporting (firstSupportIn (largest (bookOf s) a) (tableAt s at) (columnOf (tableAt s at) f) c)) NoColumn)
             (le-ltb (columnOf (tableAt s at) f) (length (tableAt s at .fields)) (omega (arith, columns, je))))
 
         module _ (h : j < arity) where
           -- it is: the row of column j
-          tied : behind (firstIn (largest (bookOf s) a) (tableAt s at) j c) ≡ behindOf (bookOf s) a f c i
+          tied : supporting (firstSupportIn (largest (bookOf s) a) (tableAt s at) j c) ≡ supportingRow (bookOf s) a f c i
           tied =
-              ap (λ (k : ℕ). behind (firstIn (largest (bookOf s) a) (tableAt s at) k c)) je
+              ap (λ (k : ℕ). supporting (firstSupportIn (largest (bookOf s) a) (tableAt s at) k c)) je
               ∙ sym (by-table
-              ∙ ap (λ (t : Bool). pick t (behind (firstIn (largest (bookOf s) a) (tableAt s at) (columnOf (tableAt s at) f) c)) NoTable)
+              ∙ ap (λ (t : Bool). pick t (supporting (firstSupportIn (largest (bookOf s) a) (tableAt s at) (columnOf (tableAt s at) f) c)) NoColumn)
               (lt-ltb (columnOf (tableAt s at) f) (length (tableAt s at .fields)) (omega (arith, columns, je))))
 
-          pub code-large : codeLimit ≤ c → NoRow ≡ behindOf (bookOf s) a f c i
-          code-large k = ap behind (no-code table-here (largest (bookOf s) a) j c (omega (arith, ae)) k) ∙ tied
+          pub code-large : codeLimit ≤ c → NoRow ≡ supportingRow (bookOf s) a f c i
+          code-large k = ap supporting (no-code table-here (largest (bookOf s) a) j c (omega (arith, ae)) k) ∙ tied
 
           -- the question gives the row
-          pub row-given : {M : List ℕ} {r : Behind} → M ≡ marksOf (bookOf s) (a ∷ []) → r ≡ behind (firstIn (domainOf M 0) (tableAt s at) j c)
-              → r ≡ behindOf (bookOf s) a f c i
-          row-given {M} m d = d ∙ ap behind (marks-rows table-here a M m j c) ∙ tied
+          pub row-given : {M : List ℕ} {r : Supporting} → M ≡ marksOf (bookOf s) (a ∷ []) → r ≡ supporting (firstSupportIn (domainOf M 0) (tableAt s at) j c)
+              → r ≡ supportingRow (bookOf s) a f c i
+          row-given {M} m d = d ∙ ap supporting (marks-rows table-here a M m j c) ∙ tied

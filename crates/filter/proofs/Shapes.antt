@@ -1,14 +1,15 @@
 -- The shape of a table of an accepted book: where its rows and fields stand in the bytes, and how large they are. Assumes nothing.
 use mathlib.Core.Path.{_≡_, refl, sym, ap, ap₂, _∙_, subst}
 use mathlib.Core.Logic.{_≢_}
-use mathlib.Core.List.{List, []}
+use mathlib.Core.List.{List}
 use Prim.Native.Nat.{ℕ, _+_, _*_, _≤_, _<_}
 use native.Mathlib.Nat.{mul-one, mul-le-mul-left, mul-le-mul-right}
+use native.Mathlib.Numerals.{add-one}
 use native.Mathlib.Omega.{arith}
 use lib.ListN.{length}
 use Rattle.format.specs.Format.{Table, codeLimit, lengthLimit, byte, fieldCount, tableCount, arityAt, rowsOf, firstRow, tableEnd, tableAt, bookOf}
 use Rattle.format.specs.Promise.{Promise, TablePromise, place, codeAt, fieldAt, countAt}
-use Rattle.format.proofs.Views.{tables-count, table-view, table-rows, table-code, table-field, table-arity, fields-apart as table-fields-apart}
+use Rattle.format.proofs.Views.{noTable, tables-count, table-view, table-rows, table-code, table-field, table-arity, fields-apart as table-fields-apart}
 use Rattle.consistency.specs.Consistency.{places, fieldOf, codeOf, nth}
 use Rattle.filter.specs.declared.support.Shape.{Shape}
 use Rattle.filter.specs.Support.{InTable, shapeAt}
@@ -16,7 +17,7 @@ use Rattle.filter.proofs.Limits.{fields-few}
 
 -- table i of the book is the table at its place
 pub nth-at : (s : List ℕ) (i at : ℕ) → i < tableCount s → at ≡ place s i → nth (bookOf s) i ≡ tableAt s at
-nth-at s i at l e = table-view s (record { fields = []; rows = [] }) i l ∙ ap (tableAt s) (sym e)
+nth-at s i at l e = table-view s noTable i l ∙ ap (tableAt s) (sym e)
 
 module _ (s : List ℕ) (t : Shape) (q : InTable s t) where
   -- the table
@@ -127,6 +128,10 @@ module _ {s : List ℕ} {at : ℕ} (q : InTable s (shapeAt s at)) where
   pub shape-in : {t : Shape} → t ≡ shapeAt s at → InTable s (record { at = at; arity = t .arity; first = t .first; rows = t .rows })
   shape-in e = subst (λ (t : Shape). InTable s (record { at = at; arity = t .arity; first = t .first; rows = t .rows })) (sym e) q
 
+  -- it ends within the bytes
+  pub end-at : {t : Shape} → t ≡ shapeAt s at → t .first + t .rows * t .arity + 6 ≤ length s
+  end-at {t} e = end-in s t (subst (InTable s) (sym e) q)
+
   -- what is read there
   module _ {arity low high : ℕ} (ae : arity ≡ byte s at) (le : low ≡ byte s (at + 1 + arity)) (he : high ≡ byte s (at + 2 + arity)) where
     pub rows-read : low + 256 * high ≡ rowsOf s at
@@ -136,3 +141,15 @@ module _ {s : List ℕ} {at : ℕ} (q : InTable s (shapeAt s at)) where
 
     pub shape-read : record { at = at; arity = arity; first = at + 3 + arity; rows = low + 256 * high } ≡ shapeAt s at
     shape-read = rw (rows-read, ae)
+
+-- ---- the places of the tables
+
+-- the first table stands at 0
+pub place-zero : (s : List ℕ) → 0 ≡ place s 0
+unfolding place
+place-zero s = refl
+
+-- each next one where the one before ends
+pub place-next : (s : List ℕ) (i at : ℕ) → at ≡ place s i → (t : Shape) → t ≡ shapeAt s at → t .first + t .rows * t .arity ≡ place s (i + 1)
+unfolding place
+place-next s i at e t d = ap (λ (x : Shape). x .first + x .rows * x .arity) d ∙ ap (tableEnd s) e ∙ ap (place s) (sym (add-one i))

@@ -1,11 +1,10 @@
 -- The tables' places, and the words of the tables that each field has: a turn of each loop, and the end. Assumes nothing.
-use mathlib.Core.Path.{_≡_, refl, sym, ap, ap₂, _∙_, subst}
+use mathlib.Core.Path.{_≡_, refl, sym, ap, _∙_, subst}
 use mathlib.Core.Logic.{_⊎_, inl, inr, ⊎-elim}
 use mathlib.Core.Bool.{Bool, _||_}
 use mathlib.Core.List.{List}
 use Prim.Native.Nat.{ℕ, _+_, _-_, _*_, _/_, _%_, _^_, _≤_, _<_}
 use native.Mathlib.Nat.{le-trans, not-suc-le-zero}
-use native.Mathlib.Numerals.{add-one}
 use native.Mathlib.Decide.{ℕ-discrete}
 use native.Mathlib.Omega.{arith}
 use borrow.Author.Count.{below-more}
@@ -14,15 +13,17 @@ use lib.Seq.{getD-set-same, getD-set-other}
 use lib.Bits.{bitOr}
 use lib.Pow.{ones-split, high, ones-lt}
 use lib.Dec.{T, eqb, eqb→eq, eqb-refl}
-use Rattle.format.specs.Format.{tableLimit, byte, listPlace, tableCount, arityAt, rowsOf, tableEnd}
+use Rattle.format.specs.Format.{tableLimit, tableCount, arityAt}
 use Rattle.format.specs.Promise.{place, fieldAt}
 use Rattle.consistency.specs.Consistency.{places}
 use Rattle.consistency.specs.Counts.{bit}
 use Rattle.consistency.proofs.Booleans.{or-left, or-right, or-out, false-T}
 use Rattle.consistency.proofs.Masks.{zero-bit}
+use Rattle.filter.specs.Support.{InTable, shapeAt}
 use Rattle.filter.specs.Queue.{WatchGiven, Watched, SurveyGiven, Surveyed}
 use Rattle.filter.proofs.Bits.{bit-or, one-bit, shl-one}
 use Rattle.filter.proofs.Limits.{fields-few}
+use Rattle.filter.proofs.Shapes.{table-at}
 
 -- all of the first k bits, as the code has them
 pub all-ones : (k : ℕ) → k ≤ 64 → 18446744073709551615 / 2 ^ (64 - k) ≡ 2 ^ k - 1
@@ -128,15 +129,6 @@ surveyed-none q =
       placed = λ i l. absurd (not-suc-le-zero l);
     }
 
--- the first table stands at 0, each next one where the one before ends
-pub place-zero : (s : List ℕ) → 0 ≡ place s 0
-unfolding place
-place-zero s = refl
-
-pub next-place : (s : List ℕ) (i p : ℕ) → p ≡ place s i → tableEnd s p ≡ place s (i + 1)
-unfolding place
-next-place s i p e = ap (tableEnd s) e ∙ ap (place s) (sym (add-one i))
-
 module _ {s U O : List ℕ} {tables : ℕ} (q : SurveyGiven s U O tables) (i at : ℕ) (l : i < tables) (ae : at ≡ place s i) where
   index-in : i < tableCount s
   index-in = subst (λ (n : ℕ). i < n) (q .tables-is) l
@@ -144,32 +136,13 @@ module _ {s U O : List ℕ} {tables : ℕ} (q : SurveyGiven s U O tables) (i at 
   pub place-small : i < 64
   place-small = le-trans index-in (q .promise .tables-few)
 
-  -- the table, rows included, ends within the bytes
-  table-in : tableEnd s at + 6 ≤ length s
-  table-in = omega (arith, subst (λ (p : ℕ). tableEnd s p ≤ listPlace s) (sym ae) (q .promise .tables i index-in .ends), q .promise .whole)
+  -- the table at its place
+  pub table-surveyed : InTable s (shapeAt s at)
+  table-surveyed = table-at (q .promise) i index-in at ae
 
   module _ (arity : ℕ) (re : arity ≡ arityAt s at) where
     pub watch-given : {W P : List ℕ} → SurveyedTo s W P i → WatchGiven s W at arity i
     watch-given x = record { promise = q .promise; index-in = index-in; at-is = ae; arity-is = re; words = x .words }
-
-    -- the two bytes of the number of rows are read within the bytes
-    pub head-in : at + 3 + arity ≤ length s
-    head-in = omega (arith, table-in)
-
-    module _ (rows : ℕ) (ne : rows ≡ byte s (at + 1 + arity) + 256 * byte s (at + 2 + arity)) where
-      rows-are : rows ≡ rowsOf s at
-      rows-are =
-          ne ∙ ap₂ (λ (y z : ℕ). byte s y + 256 * byte s z) (ap (λ (z : ℕ). at + 1 + z) re) (let e = re in omega arith)
-
-      end-is : at + 3 + arity + rows * arity ≡ tableEnd s at
-      end-is = ap₂ (λ (y z : ℕ). at + 3 + y + z * y) re rows-are
-
-      -- the next place is computed without overflow
-      pub end-in : at + 3 + arity + rows * arity ≤ length s
-      end-in = omega (arith, end-is, table-in)
-
-      pub place-more : at + 3 + arity + rows * arity ≡ place s (i + 1)
-      place-more = end-is ∙ next-place s i at ae
 
     -- a turn
     pub surveyed-more : (W Z P : List ℕ) → SurveyedTo s W P i → Watched s W Z at i arity → SurveyedTo s Z (set P i at) (i + 1)

@@ -1,17 +1,15 @@
 -- A table swept column by column: what holds behind each column, and each way on. Assumes nothing.
-use mathlib.Core.Path.{_≡_, refl, sym, ap, ap₂, _∙_, subst}
+use mathlib.Core.Path.{_≡_, refl, sym, ap, _∙_, subst}
 use mathlib.Core.Logic.{_⊎_, inl, inr, _≢_}
-use mathlib.Core.List.{List, []}
+use mathlib.Core.List.{List}
 use Prim.Native.Nat.{ℕ, suc, _+_, _*_, _%_, _^_, _≤_, _<_}
-use native.Mathlib.Nat.{not-suc-le-zero, mul-one, mul-le-mul-left}
+use native.Mathlib.Nat.{not-suc-le-zero}
 use native.Mathlib.Omega.{arith}
 use lib.Bits.{bitOr, bitXor}
 use lib.Dec.{T}
 use lib.ListN.{length, getD}
-use Rattle.format.specs.Format.{Table, lengthLimit, byte, listPlace, fieldCount, arityAt, rowsOf, bookOf, tableAt}
-use Rattle.format.specs.Promise.{TablePromise}
-use Rattle.format.proofs.Views.{table-view}
-use Rattle.consistency.specs.Consistency.{places, fieldOf, nth}
+use Rattle.format.specs.Format.{Table, byte, fieldCount, bookOf, tableAt}
+use Rattle.consistency.specs.Consistency.{places, fieldOf}
 use Rattle.consistency.specs.Counts.{bit}
 use Rattle.consistency.proofs.Booleans.{below-suc}
 use Rattle.filter.specs.declared.support.Shape.{Shape}

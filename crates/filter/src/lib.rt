@@ -19,8 +19,7 @@ mod start;
 mod summary;
 mod support;
 
-// The row behind a code.
-pub use lookup::row_behind;
+pub use lookup::supporting_row;
 
 // A word of marks for each place and code.
 pub const WORDS: usize = PLACES * CODES;
@@ -28,12 +27,12 @@ pub const WORDS: usize = PLACES * CODES;
 // Every bit of a word of cases.
 const EVERY_CASE: u64 = 18446744073709551615;
 
-// The row behind a code: the number of the first row of the table that supports it; no row where none does; no such table where the book
-// lacks it or the field is not in it.
-pub enum Behind {
+// The number of the first row of a table that supports a code; or that none does; or that the table has no column for the field, as it is
+// with a table that the book lacks.
+pub enum Supporting {
     Row(usize),
     NoRow,
-    NoTable,
+    NoColumn,
 }
 
 // The one pass over a view of an accepted book: the marks of all cases, and the number struck.

@@ -4,11 +4,11 @@ ghost use Prim.Native.Nat.{_<_};
 ghost use Rattle.format.specs.Format.{codeLimit, tableCount, arityAt, tableAt, bookOf};
 ghost use Rattle.format.specs.Promise.{Promise, place};
 ghost use Rattle.book.specs.View.{Numbered};
-ghost use Rattle.consistency.specs.Rows.{columnOf, firstIn};
+ghost use Rattle.consistency.specs.Rows.{columnOf, firstSupportIn};
 ghost use Rattle.filter.specs.Words.{domainOf};
 ghost use Rattle.filter.specs.Support.{InTable, shapeAt};
-ghost use Rattle.filter.specs.Rows.{behind, behindOf};
-use super::Behind;
+ghost use Rattle.filter.specs.Rows.{supporting, supportingRow};
+use super::Supporting;
 use super::WORDS;
 use super::pass::case_marks;
 use super::support::Found;
@@ -46,21 +46,22 @@ fn column_of(book: &[u8], at: usize, f: usize) -> usize
 }
 
 // The first row of the table at `at` that supports code c in column j in case 0.
-fn first_row(book: &[u8], marks: &[u64; WORDS], at: usize, j: usize, c: usize) -> Behind
+fn first_support(book: &[u8], marks: &[u64; WORDS], at: usize, j: usize, c: usize) -> Supporting
     requires { ⌜ InTable (now book) (shapeAt (now book) at) × ((j < arityAt (now book) at) × (c < codeLimit)) ⌝ }
-    ensures { λ r. ⌜ r ≡ behind (firstIn (domainOf (now (marks .entry)) 0) (tableAt (now (book .entry)) at) j c) ⌝ }
+    ensures { λ r. ⌜ r ≡ supporting (firstSupportIn (domainOf (now (marks .entry)) 0) (tableAt (now (book .entry)) at) j c) ⌝ }
 {
     let mut need = [0u64; CODES];
     need[c] = 1;
     match support(book, marks, &need, shape_at(book, at), j, 0) {
-        Found::Row(r, _) => Behind::Row(r),
-        Found::Nothing => Behind::NoRow,
+        Found::Row(r, _) => Supporting::Row(r),
+        Found::Nothing => Supporting::NoRow,
     }
 }
 
-// The row of a table behind a code of a field under these answers: one plain filtering into marks of its own, then the question once.
-pub fn row_behind(
-    book: &[u8],
+// The first row of a table that supports a code of a field under these answers: one plain filtering into marks of its own, then the question
+// once.
+pub fn supporting_row(
+    bytes: &[u8],
     list: usize,
     fields: usize,
     tables: usize,
@@ -68,22 +69,23 @@ pub fn row_behind(
     field: usize,
     code: usize,
     table: usize,
-) -> Behind
-    requires { ⌜ Numbered (now book) list fields tables ⌝ }
-    ensures { λ r. ⌜ r ≡ behindOf (bookOf (now (book .entry))) (now (answers .entry)) field code table ⌝ }
+) -> Supporting
+    requires { ⌜ Numbered (now bytes) list fields tables ⌝ }
+    ensures { λ r. ⌜ r ≡ supportingRow (bookOf (now (bytes .entry))) (now (answers .entry)) field code table ⌝ }
 {
     if tables <= table {
-        return Behind::NoTable;
+        return Supporting::NoColumn;
     }
-    let at = place_of(book, table);
-    let column = column_of(book, at, field);
-    if wide(book[at]) <= column {
-        return Behind::NoTable;
+    let at = place_of(bytes, table);
+    let column = column_of(bytes, at, field);
+    if wide(bytes[at]) <= column {
+        return Supporting::NoColumn;
     }
+    // No field has such a code, and the question has no word for it.
     if CODES <= code {
-        return Behind::NoRow;
+        return Supporting::NoRow;
     }
     let mut marks = [0u64; WORDS];
-    case_marks(book, list, fields, tables, answers, &mut marks);
-    first_row(book, &marks, at, column, code)
+    case_marks(bytes, list, fields, tables, answers, &mut marks);
+    first_support(bytes, &marks, at, column, code)
 }

@@ -7,6 +7,7 @@ ghost use Rattle.consistency.specs.Counts.{bit};
 ghost use Rattle.filter.specs.Queue.{WatchGiven, Watched, SurveyGiven, Surveyed, PropagateGiven, Propagated};
 use super::WORDS;
 use super::revise::sweep;
+use super::support::shape_at;
 use super::support::wide;
 use book::PLACES;
 use book::TABLE_LIMIT;
@@ -35,12 +36,9 @@ pub(crate) fn survey(
     let mut at = 0;
     for i in 0..tables {
         places[i] = at;
-        let arity = wide(book[at]);
-        watch_table(book, watch, at, arity, i);
-        let low = wide(book[at + 1 + arity]);
-        let high = wide(book[at + 2 + arity]);
-        let rows = low + 256 * high;
-        at = at + 3 + arity + rows * arity;
+        let table = shape_at(book, at);
+        watch_table(book, watch, at, table.arity, i);
+        at = table.first + table.rows * table.arity;
     }
 }
 

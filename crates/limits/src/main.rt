@@ -11,8 +11,8 @@ use report::Printed;
 use report::TEXT_LIMIT;
 use sheet::Answer;
 use sheet::Listing;
+use sheet::RowAnswer;
 use sheet::Sheet;
-use sheet::Showing;
 
 // One more than a book may have.
 const BYTES: usize = 32769;
@@ -208,13 +208,13 @@ fn try_table(table: usize) {
     let sheet = Sheet::fresh();
     let shown = sheet.row(&bytes[..n], 0, 0, table);
     print_tried(b"table", table as u64);
-    let showing = shown.answer;
-    match showing {
-        Showing::Unshown(reason, place) => print_refused(sheet::number(reason), place),
-        Showing::NoRow => {
+    let answer = shown.answer;
+    match answer {
+        RowAnswer::Unshown(reason, place) => print_refused(sheet::number(reason), place),
+        RowAnswer::NoRow => {
             io::write_all(STDOUT_FILENO, b": none\n");
         }
-        Showing::Row(row) => {
+        RowAnswer::Row(row) => {
             io::write_all(STDOUT_FILENO, b": row");
             print_number(row as u64);
             io::write_all(STDOUT_FILENO, b"\n");

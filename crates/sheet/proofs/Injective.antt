@@ -13,8 +13,8 @@ use Rattle.sheet.specs.declared.Answer.{Answer}
 use Rattle.sheet.specs.declared.Answer.the-variants.{Done, Refused}
 use Rattle.sheet.specs.declared.Listing.{Listing}
 use Rattle.sheet.specs.declared.Listing.the-variants.{Listed, Unlisted}
-use Rattle.sheet.specs.declared.Showing.{Showing}
-use Rattle.sheet.specs.declared.Showing.the-variants.{Row, NoRow, Unshown}
+use Rattle.sheet.specs.declared.RowAnswer.{RowAnswer}
+use Rattle.sheet.specs.declared.RowAnswer.the-variants.{Row, NoRow, Unshown}
 
 -- the reason of a number from 1 to 19, and of 21
 reasonOf : ℕ → Reason
@@ -82,7 +82,7 @@ shownListing-injective (Unlisted r p) (Listed t n) e = absurd (omega (arith, num
 shownListing-injective (Unlisted r p) (Unlisted r′ p′) e = ap₂ Unlisted (number-injective r r′ (numbers e)) (places e)
 
 -- the answers of row
-pub shownRow-injective : (x y : Showing) → shownRow x ≡ shownRow y → x ≡ y
+pub shownRow-injective : (x y : RowAnswer) → shownRow x ≡ shownRow y → x ≡ y
 shownRow-injective (Row n) (Row n′) e = ap Row (count 1 e)
 shownRow-injective (Row n) NoRow e = let d : _≡_ {A = ℕ} 1 0 = count 0 e in absurd (omega arith)
 shownRow-injective (Row n) (Unshown r p) e = absurd (omega (arith, numbers e, number-some r))

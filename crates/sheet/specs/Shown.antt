@@ -4,16 +4,16 @@ use mathlib.Core.List.{List, [], _∷_}
 use Rattle.format.specs.Reading.{Outcome, accepted, refused}
 use Rattle.calls.specs.Calls.{Result}
 use Rattle.book.specs.Shown as book
-use Rattle.filter.specs.declared.Behind.{Behind}
-use Rattle.filter.specs.declared.Behind.the-variants as filter
+use Rattle.filter.specs.declared.Supporting.{Supporting}
+use Rattle.filter.specs.declared.Supporting.the-variants as filter
 use Rattle.sheet.specs.declared.Reason.{Reason}
 use Rattle.sheet.specs.declared.Reason.the-variants.{Book, Fault, Field, Code, NoAnswer, Room, Length, Table}
 use Rattle.sheet.specs.declared.Answer.{Answer}
 use Rattle.sheet.specs.declared.Answer.the-variants.{Done, Refused}
 use Rattle.sheet.specs.declared.Listing.{Listing}
 use Rattle.sheet.specs.declared.Listing.the-variants.{Listed, Unlisted}
-use Rattle.sheet.specs.declared.Showing.{Showing}
-use Rattle.sheet.specs.declared.Showing.the-variants.{Row, NoRow, Unshown}
+use Rattle.sheet.specs.declared.RowAnswer.{RowAnswer}
+use Rattle.sheet.specs.declared.RowAnswer.the-variants.{Row, NoRow, Unshown}
 use Rattle.sheet.specs.declared.Handed.{Handed}
 use Rattle.sheet.specs.declared.HandedList.{HandedList}
 use Rattle.sheet.specs.declared.HandedRow.{HandedRow}
@@ -40,16 +40,16 @@ shownListing (Listed total struck) = accepted (total ∷ struck ∷ [])
 shownListing (Unlisted reason place) = refused 2 (numberOf reason) place
 
 -- the answer of row: 1 and the row's number, or 0 and 0 for none
-abbrev pub shownRow : Showing → Outcome
+abbrev pub shownRow : RowAnswer → Outcome
 shownRow (Row number) = accepted (1 ∷ number ∷ [])
 shownRow NoRow = accepted (0 ∷ 0 ∷ [])
 shownRow (Unshown reason place) = refused 2 (numberOf reason) place
 
--- what the filter found, as an answer: 21 where there is no such table with the field
-abbrev pub showingOf : Behind → Showing
-showingOf (filter.Row number) = Row number
-showingOf filter.NoRow = NoRow
-showingOf filter.NoTable = Unshown Table 0
+-- what the filter found, as an answer: 21 where the table has no column for the field
+abbrev pub rowAnswerOf : Supporting → RowAnswer
+rowAnswerOf (filter.Row number) = Row number
+rowAnswerOf filter.NoRow = NoRow
+rowAnswerOf filter.NoColumn = Unshown Table 0
 
 -- what a call left behind: its answer, the sheet handed back, and the contents of the buffer lent
 abbrev pub resultOf : Handed → List ℕ → Result

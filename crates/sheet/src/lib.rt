@@ -4,12 +4,12 @@ ghost use mathlib.Core.List.{List, []};
 ghost use Prim.Native.Nat.{ℕ};
 ghost use Rattle.calls.specs.Calls.{freshSheet, turned, entered, withdrawn, cleared, filtered, alternatives, stored, loaded, rowBehind};
 ghost use Rattle.calls.specs.Histories.{callsIn, sheetAfter};
-ghost use Rattle.sheet.specs.Shown.{numberOf, resultOf, listResultOf, showingOf, rowResultOf};
+ghost use Rattle.sheet.specs.Shown.{numberOf, resultOf, listResultOf, rowAnswerOf, rowResultOf};
 ghost use Rattle.sheet.specs.Replayed.{Replayed};
 use book::Checked;
 use book::PLACES;
 use book::Refusal;
-use filter::Behind;
+use filter::Supporting;
 use filter::WORDS;
 use opened::Opened;
 
@@ -76,7 +76,7 @@ pub struct HandedList {
 }
 
 // The answer of row: the number of a row, or that there is none.
-pub enum Showing {
+pub enum RowAnswer {
     Row(usize),
     NoRow,
     Unshown(Reason, usize),
@@ -84,7 +84,7 @@ pub enum Showing {
 
 // The answer of row beside the sheet that it hands back.
 pub struct HandedRow {
-    pub answer: Showing,
+    pub answer: RowAnswer,
     pub sheet: Sheet,
 }
 
@@ -113,19 +113,19 @@ fn refuse_row(sheet: Sheet, reason: Reason, place: usize) -> HandedRow
     ensures { λ r. ⌜ rowResultOf r ≡ turned 2 (sheet .places) [] (numberOf reason) place ⌝ }
 {
     HandedRow {
-        answer: Showing::Unshown(reason, place),
+        answer: RowAnswer::Unshown(reason, place),
         sheet: sheet,
     }
 }
 
-// What the filter found, as the answer of row: 21 where there is no such table with the field.
-fn row_answer(behind: Behind) -> Showing
-    ensures { λ r. ⌜ r ≡ showingOf behind ⌝ }
+// What the filter found, as the answer of row: 21 where the table has no column for the field.
+fn row_answer(found: Supporting) -> RowAnswer
+    ensures { λ r. ⌜ r ≡ rowAnswerOf found ⌝ }
 {
-    match behind {
-        Behind::Row(number) => Showing::Row(number),
-        Behind::NoRow => Showing::NoRow,
-        Behind::NoTable => Showing::Unshown(Reason::Table, 0),
+    match found {
+        Supporting::Row(number) => RowAnswer::Row(number),
+        Supporting::NoRow => RowAnswer::NoRow,
+        Supporting::NoColumn => RowAnswer::Unshown(Reason::Table, 0),
     }
 }
 
@@ -280,7 +280,7 @@ impl Sheet {
         }
     }
 
-    // The row behind a code: the first row of a table that has the code in the field's column and only standing codes beside it.
+    // The row behind a code: the first row of a table that has the code in the field's column and only standing codes beside it, or none.
     pub fn row(self, book: &[u8], field: usize, code: usize, table: usize) -> HandedRow
         ensures { λ r. ⌜ rowResultOf r ≡ rowBehind (now (book .entry)) (self .places) field code table ⌝ }
     {
@@ -301,7 +301,7 @@ impl Sheet {
                 if codes <= code {
                     return refuse_row(self, Reason::Code, 0);
                 }
-                let behind = filter::row_behind(
+                let found = filter::supporting_row(
                     book,
                     list,
                     fields,
@@ -311,7 +311,7 @@ impl Sheet {
                     code,
                     table,
                 );
-                let answer = row_answer(behind);
+                let answer = row_answer(found);
                 HandedRow {
                     answer: answer,
                     sheet: self,

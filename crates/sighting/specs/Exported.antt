@@ -1,4 +1,4 @@
--- What an exported call leaves behind, in document 01's numbers: the number returned, the sheet, the buffer lent, and the cells of the
+-- What an exported call leaves behind, in the papers' numbers: the number returned, the sheet, the buffer lent, and the cells of the
 -- outcome, which have the place and then the counts. Assumes nothing.
 use Prim.Native.Nat.{ℕ}
 use mathlib.Core.Path.{_≡_}

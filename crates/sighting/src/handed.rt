@@ -10,7 +10,7 @@ use sheet::Handed;
 use sheet::HandedList;
 use sheet::Listing;
 use sheet::Reason;
-use sheet::Showing;
+use sheet::RowAnswer;
 
 // The answer of a call that counts nothing.
 pub(crate) fn tell(answer: Answer, outcome: &mut [u64; 1]) -> u64
@@ -50,19 +50,19 @@ pub(crate) fn tell_list(listing: Listing, outcome: &mut [u64; 3]) -> u64
 }
 
 // The answer of the call that shows a row: whether there is one, and its number.
-pub(crate) fn tell_row(showing: Showing, outcome: &mut [u64; 3]) -> u64
-    ensures { λ r. ⌜ Tells r (now (outcome .exit)) (shownRow showing) ⌝ }
+pub(crate) fn tell_row(answer: RowAnswer, outcome: &mut [u64; 3]) -> u64
+    ensures { λ r. ⌜ Tells r (now (outcome .exit)) (shownRow answer) ⌝ }
 {
-    match showing {
-        Showing::Row(row) => {
+    match answer {
+        RowAnswer::Row(row) => {
             *outcome = [0, 1, row as u64];
             0
         }
-        Showing::NoRow => {
+        RowAnswer::NoRow => {
             *outcome = [0, 0, 0];
             0
         }
-        Showing::Unshown(reason, place) => tell_refused(reason, place, outcome),
+        RowAnswer::Unshown(reason, place) => tell_refused(reason, place, outcome),
     }
 }
 

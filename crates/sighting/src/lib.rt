@@ -188,8 +188,8 @@ pub extern "C" fn sighting_row(
 {
     let given = Sheet { places: *sheet };
     let handed = given.row(book, field, code, table);
-    let showing = handed.answer;
-    tell_row(showing, outcome)
+    let answer = handed.answer;
+    tell_row(answer, outcome)
 }
 
 // Reads the stored form of a sheet; a refusal leaves a fresh one. Cells: place.

@@ -2,8 +2,8 @@
 use mathlib.Core.Path.{_≡_, ap, _∙_}
 use Prim.Native.Nat.{_≤_, _-_}
 use Rattle.format.specs.Promise.{place}
-use Rattle.filter.proofs.Surveys.{place-zero}
-use Rattle.filter.proofs.Lookups.{table-before, end-before, place-on}
+use Rattle.filter.proofs.Shapes.{end-at, place-zero, place-next}
+use Rattle.filter.proofs.Lookups.{table-before}
 use native.Mathlib.Omega.{arith}
 use Rattle.filter.proofs.lookup.place_of.Statement.{statement}
 use Rattle.filter.proofs.lookup.place_of.Tie as tie
@@ -21,10 +21,10 @@ shape-at-requires : tie.Need-shape-at-requires Inv-loop μ-loop
 shape-at-requires c κs = table-before (c .before .before .before .pre .0) (c .before .before .before .pre .1) (c .loop-test .taken) (c .before .loop .inv .1)
 
 mul-at : tie.Need-mul-at Inv-loop μ-loop
-mul-at c = omega (arith, end-before (c .before .before .before .before .before .pre .0) (c .before .before .before .before .before .pre .1) (c .before .before .loop-test .taken) (c .before .before .before .loop .inv .1) (c .before .shape-at .ensures), c .before .before .before .before .before .pre .0 .short)
+mul-at c = omega (arith, end-at (table-before (c .before .before .before .before .before .pre .0) (c .before .before .before .before .before .pre .1) (c .before .before .loop-test .taken) (c .before .before .before .loop .inv .1)) (c .before .shape-at .ensures), c .before .before .before .before .before .pre .0 .short)
 
 add-at : tie.Need-add-at Inv-loop μ-loop
-add-at c = omega (arith, end-before (c .before .before .before .before .before .before .pre .0) (c .before .before .before .before .before .before .pre .1) (c .before .before .before .loop-test .taken) (c .before .before .before .before .loop .inv .1) (c .before .before .shape-at .ensures), c .before .before .before .before .before .before .pre .0 .short)
+add-at c = omega (arith, end-at (table-before (c .before .before .before .before .before .before .pre .0) (c .before .before .before .before .before .before .pre .1) (c .before .before .before .loop-test .taken) (c .before .before .before .before .loop .inv .1)) (c .before .before .shape-at .ensures), c .before .before .before .before .before .before .pre .0 .short)
 
 add-counter : tie.Need-add-counter Inv-loop μ-loop
 add-counter c = omega arith
@@ -33,7 +33,7 @@ loop-less : tie.Need-loop-less Inv-loop μ-loop
 loop-less c = omega arith
 
 loop-again : tie.Need-loop-again Inv-loop μ-loop
-loop-again c = (omega arith, place-on (c .before .before .before .before .before .before .pre .0) (c .before .before .before .before .before .before .pre .1) (c .before .before .before .loop-test .taken) (c .before .before .before .before .loop .inv .1) (c .before .before .shape-at .ensures))
+loop-again c = (omega arith, place-next _ _ _ (c .before .before .before .before .loop .inv .1) _ (c .before .before .shape-at .ensures))
 
 returns : tie.Need-returns Inv-loop μ-loop
 returns c = c .before .loop .inv .1 ∙ ap (place _) (omega (arith, c .before .loop .inv .0, c .loop-test .left))

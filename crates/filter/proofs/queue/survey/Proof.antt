@@ -1,8 +1,10 @@
 -- `filter::queue::survey` meets its contract. The invariant: the next table's place, and all that the tables passed have. Assumes nothing.
-use mathlib.Core.Path.{_≡_, refl, ap₂}
-use Prim.Native.Nat.{ℕ, _≤_, _+_, _-_, _*_}
+use mathlib.Core.Path.{_≡_, ap}
+use Prim.Native.Nat.{_≤_, _-_}
 use Rattle.format.specs.Promise.{place}
-use Rattle.filter.proofs.Surveys.{SurveyedTo, surveyed-none, place-zero, place-small, head-in, watch-given, end-in, place-more, surveyed-more, surveyed-all}
+use Rattle.filter.specs.declared.support.Shape.{Shape}
+use Rattle.filter.proofs.Shapes.{end-at, place-zero, place-next}
+use Rattle.filter.proofs.Surveys.{SurveyedTo, surveyed-none, place-small, table-surveyed, watch-given, surveyed-more, surveyed-all}
 use native.Mathlib.Omega.{arith}
 use Rattle.filter.proofs.queue.survey.Statement.{statement}
 use Rattle.filter.proofs.queue.survey.Tie as tie
@@ -22,56 +24,17 @@ mul-places c = omega (arith, place-small (c .before .before .before .pre) _ _ (c
 element-write-places : tie.Need-element-write-places Inv-loop μ-loop
 element-write-places c = place-small (c .before .before .before .pre) _ _ (c .loop-test .taken) (c .before .loop .inv .1)
 
-shared-slice-read-wide : tie.Need-shared-slice-read-wide Inv-loop μ-loop
-shared-slice-read-wide c = omega (arith, head-in (c .before .before .before .before .pre) _ _ (c .before .loop-test .taken) (c .before .before .loop .inv .1) _ refl)
-
-wide-requires : tie.Need-wide-requires Inv-loop μ-loop
-wide-requires c κs = tt
+shape-at-requires : tie.Need-shape-at-requires Inv-loop μ-loop
+shape-at-requires c κs = table-surveyed (c .before .before .before .pre) _ _ (c .loop-test .taken) (c .before .loop .inv .1)
 
 watch-table-requires : tie.Need-watch-table-requires Inv-loop μ-loop
-watch-table-requires c κs = watch-given (c .before .before .before .before .before .before .pre) _ _ (c .before .before .before .loop-test .taken) (c .before .before .before .before .loop .inv .1) _ (c .before .wide .ensures) (c .before .before .before .before .loop .inv .2)
-
-add-wide : tie.Need-add-wide Inv-loop μ-loop
-add-wide c = omega (arith, head-in (c .before .before .before .before .before .before .before .pre) _ _ (c .before .before .before .before .loop-test .taken) (c .before .before .before .before .before .loop .inv .1) _ (c .before .before .wide .ensures), c .before .before .before .before .before .before .before .pre .promise .short)
-
-add-wide-2 : tie.Need-add-wide-2 Inv-loop μ-loop
-add-wide-2 c = omega (arith, head-in (c .before .before .before .before .before .before .before .pre) _ _ (c .before .before .before .before .loop-test .taken) (c .before .before .before .before .before .loop .inv .1) _ (c .before .before .wide .ensures), c .before .before .before .before .before .before .before .pre .promise .short)
-
-shared-slice-read-wide-2 : tie.Need-shared-slice-read-wide-2 Inv-loop μ-loop
-shared-slice-read-wide-2 c = omega (arith, head-in (c .before .before .before .before .before .before .before .before .pre) _ _ (c .before .before .before .before .before .loop-test .taken) (c .before .before .before .before .before .before .loop .inv .1) _ (c .before .before .before .wide .ensures))
-
-wide-requires-2 : tie.Need-wide-requires-2 Inv-loop μ-loop
-wide-requires-2 c κs = tt
-
-add-wide-3 : tie.Need-add-wide-3 Inv-loop μ-loop
-add-wide-3 c = omega (arith, head-in (c .before .before .before .before .before .before .before .before .before .pre) _ _ (c .before .before .before .before .before .before .loop-test .taken) (c .before .before .before .before .before .before .before .loop .inv .1) _ (c .before .before .before .before .wide .ensures), c .before .before .before .before .before .before .before .before .before .pre .promise .short)
-
-add-wide-4 : tie.Need-add-wide-4 Inv-loop μ-loop
-add-wide-4 c = omega (arith, head-in (c .before .before .before .before .before .before .before .before .before .pre) _ _ (c .before .before .before .before .before .before .loop-test .taken) (c .before .before .before .before .before .before .before .loop .inv .1) _ (c .before .before .before .before .wide .ensures), c .before .before .before .before .before .before .before .before .before .pre .promise .short)
-
-shared-slice-read-wide-3 : tie.Need-shared-slice-read-wide-3 Inv-loop μ-loop
-shared-slice-read-wide-3 c = omega (arith, head-in (c .before .before .before .before .before .before .before .before .before .before .pre) _ _ (c .before .before .before .before .before .before .before .loop-test .taken) (c .before .before .before .before .before .before .before .before .loop .inv .1) _ (c .before .before .before .before .before .wide .ensures))
-
-wide-requires-3 : tie.Need-wide-requires-3 Inv-loop μ-loop
-wide-requires-3 c κs = tt
-
-mul-rows : tie.Need-mul-rows Inv-loop μ-loop
-mul-rows c = omega (arith, c .wide3 .ensures, c .before .before .before .before .before .before .before .before .before .before .shared-slice-known .given (c .before .before .before .before .before .before .before .before .before .loop .at + 2 + c .before .before .before .before .before .before .wide .result))
-
-add-rows : tie.Need-add-rows Inv-loop μ-loop
-add-rows c = omega (arith, c .wide3 .ensures, c .before .before .before .before .before .before .before .before .before .before .shared-slice-known .given (c .before .before .before .before .before .before .before .before .before .loop .at + 2 + c .before .before .before .before .before .before .wide .result), c .before .before .wide2 .ensures, c .before .before .before .before .before .before .before .before .before .before .shared-slice-known .given (c .before .before .before .before .before .before .before .before .before .loop .at + 1 + c .before .before .before .before .before .before .wide .result))
-
-add-at : tie.Need-add-at Inv-loop μ-loop
-add-at c = omega (arith, head-in (c .before .before .before .before .before .before .before .before .before .before .before .pre) _ _ (c .before .before .before .before .before .before .before .before .loop-test .taken) (c .before .before .before .before .before .before .before .before .before .loop .inv .1) _ (c .before .before .before .before .before .before .wide .ensures), c .before .before .before .before .before .before .before .before .before .before .before .pre .promise .short)
-
-add-at-2 : tie.Need-add-at-2 Inv-loop μ-loop
-add-at-2 c = omega (arith, head-in (c .before .before .before .before .before .before .before .before .before .before .before .pre) _ _ (c .before .before .before .before .before .before .before .before .loop-test .taken) (c .before .before .before .before .before .before .before .before .before .loop .inv .1) _ (c .before .before .before .before .before .before .wide .ensures), c .before .before .before .before .before .before .before .before .before .before .before .pre .promise .short)
+watch-table-requires c κs = watch-given (c .before .before .before .before .before .pre) _ _ (c .before .before .loop-test .taken) (c .before .before .before .loop .inv .1) _ (ap (λ (t : Shape). t .arity) (c .before .shape-at .ensures)) (c .before .before .before .loop .inv .2)
 
 mul-at : tie.Need-mul-at Inv-loop μ-loop
-mul-at c = omega (arith, end-in (c .before .before .before .before .before .before .before .before .before .before .before .pre) _ _ (c .before .before .before .before .before .before .before .before .loop-test .taken) (c .before .before .before .before .before .before .before .before .before .loop .inv .1) _ (c .before .before .before .before .before .before .wide .ensures) _ (ap₂ (λ (y z : ℕ). y + 256 * z) (c .before .before .wide2 .ensures) (c .wide3 .ensures)), c .before .before .before .before .before .before .before .before .before .before .before .pre .promise .short)
+mul-at c = omega (arith, end-at (table-surveyed (c .before .before .before .before .before .before .before .pre) _ _ (c .before .before .before .before .loop-test .taken) (c .before .before .before .before .before .loop .inv .1)) (c .before .before .before .shape-at .ensures), c .before .before .before .before .before .before .before .pre .promise .short)
 
-add-at-3 : tie.Need-add-at-3 Inv-loop μ-loop
-add-at-3 c = omega (arith, end-in (c .before .before .before .before .before .before .before .before .before .before .before .pre) _ _ (c .before .before .before .before .before .before .before .before .loop-test .taken) (c .before .before .before .before .before .before .before .before .before .loop .inv .1) _ (c .before .before .before .before .before .before .wide .ensures) _ (ap₂ (λ (y z : ℕ). y + 256 * z) (c .before .before .wide2 .ensures) (c .wide3 .ensures)), c .before .before .before .before .before .before .before .before .before .before .before .pre .promise .short)
+add-at : tie.Need-add-at Inv-loop μ-loop
+add-at c = omega (arith, end-at (table-surveyed (c .before .before .before .before .before .before .before .before .pre) _ _ (c .before .before .before .before .before .loop-test .taken) (c .before .before .before .before .before .before .loop .inv .1)) (c .before .before .before .before .shape-at .ensures), c .before .before .before .before .before .before .before .before .pre .promise .short)
 
 add-i : tie.Need-add-i Inv-loop μ-loop
 add-i c = omega arith
@@ -82,8 +45,8 @@ loop-less c = omega arith
 loop-again : tie.Need-loop-again Inv-loop μ-loop
 loop-again c = (
   omega arith,
-  place-more (c .before .before .before .before .before .before .before .before .before .before .before .pre) _ _ (c .before .before .before .before .before .before .before .before .loop-test .taken) (c .before .before .before .before .before .before .before .before .before .loop .inv .1) _ (c .before .before .before .before .before .before .wide .ensures) _ (ap₂ (λ (y z : ℕ). y + 256 * z) (c .before .before .wide2 .ensures) (c .wide3 .ensures)),
-  surveyed-more (c .before .before .before .before .before .before .before .before .before .before .before .pre) _ _ (c .before .before .before .before .before .before .before .before .loop-test .taken) (c .before .before .before .before .before .before .before .before .before .loop .inv .1) _ (c .before .before .before .before .before .before .wide .ensures) _ _ _ (c .before .before .before .before .before .before .before .before .before .loop .inv .2) (c .before .before .before .before .watch-table .ensures),
+  place-next _ _ _ (c .before .before .before .before .before .before .loop .inv .1) _ (c .before .before .before .before .shape-at .ensures),
+  surveyed-more (c .before .before .before .before .before .before .before .before .pre) _ _ (c .before .before .before .before .before .loop-test .taken) (c .before .before .before .before .before .before .loop .inv .1) _ (ap (λ (t : Shape). t .arity) (c .before .before .before .before .shape-at .ensures)) _ _ _ (c .before .before .before .before .before .before .loop .inv .2) (c .before .before .watch-table .ensures),
 )
 
 returns : tie.Need-returns Inv-loop μ-loop
@@ -98,23 +61,10 @@ survey-spec =
     loop-holds
     mul-places
     element-write-places
-    shared-slice-read-wide
-    wide-requires
+    shape-at-requires
     watch-table-requires
-    add-wide
-    add-wide-2
-    shared-slice-read-wide-2
-    wide-requires-2
-    add-wide-3
-    add-wide-4
-    shared-slice-read-wide-3
-    wide-requires-3
-    mul-rows
-    add-rows
-    add-at
-    add-at-2
     mul-at
-    add-at-3
+    add-at
     add-i
     loop-less
     loop-again

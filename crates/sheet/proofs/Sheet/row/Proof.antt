@@ -2,10 +2,10 @@
 use mathlib.Core.Path.{ap, _∙_, subst}
 use mathlib.Core.List.{[]}
 use Prim.Native.Nat.{ℕ, _≤_, _<_}
-use Rattle.sheet.specs.declared.Showing.{Showing}
+use Rattle.sheet.specs.declared.RowAnswer.{RowAnswer}
 use Rattle.sheet.specs.Shown.{shownRow}
 use Rattle.sheet.proofs.Openings.{fields-end, opens-viewed, opens-ready, opens-turned}
-use Rattle.sheet.proofs.RowCases.{row-turned, row-15, row-16, row-done}
+use Rattle.sheet.proofs.RowCases.{rowBehind-turned, rowBehind-15, rowBehind-16, rowBehind-done}
 use native.Mathlib.Omega.{arith}
 use borrow.Author.Needs.{needs}
 use Rattle.sheet.proofs.Sheet.row.Statement.{statement}
@@ -28,7 +28,7 @@ refuse-row-requires-2 c κs = search needs
 
 returns : tie.Need-returns
 returns c = let o = opens-ready _ _ _ (c .before .before .before .before .before .«open» .ensures) _ _ _ _ (c .before .before .before .opened2 .given .1) in
-    c .refuse-row2 .ensures ∙ row-15 _ _ _ _ _ _ _ o (c .before .if1 .taken)
+    c .refuse-row2 .ensures ∙ rowBehind-15 _ _ _ _ _ _ _ o (c .before .if1 .taken)
 
 add-wide : tie.Need-add-wide
 add-wide c = let o = opens-ready _ _ _ (c .before .before .before .before .«open» .ensures) _ _ _ _ (c .before .before .opened2 .given .1) in
@@ -46,21 +46,21 @@ refuse-row-requires-3 c κs = search needs
 
 returns-2 : tie.Need-returns-2
 returns-2 c = let o = opens-ready _ _ _ (c .before .before .before .before .before .before .before .before .«open» .ensures) _ _ _ _ (c .before .before .before .before .before .before .opened2 .given .1) in
-    c .refuse-row3 .ensures ∙ row-16 _ _ _ _ _ _ _ o (c .before .before .before .before .if1 .left) (subst (λ (n : ℕ). n ≤ c .before .before .before .before .before .before .before .before .before .before .before .args .code) (c .before .before .wide .ensures) (c .before .if2 .taken))
+    c .refuse-row3 .ensures ∙ rowBehind-16 _ _ _ _ _ _ _ o (c .before .before .before .before .if1 .left) (subst (λ (n : ℕ). n ≤ c .before .before .before .before .before .before .before .before .before .before .before .args .code) (c .before .before .wide .ensures) (c .before .if2 .taken))
 
-row-behind-requires : tie.Need-row-behind-requires
-row-behind-requires c κs = opens-viewed _ _ _ (c .before .before .before .before .before .before .before .before .«open» .ensures) _ _ _ _ (c .before .before .before .before .before .before .opened2 .given .1) .numbers
+supporting-row-requires : tie.Need-supporting-row-requires
+supporting-row-requires c κs = opens-viewed _ _ _ (c .before .before .before .before .before .before .before .before .«open» .ensures) _ _ _ _ (c .before .before .before .before .before .before .opened2 .given .1) .numbers
 
 row-answer-requires : tie.Need-row-answer-requires
 row-answer-requires c κs = search needs
 
 returns-3 : tie.Need-returns-3
-returns-3 c = c .refuse-row .ensures ∙ row-turned _ _ _ _ _ _ _ (opens-turned _ _ _ (c .before .before .before .before .«open» .ensures) _ _ (c .before .before .opened .given .1))
+returns-3 c = c .refuse-row .ensures ∙ rowBehind-turned _ _ _ _ _ _ _ (opens-turned _ _ _ (c .before .before .before .before .«open» .ensures) _ _ (c .before .before .opened .given .1))
 
 returns-4 : tie.Need-returns-4
 returns-4 c = let o = opens-ready _ _ _ (c .before .before .before .before .before .before .before .before .before .before .«open» .ensures) _ _ _ _ (c .before .before .before .before .before .before .before .before .opened2 .given .1) in
-    ap (λ (x : Showing). record { outcome = shownRow x; sheet = c .before .before .before .before .before .before .before .before .before .before .before .before .before .args .self .places; buffer = [] }) (c .row-answer .ensures)
-    ∙ row-done _ _ _ _ _ _ _ o (c .before .before .before .before .before .before .if1 .left) (subst (λ (n : ℕ). c .before .before .before .before .before .before .before .before .before .before .before .before .before .args .code < n) (c .before .before .before .before .wide .ensures) (c .before .before .before .if2 .left)) _ (c .before .row-behind .ensures)
+    ap (λ (x : RowAnswer). record { outcome = shownRow x; sheet = c .before .before .before .before .before .before .before .before .before .before .before .before .before .args .self .places; buffer = [] }) (c .row-answer .ensures)
+    ∙ rowBehind-done _ _ _ _ _ _ _ o (c .before .before .before .before .before .before .if1 .left) (subst (λ (n : ℕ). c .before .before .before .before .before .before .before .before .before .before .before .before .before .args .code < n) (c .before .before .before .before .wide .ensures) (c .before .before .before .if2 .left)) _ (c .before .supporting-row .ensures)
 
 pub row-spec : {M : Type 1} → statement M
 row-spec =
@@ -77,7 +77,7 @@ row-spec =
     wide-requires
     refuse-row-requires-3
     returns-2
-    row-behind-requires
+    supporting-row-requires
     row-answer-requires
     returns-3
     returns-4)

@@ -6,34 +6,34 @@ use borrow.Author.Needs.{needs}
 use Rattle.sighting.proofs.handed.tell_row.Statement.{statement}
 use Rattle.sighting.proofs.handed.tell_row.Tie as tie
 
-enum-known-showing : tie.Need-enum-known-showing
-enum-known-showing c = search needs
+enum-known-answer : tie.Need-enum-known-answer
+enum-known-answer c = search needs
 
 enum-told : tie.Need-enum-told
 enum-told c = search needs
 
-enum-known-showing-2 : tie.Need-enum-known-showing-2
-enum-known-showing-2 c = search needs
+enum-known-answer-2 : tie.Need-enum-known-answer-2
+enum-known-answer-2 c = search needs
 
 tell-refused-requires : tie.Need-tell-refused-requires
 tell-refused-requires c κs = search needs
 
 returns : tie.Need-returns
-returns c = tells-along (record { number-is = refl; cells-are = refl }) (sym (ap shownRow (c .before .before .showing .given .1)))
+returns c = tells-along (record { number-is = refl; cells-are = refl }) (sym (ap shownRow (c .before .before .answer .given .1)))
 
 returns-2 : tie.Need-returns-2
 returns-2 c = tells-along (record { number-is = refl; cells-are = refl }) (sym (ap shownRow (c .before .enum-told .given .1)))
 
 returns-3 : tie.Need-returns-3
-returns-3 c = tells-along (c .tell-refused .ensures) (sym (ap shownRow (c .before .before .before .showing2 .given .1)))
+returns-3 c = tells-along (c .tell-refused .ensures) (sym (ap shownRow (c .before .before .before .answer2 .given .1)))
 
 pub tell-row-spec : {M : Type 1} → statement M
 tell-row-spec =
     tie.close
     (tie.spec
-    enum-known-showing
+    enum-known-answer
     enum-told
-    enum-known-showing-2
+    enum-known-answer-2
     tell-refused-requires
     returns
     returns-2

@@ -1,11 +1,11 @@
--- `lookup::row_behind` meets its contract: no such table, the field not in it, a code that no field can have, and the question. Assumes nothing.
+-- `lookup::supporting_row` meets its contract: no such table, the field not in it, a code that no field can have, and the question. Assumes nothing.
 use mathlib.Core.Path.{refl}
 use Rattle.filter.proofs.Shapes.{head-in}
 use Rattle.filter.proofs.Lookups.{no-table, table-here, not-in, code-large, row-given}
 use native.Mathlib.Omega.{arith}
 use borrow.Author.Needs.{needs}
-use Rattle.filter.proofs.lookup.row_behind.Statement.{statement}
-use Rattle.filter.proofs.lookup.row_behind.Tie as tie
+use Rattle.filter.proofs.lookup.supporting_row.Statement.{statement}
+use Rattle.filter.proofs.lookup.supporting_row.Tie as tie
 
 returns : tie.Need-returns
 returns c = no-table (c .before .before .pre) _ _ _ _ (c .if1 .taken)
@@ -31,14 +31,14 @@ returns-3 c = code-large (c .before .before .before .before .before .before .bef
 case-marks-requires : tie.Need-case-marks-requires
 case-marks-requires c κs = ((c .before .before .before .before .before .before .before .before .before .pre), refl)
 
-first-row-requires : tie.Need-first-row-requires
-first-row-requires c κs = (table-here (c .before .before .before .before .before .before .before .before .before .before .before .pre) (c .before .before .before .before .before .before .before .before .before .if1 .left) (c .before .before .before .before .before .before .before .before .place-of .ensures), (omega (arith, c .before .before .before .before .before .wide .ensures, c .before .before .before .before .if2 .left), c .before .before .before .if3 .left))
+first-support-requires : tie.Need-first-support-requires
+first-support-requires c κs = (table-here (c .before .before .before .before .before .before .before .before .before .before .before .pre) (c .before .before .before .before .before .before .before .before .before .if1 .left) (c .before .before .before .before .before .before .before .before .place-of .ensures), (omega (arith, c .before .before .before .before .before .wide .ensures, c .before .before .before .before .if2 .left), c .before .before .before .if3 .left))
 
 returns-4 : tie.Need-returns-4
-returns-4 c = row-given (c .before .before .before .before .before .before .before .before .before .before .before .before .pre) (c .before .before .before .before .before .before .before .before .before .before .if1 .left) (c .before .before .before .before .before .before .before .before .before .place-of .ensures) _ _ _ (c .before .before .before .before .before .before .wide .ensures) (c .before .before .before .before .before .before .before .before .column-of .ensures) (c .before .before .before .before .before .if2 .left) (c .before .before .case-marks .ensures) (c .first-row .ensures)
+returns-4 c = row-given (c .before .before .before .before .before .before .before .before .before .before .before .before .pre) (c .before .before .before .before .before .before .before .before .before .before .if1 .left) (c .before .before .before .before .before .before .before .before .before .place-of .ensures) _ _ _ (c .before .before .before .before .before .before .wide .ensures) (c .before .before .before .before .before .before .before .before .column-of .ensures) (c .before .before .before .before .before .if2 .left) (c .before .before .case-marks .ensures) (c .first-support .ensures)
 
-pub row-behind-spec : {M : Type 1} → statement M
-row-behind-spec =
+pub supporting-row-spec : {M : Type 1} → statement M
+supporting-row-spec =
     tie.close
     (tie.spec
     returns
@@ -49,5 +49,5 @@ row-behind-spec =
     returns-2
     returns-3
     case-marks-requires
-    first-row-requires
+    first-support-requires
     returns-4)

@@ -1,8 +1,8 @@
--- `lookup::first_row` meets its contract: the question asked for one code in case 0, from row 0. Assumes nothing.
+-- `lookup::first_support` meets its contract: the question asked for one code in case 0, from row 0. Assumes nothing.
 use Rattle.filter.proofs.Lookups.{asks-first, row-answer, none-answer}
 use borrow.Author.Needs.{needs}
-use Rattle.filter.proofs.lookup.first_row.Statement.{statement}
-use Rattle.filter.proofs.lookup.first_row.Tie as tie
+use Rattle.filter.proofs.lookup.first_support.Statement.{statement}
+use Rattle.filter.proofs.lookup.first_support.Tie as tie
 
 mul-need : tie.Need-mul-need
 mul-need c = search needs
@@ -28,8 +28,8 @@ returns c = row-answer (c .before .before .before .before .before .before .befor
 returns-2 : tie.Need-returns-2
 returns-2 c = none-answer (c .before .before .before .before .before .before .pre .0) _ _ _ (c .before .before .before .before .before .before .pre .1 .1) (c .before .before .before .shape-at .ensures) _ (c .before .before .support .ensures) (c .enum-told .given .1)
 
-pub first-row-spec : {M : Type 1} → statement M
-first-row-spec =
+pub first-support-spec : {M : Type 1} → statement M
+first-support-spec =
     tie.close
     (tie.spec
     mul-need
