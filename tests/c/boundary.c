@@ -23,11 +23,11 @@ static void expect(const char *what, uint64_t expected, uint64_t got) {
     differences++;
 }
 
-/* Each low byte is a field or a code of the book, so that a number cut to a byte would be accepted. */
+/* Each low byte is a field, a code or a table of the book, so that a number cut to a byte would be accepted. */
 static void wide_numbers(void) {
     uint8_t sheet[SIGHTING_SHEET_BYTES];
     uint32_t numbers[SIGHTING_NUMBERS];
-    uint64_t place[1];
+    uint64_t place[1], found[3];
     memcpy(sheet, answered, sizeof sheet);
     expect("enter field 258", 15, sighting_enter(sheet, book, sizeof book, 258, 0, place));
     expect("enter code 257", 16, sighting_enter(sheet, book, sizeof book, 2, 257, place));
@@ -35,6 +35,11 @@ static void wide_numbers(void) {
     expect("enter field SIZE_MAX", 15, sighting_enter(sheet, book, sizeof book, SIZE_MAX, 0, place));
     expect("relax field 256", 15, sighting_filtered(sheet, book, sizeof book, 256, numbers, SIGHTING_NUMBERS, place));
     expect("relax field 511", 15, sighting_filtered(sheet, book, sizeof book, 511, numbers, SIGHTING_NUMBERS, place));
+    expect("row of field 258", 15, sighting_row(sheet, book, sizeof book, 258, 1, 0, found));
+    expect("row of code 257", 16, sighting_row(sheet, book, sizeof book, 2, 257, 0, found));
+    expect("row of table 256", 21, sighting_row(sheet, book, sizeof book, 2, 1, 256, found));
+    expect("row of table 2^32", 21, sighting_row(sheet, book, sizeof book, 2, 1, (size_t)1 << 32, found));
+    expect("row of SIZE_MAX alone", 15, sighting_row(sheet, book, sizeof book, SIZE_MAX, SIZE_MAX, SIZE_MAX, found));
     expect("the sheet stays", 0, (uint64_t)(memcmp(sheet, answered, sizeof sheet) != 0));
 }
 
@@ -46,8 +51,53 @@ static void read_only_sheet(void) {
     expect("codes that stand in field 2", 2, numbers[2]);
     expect("alternatives", 0, sighting_alternatives(answered, book, sizeof book, pairs, sizeof pairs, found));
     expect("total", 4, found[1]);
+    expect("row", 0, sighting_row(answered, book, sizeof book, 2, 1, 0, found));
+    expect("the row", 1, found[2]);
     expect("store", 0, sighting_store(answered, book, sizeof book, stored, sizeof stored, place));
     expect("stored form", 0, (uint64_t)(memcmp(stored, form, sizeof form) != 0));
+}
+
+/* Asks E1's sheet for a row. All three cells are written, and none beside them. */
+static void ask_row(const char *what, size_t field, size_t code, size_t table, uint64_t number, uint64_t found, uint64_t row) {
+    uint64_t cells[5] = {7, 7, 7, 7, 7};
+    expect(what, number, sighting_row(answered, book, sizeof book, field, code, table, cells + 1));
+    expect("its place", 0, cells[1]);
+    expect("whether it was found", found, cells[2]);
+    expect("its number", row, cells[3]);
+    expect("the cell before", 7, cells[0]);
+    expect("the cell behind", 7, cells[4]);
+}
+
+/* Found, none, and the refusals of a row. */
+static void row_outcome(void) {
+    uint64_t cells[3] = {7, 7, 7};
+    ask_row("the row of field 2", 2, 1, 0, 0, 1, 1);
+    ask_row("the row of a code that does not stand", 2, 2, 1, 0, 1, 2);
+    ask_row("no row of field 0", 0, 1, 0, 0, 0, 0);
+    ask_row("no such field", 3, 3, 2, 15, 0, 0);
+    ask_row("no such code", 0, 2, 2, 16, 0, 0);
+    ask_row("no such table", 0, 0, 2, 21, 0, 0);
+    ask_row("a field not in the table", 1, 0, 0, 21, 0, 0);
+    expect("a row of no book", 2, sighting_row(answered, book, sizeof book - 1, 2, 1, 0, cells));
+    expect("place of 2", 33, cells[0]);
+    expect("found by a refusal", 0, cells[1]);
+    expect("row of a refusal", 0, cells[2]);
+}
+
+/* One field of two codes, and one table of 4,096 rows: no row has code 1, then the last, then row 300 too. */
+static void last_row(void) {
+    static uint8_t bytes[] = {[0] = 1, [3] = 0x10, [4100] = 2, 4, 0x10, 1, 1, 1, 0xE5};
+    uint8_t sheet[SIGHTING_SHEET_BYTES];
+    uint64_t found[3];
+    sighting_fresh(sheet);
+    expect("no row of 4,096", 0, sighting_row(sheet, bytes, sizeof bytes, 0, 1, 0, found));
+    expect("none found", 0, found[1]);
+    bytes[4 + 4095] = 1;
+    expect("row 4,095", 0, sighting_row(sheet, bytes, sizeof bytes, 0, 1, 0, found));
+    expect("row 4,095 found", 4095, found[2]);
+    bytes[4 + 300] = 1;
+    expect("row 300", 0, sighting_row(sheet, bytes, sizeof bytes, 0, 1, 0, found));
+    expect("row 300 found", 300, found[2]);
 }
 
 /* The outcome of a report has two cells, place and length, and both are 0 where the text does not fit. */
@@ -202,6 +252,8 @@ static void sixty_places(void) {
 int main(void) {
     wide_numbers();
     read_only_sheet();
+    row_outcome();
+    last_row();
     report_outcome();
     sixty_fields();
     sixty_places();

@@ -14,6 +14,7 @@ const NO_FIELD: Refusal = Refusal { number: 15, place: 0 };
 const NO_CODE: Refusal = Refusal { number: 16, place: 0 };
 const TOO_FEW: Refusal = Refusal { number: 18, place: 0 };
 const NO_BOOK: Refusal = Refusal { number: 20, place: 0 };
+const NO_TABLE: Refusal = Refusal { number: 21, place: 0 };
 
 /// E1's sheet: field 0 answered by 0 and field 1 by 1.
 fn answered() -> Sheet {
@@ -35,6 +36,9 @@ fn numbers_that_no_byte_holds_are_refused() {
         assert_eq!(sheet.enter(&BOOK, 0, above), Err(NO_CODE), "code {above}");
         assert_eq!(sheet.withdraw(&BOOK, above), Err(NO_FIELD), "field {above}");
         assert_eq!(sheet.filtered(&BOOK, Some(above), &mut [0; NUMBERS]), Err(NO_FIELD), "field {above}");
+        assert_eq!(sheet.row(&BOOK, above, 0, 0), Err(NO_FIELD), "field {above}");
+        assert_eq!(sheet.row(&BOOK, 0, above, 0), Err(NO_CODE), "code {above}");
+        assert_eq!(sheet.row(&BOOK, 0, 0, above), Err(NO_TABLE), "table {above}");
         assert_eq!(sheet, answered());
     }
 }
@@ -45,6 +49,7 @@ fn several_readers_share_a_sheet() {
         let (mut pairs, mut numbers, mut form) = ([0; PAIRS_BYTES], [0; NUMBERS], [0; STORED_BYTES]);
         assert_eq!(sheet.alternatives(&BOOK, &mut pairs), Ok(Alternatives { total: 4, struck: 11 }));
         assert_eq!(sheet.filtered(&BOOK, Some(0), &mut numbers), Ok(()));
+        assert_eq!(sheet.row(&BOOK, 2, 1, 0), Ok(Some(1)));
         assert_eq!(sheet.store(&BOOK, &mut form), Ok(()));
         assert_eq!((numbers[0], &form[..3]), (0b11, &[0, 1, NO_ANSWER][..]));
     });
@@ -67,6 +72,17 @@ fn a_lifted_answer_that_mends_nothing_has_no_lines() {
     assert_eq!(pairs, [0, 1, 1, 0, 7]);
     assert_eq!(sheet.filtered(&book, Some(2), &mut numbers), Ok(()));
     assert_eq!(numbers[..5], [0, 0, 0b11, 0b11, 7]);
+}
+
+/// Row 0 is found and is not none; row 1 comes again behind it; none is no refusal.
+#[test]
+fn a_row_or_none() {
+    let fresh = Sheet::fresh();
+    assert_eq!((fresh.row(&BOOK, 0, 0, 0), fresh.row(&BOOK, 2, 1, 0)), (Ok(Some(0)), Ok(Some(1))));
+    assert_eq!((answered().row(&BOOK, 0, 0, 0), answered().row(&BOOK, 0, 1, 0)), (Ok(Some(1)), Ok(None)));
+    assert_eq!((answered().row(&BOOK, 1, 0, 0), answered().row(&BOOK, 0, 0, 2)), (Err(NO_TABLE), Err(NO_TABLE)));
+    assert_eq!(faulty().row(&BOOK, 0, 0, 0), Err(Refusal { number: 14, place: 0 }));
+    assert_eq!(faulty().row(&BOOK[..34], 0, 0, 0), Err(Refusal { number: 2, place: 33 }));
 }
 
 #[test]

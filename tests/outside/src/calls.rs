@@ -20,6 +20,7 @@ pub enum Call {
     Withdraw { field: usize },
     Filtered { relaxed: usize },
     Alternatives,
+    Row { field: usize, code: usize, table: usize },
     Load { form: Vec<u8> },
     Store,
     Replay { calls: Vec<u8> },
@@ -30,13 +31,20 @@ pub enum Call {
 
 /// The calls that read a book.
 pub const OF_A_BOOK: &[&str] =
-    &["read", "enter", "withdraw", "filtered", "alternatives", "load", "store", "replay", "report", "show"];
+    &["read", "enter", "withdraw", "filtered", "alternatives", "row", "load", "store", "replay", "report", "show"];
 
 /// The calls that are given a sheet with answers.
-pub const OF_A_SHEET: &[&str] = &["enter", "withdraw", "filtered", "alternatives", "store"];
+pub const OF_A_SHEET: &[&str] = &["enter", "withdraw", "filtered", "alternatives", "row", "store"];
 
 /// The calls that are given a field.
-pub const OF_A_FIELD: &[&str] = &["enter", "withdraw", "filtered"];
+pub const OF_A_FIELD: &[&str] = &["enter", "withdraw", "filtered", "row"];
+
+/// The calls that are given a code of it.
+pub const OF_A_CODE: &[&str] = &["enter", "row"];
+
+/// The calls that tell a place.
+pub const TELLING: &[&str] =
+    &["read", "enter", "withdraw", "filtered", "alternatives", "row", "load", "store", "replay", "report", "show", "write"];
 
 /// The calls that list alternatives.
 pub const LISTING: &[&str] = &["alternatives", "replay", "report"];
@@ -54,6 +62,7 @@ impl Call {
             Call::Withdraw { .. } => "withdraw",
             Call::Filtered { .. } => "filtered",
             Call::Alternatives => "alternatives",
+            Call::Row { .. } => "row",
             Call::Load { .. } => "load",
             Call::Store => "store",
             Call::Replay { .. } => "replay",
@@ -68,7 +77,7 @@ impl Call {
         match self {
             Call::Fresh | Call::Clear => 0,
             Call::Read => 5,
-            Call::Alternatives | Call::Replay { .. } => 3,
+            Call::Alternatives | Call::Row { .. } | Call::Replay { .. } => 3,
             Call::Report { .. } | Call::Show | Call::Write { .. } => 2,
             _ => 1,
         }
@@ -91,9 +100,28 @@ impl Call {
         }
     }
 
+    /// The field that the call is given, if it is given one.
+    pub fn field(&self) -> Option<usize> {
+        match *self {
+            Call::Enter { field, .. }
+            | Call::Withdraw { field }
+            | Call::Filtered { relaxed: field }
+            | Call::Row { field, .. } => Some(field),
+            _ => None,
+        }
+    }
+
+    /// The code that the call is given, if it is given one.
+    pub fn code(&self) -> Option<usize> {
+        match *self {
+            Call::Enter { code, .. } | Call::Row { code, .. } => Some(code),
+            _ => None,
+        }
+    }
+
     /// Whether the call only reads the sheet.
     pub fn only_reads_sheet(&self) -> bool {
-        matches!(self, Call::Filtered { .. } | Call::Alternatives | Call::Store)
+        matches!(self, Call::Filtered { .. } | Call::Alternatives | Call::Row { .. } | Call::Store)
     }
 
     /// Whether the call lists alternatives.

@@ -1,5 +1,6 @@
-//! Seeded cases for the calls: a book, a sheet, and one call of each kind.
+//! Seeded cases for the calls: a book, a sheet, and one call of each kind, but two for a row.
 
+use crate::asking;
 use crate::book::{field_limit, Book, Table};
 use crate::calls::{Call, Sheet, FRESH, PLACES};
 use crate::draft::Draft;
@@ -41,6 +42,7 @@ pub fn case(seed: u64, index: u64) -> Case {
     let mut calls = calls(&mut r, &model, &sheet);
     let (listing, numbers) = listings::some_listing(&mut r, Listing::of(&model));
     calls.extend([Call::Show, Call::Write { listing: numbers }]);
+    calls.extend(asking::rows(&mut r, &model, &sheet));
     Case { book: bytes, sheet, calls, boundary, faults, listing }
 }
 

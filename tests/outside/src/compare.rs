@@ -3,7 +3,7 @@
 use crate::book::Book;
 use crate::calls::{Buffers, Call, Left};
 use crate::cases::{random, Case};
-use crate::desk::{Desk, Reading};
+use crate::desk::{opened, Desk, Reading};
 use crate::filter::NO_ANSWER;
 use crate::library::{Lent, Library};
 use crate::memory::{End, Room};
@@ -86,7 +86,7 @@ pub fn of_each_call<'a, 't>(trials: &'t [Trial<'a>]) -> impl Iterator<Item = &'t
     trials.chunk_by(|one, next| std::ptr::eq(one.call, next.call))
 }
 
-fn hex(bytes: &[u8]) -> String {
+pub fn hex(bytes: &[u8]) -> String {
     bytes.iter().map(|b| format!("{b:02x}")).collect()
 }
 
@@ -105,7 +105,7 @@ pub struct Rooms {
 
 impl Rooms {
     /// What the library leaves in memory that lies at this end of its rooms; none where it wrote beside it.
-    fn left(&self, library: &dyn Library, case: &Case, call: &Call, lent: &Buffers, end: End) -> Option<Left> {
+    pub fn left(&self, library: &dyn Library, case: &Case, call: &Call, lent: &Buffers, end: End) -> Option<Left> {
         let (book, sheet) = (self.book.put(end, &case.book), self.sheet.put(end, &case.sheet));
         let (list, listing) = (self.list.put(end, call.list()), self.listing.put(end, call.listing()));
         let cells = self.cells.put(end, &vec![UNWRITTEN; call.cells()]);
@@ -141,7 +141,7 @@ impl Rooms {
     }
 
     /// The numbers of plain filtering by the library with this field relaxed.
-    fn numbers(&self, library: &dyn Library, case: &Case, book: &Book, relaxed: usize) -> Option<Vec<u32>> {
+    pub fn numbers(&self, library: &dyn Library, case: &Case, book: &Book, relaxed: usize) -> Option<Vec<u32>> {
         let lent = vec![0u32; book.counts.len()].into();
         let left = self.left(library, case, &Call::Filtered { relaxed }, &lent, End::Back)?;
         (left.number == 0).then_some(left.out.numbers)
@@ -170,8 +170,7 @@ impl Rooms {
 
     /// Where the library's alternatives are not what its own plain filtering says. A book or a sheet that has to be refused has none.
     pub fn disagreement(&self, library: &dyn Library, case: &Case, reading: &Reading) -> Option<String> {
-        let book = reading.as_ref().ok()?;
-        Desk::default().answer(&Call::Alternatives, reading, &case.sheet).result.ok()?;
+        let book = opened(reading, &case.sheet).ok()?;
         let expected = self.by_filtering(library, case, book);
         let listed = self.pairs(library, case);
         (listed.is_none() || listed != expected).then(|| {

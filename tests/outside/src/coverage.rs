@@ -11,6 +11,7 @@ use crate::faults::FAULTS;
 use crate::listing::book_bytes;
 use crate::listings::{reason, ways, REASONS};
 use crate::reader::Reader;
+use crate::row_shapes::{self, Asked as RowAsked};
 use crate::shapes::{shapes, SHAPES};
 use crate::tables;
 use crate::versions::{self, Made};
@@ -24,18 +25,19 @@ pub struct Coverage {
     accepted: BTreeMap<&'static str, u64>,
     /// What the cases had beside that, by its name.
     had: BTreeMap<String, u64>,
-    /// What the calls that list had to list, the lengths lent for it, what the calls that count had to count, and what each call had of
-    /// M-103, by call and name.
+    /// What the calls that list had to list, the lengths lent for it, what the calls that count had to count, what the calls for a row
+    /// had to find, and what each call had of M-103, by call and name.
     by_call: BTreeMap<(&'static str, &'static str), u64>,
 }
 
 /// The refusals that each call has beside 1 to 13; `true` for a place behind the book's fields.
-const BESIDE: [(&str, &[Kind]); 10] = [
+const BESIDE: [(&str, &[Kind]); 11] = [
     ("read", &[]),
     ("enter", &[(14, false), (14, true), (15, false), (16, false)]),
     ("withdraw", &[(14, false), (14, true), (15, false), (17, false)]),
     ("filtered", &[(14, false), (14, true), (15, false), (17, false), (18, false)]),
     ("alternatives", &[(14, false), (14, true), (18, false)]),
+    ("row", &[(14, false), (14, true), (15, false), (16, false), (21, false)]),
     ("load", &[(14, false), (19, false)]),
     ("store", &[(14, false), (14, true), (18, false)]),
     ("replay", &[(18, false)]),
@@ -53,7 +55,7 @@ struct Had {
 /// The call that reads no book, and its refusals.
 const WITHOUT_BOOK: (&str, &[Kind]) = ("write", &[(20, false), (18, false)]);
 
-/// At how many different places a refusal has to be reached: 1 and 15 to 20 have place 0 alone.
+/// At how many different places a refusal has to be reached: 1 and 15 to 21 have place 0 alone.
 fn places_asked(number: u64) -> usize {
     match number {
         2..=11 | 13 | 14 => 3,
@@ -87,7 +89,7 @@ const LENGTHS: [Length; 5] = [
     ("the wider list's", |lent, asked| lent == asked.wider),
 ];
 
-/// How often each of them has to be lent in a run of 30,000 cases.
+/// How often each of them has to be lent in a run of 32,500 cases.
 const LENGTHS_ASKED: u64 = 200;
 
 /// The sheet whose alternatives the call lists; none where it is refused.
@@ -133,6 +135,7 @@ impl Coverage {
         }
         if let Ok(book) = reading {
             self.note_book(case, reading, book);
+            self.note_rows(case, book, trials);
         }
         trials.iter().for_each(|trial| self.note_trial(reading, trial));
         for of_call in of_each_call(trials) {
@@ -151,6 +154,14 @@ impl Coverage {
             if counts_rows(reading, call) {
                 of_tables.iter().for_each(|shape| self.count(call, shape));
             }
+        }
+    }
+
+    /// Notes what the calls for a row had to find, by an accepted book.
+    fn note_rows(&mut self, case: &Case, book: &Book, trials: &[Trial]) {
+        let standing = row_shapes::standing(book, &case.sheet);
+        for asked in trials.iter().filter_map(|trial| RowAsked::by(book, &case.sheet, &standing, trial)) {
+            asked.shapes().for_each(|shape| self.count(asked.call, shape));
         }
     }
 
@@ -215,6 +226,7 @@ impl Coverage {
         complete &= print_had("reasons for 20", REASONS.iter().map(|name| once(name.to_string())));
         complete = LISTING.iter().fold(complete, |complete, call| complete & self.print_listed(call));
         complete = COUNTING.iter().fold(complete, |complete, call| complete & self.print_counted(call));
+        complete &= print_had("rows", row_shapes::all().map(|(name, least)| self.had_by("row", name, least)));
         kinds.iter().fold(complete, |complete, (call, _)| complete & self.print_versions(call))
     }
 

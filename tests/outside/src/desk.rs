@@ -6,6 +6,7 @@ use crate::calls::{Answer, Buffers, Call, Sheet, FRESH};
 use crate::filter::{alternatives, largest, relaxed, Alternatives, Filter, Subdomain, NO_ANSWER};
 use crate::listing::{self, Listing};
 use crate::reader::Reader;
+use crate::row::{self, Pointed};
 use crate::text::report;
 
 /// What reading a book answers.
@@ -16,6 +17,7 @@ pub struct Desk {
     pub different_rows: fn(&Book) -> usize,
     pub largest: Filter,
     pub alternatives: fn(&Book, &[u8], Filter) -> Alternatives,
+    pub row: row::Search,
     pub load: fn(&Book, &[u8]) -> Result<Vec<u8>, Refusal>,
     /// The numbers of a book's listing.
     pub listing: fn(&Book) -> Vec<u16>,
@@ -30,6 +32,7 @@ impl Default for Desk {
             different_rows: Book::different_rows,
             largest,
             alternatives,
+            row: row::first_row,
             load,
             listing: |book| Listing::of(book).numbers(),
             taken: Call::clone,
@@ -60,7 +63,7 @@ pub fn accepted(reading: &Reading) -> Result<&Book, Refusal> {
 }
 
 /// The book, where neither it nor the sheet is refused: 1 to 13, then 14.
-fn opened<'a>(reading: &'a Reading, sheet: &Sheet) -> Result<&'a Book, Refusal> {
+pub fn opened<'a>(reading: &'a Reading, sheet: &Sheet) -> Result<&'a Book, Refusal> {
     let book = accepted(reading)?;
     match faults(book, sheet).next() {
         Some(place) => refuse(14, place),
@@ -69,16 +72,27 @@ fn opened<'a>(reading: &'a Reading, sheet: &Sheet) -> Result<&'a Book, Refusal> 
 }
 
 fn enter(reading: &Reading, sheet: &Sheet, field: usize, code: usize) -> Result<Sheet, Refusal> {
-    let book = opened(reading, sheet)?;
-    let Some(&count) = book.counts.get(field) else {
-        return refuse(15, 0);
-    };
-    if code >= count as usize {
-        return refuse(16, 0);
-    }
+    has_code(opened(reading, sheet)?, field, code)?;
     let mut entered = *sheet;
     entered[field] = code as u8;
     Ok(entered)
+}
+
+/// 15, no such field; 16, no such code of it.
+fn has_code(book: &Book, field: usize, code: usize) -> Result<(), Refusal> {
+    match book.counts.get(field) {
+        None => refuse(15, 0),
+        Some(&count) if code >= count as usize => refuse(16, 0),
+        Some(_) => Ok(()),
+    }
+}
+
+/// 21, no such table, or the field is not in it.
+fn has_table(book: &Book, field: usize, table: usize) -> Result<(), Refusal> {
+    match book.tables.get(table) {
+        Some(table) if table.fields.iter().any(|&f| f as usize == field) => Ok(()),
+        _ => refuse(21, 0),
+    }
 }
 
 fn withdraw(reading: &Reading, sheet: &Sheet, field: usize) -> Result<Sheet, Refusal> {
@@ -146,6 +160,11 @@ fn writing<T: Into<Buffers>>(result: Result<(Vec<u64>, T), Refusal>, sheet: Shee
     Answer { result, sheet, written }
 }
 
+/// An answer that leaves the sheet and writes nothing.
+fn counting(result: Result<Vec<u64>, Refusal>, sheet: Sheet) -> Answer {
+    Answer { result, sheet, written: Buffers::default() }
+}
+
 /// The elements with their number before them.
 fn counted<T>(elements: Vec<T>) -> (Vec<u64>, Vec<T>) {
     (vec![elements.len() as u64], elements)
@@ -175,6 +194,14 @@ impl Desk {
         Ok((vec![found.lines.len() as u64, found.struck], pairs))
     }
 
+    /// Whether a row is found, and its number.
+    fn row(&self, reading: &Reading, sheet: &Sheet, pointed: Pointed) -> Result<Vec<u64>, Refusal> {
+        let book = opened(reading, sheet)?;
+        has_code(book, pointed.field, pointed.code)?;
+        has_table(book, pointed.field, pointed.table)?;
+        Ok(row::told((self.row)(book, sheet, self.largest, pointed).map(|row| row as u64)))
+    }
+
     /// The sheet that a stored one makes: 1 to 13, 19, 14.
     pub fn loaded(&self, reading: &Reading, form: &[u8]) -> Result<Sheet, Refusal> {
         let answers = (self.load)(accepted(reading)?, form)?;
@@ -192,12 +219,13 @@ impl Desk {
     /// What the call answers, on a book so read and on this sheet, where enough is lent.
     pub fn answer(&self, call: &Call, reading: &Reading, sheet: &Sheet) -> Answer {
         match (self.taken)(call) {
-            Call::Read => writing(self.read(reading).map(|counts| (counts, Buffers::default())), *sheet),
+            Call::Read => counting(self.read(reading), *sheet),
             Call::Fresh | Call::Clear => handing_back(Ok(FRESH), sheet),
             Call::Enter { field, code } => handing_back(enter(reading, sheet, field, code), sheet),
             Call::Withdraw { field } => handing_back(withdraw(reading, sheet, field), sheet),
             Call::Load { form } => handing_back(self.loaded(reading, &form), &FRESH),
             Call::Alternatives => writing(self.listed(reading, sheet), *sheet),
+            Call::Row { field, code, table } => counting(self.row(reading, sheet, Pointed { field, code, table }), *sheet),
             Call::Filtered { relaxed } => {
                 writing(self.filtered(reading, sheet, relaxed).map(|numbers| (Vec::new(), numbers)), *sheet)
             }
@@ -277,5 +305,8 @@ mod tests {
         assert_eq!(number(Call::Enter { field: 0, code: 257 }), Err((16, 0)));
         assert_eq!(number(Call::Filtered { relaxed: 511 }), Err((15, 0)));
         assert_eq!(number(Call::Filtered { relaxed: 255 }), Ok(Vec::new()));
+        assert_eq!(number(Call::Row { field: 256, code: 2, table: 0 }), Err((15, 0)));
+        assert_eq!(number(Call::Row { field: 0, code: 256, table: 0 }), Err((16, 0)));
+        assert_eq!(number(Call::Row { field: 0, code: 0, table: 256 }), Err((21, 0)));
     }
 }

@@ -68,6 +68,7 @@ fn a_fault_at_each_place() {
             assert_eq!(sheet.withdraw(&book, 0), Err(fault));
             assert_eq!(sheet.filtered(&book, None, &mut [0; NUMBERS]), Err(fault));
             assert_eq!(sheet.alternatives(&book, &mut [0; PAIRS_BYTES]), Err(fault));
+            assert_eq!(sheet.row(&book, 0, 0, 0), Err(fault));
             assert_eq!(sheet.store(&book, &mut [0; STORED_BYTES]), Err(fault));
             assert_eq!(sheet.bytes(), &places);
             sheet.clear();
@@ -118,6 +119,8 @@ fn each_field() {
             assert_eq!(sheet.filtered(&book, Some(field), &mut [0; NUMBERS]), Ok(()));
             assert_eq!(sheet.alternatives(&book, &mut pairs), Ok(Alternatives { total: 1, struck: 0 }));
             assert_eq!(pairs, [field as u8, 0, 7]);
+            let no_row = |code| sheet.row(&book, field, code, 0).map(drop);
+            assert_eq!((no_row(1), no_row(0)), (refused(16), refused(21)));
             assert_eq!((sheet.withdraw(&book, field), sheet.withdraw(&book, field)), (Ok(()), refused(17)));
             assert_eq!(sheet, Sheet::fresh());
         }
@@ -125,6 +128,7 @@ fn each_field() {
             let mut sheet = Sheet::fresh();
             assert_eq!((sheet.enter(&book, none, 0), sheet.withdraw(&book, none)), (refused(15), refused(15)));
             assert_eq!(sheet.filtered(&book, Some(none), &mut [0; NUMBERS]), refused(15));
+            assert_eq!(sheet.row(&book, none, 0, 0).map(drop), refused(15));
         }
     }
 }

@@ -1,12 +1,32 @@
 //! Document 01's examples, and books like them.
 
 use crate::book::{Book, Table};
+use crate::filter::NO_ANSWER as NONE;
 
 pub fn e1() -> Book {
     let first = Table { fields: vec![0, 2], rows: vec![vec![0, 0], vec![0, 1], vec![1, 2], vec![0, 1]] };
     let second = Table { fields: vec![1, 2], rows: vec![vec![0, 0], vec![1, 1], vec![1, 2], vec![2, 2]] };
     Book::new(vec![2, 3, 3], vec![first, second])
 }
+
+/// What is asked on E1 for the row behind a code: answers; field, code and table; and found and row, or the refusal's number.
+pub type RowAsked = ([u8; 3], [usize; 3], Result<[u64; 2], u64>);
+
+/// Row 3 of table 0 is row 1 again. Code 2 of field 2 does not stand with fields 0 and 1 answered, and code 2 of field 1 is not field
+/// 1's answer, and both have rows.
+pub const E1_ROWS: [RowAsked; 11] = [
+    ([0, 1, NONE], [2, 1, 0], Ok([1, 1])),
+    ([0, 1, NONE], [0, 0, 0], Ok([1, 1])),
+    ([0, 1, NONE], [2, 2, 1], Ok([1, 2])),
+    ([0, 1, NONE], [1, 2, 1], Ok([0, 0])),
+    ([0, 1, NONE], [0, 1, 0], Ok([0, 0])),
+    ([0, 1, NONE], [1, 0, 0], Err(21)),
+    ([0, 1, NONE], [0, 0, 2], Err(21)),
+    ([0, 1, NONE], [0, 2, 2], Err(16)),
+    ([0, 1, NONE], [3, 0, 2], Err(15)),
+    ([NONE, 1, NONE], [0, 1, 0], Ok([1, 2])),
+    ([NONE, 1, NONE], [1, 2, 1], Ok([1, 3])),
+];
 
 /// Three fields of two codes, and each pair of fields differs.
 pub fn e4() -> Book {

@@ -1,6 +1,7 @@
 //! An independent slow implementation of the desk, written from documents 01 and 02 alone; seeded cases to compare libraries with it;
 //! and libraries that are wrong on purpose, to see that the cases tell them from it.
 
+pub mod asking;
 pub mod book;
 pub mod calls;
 pub mod cases;
@@ -13,6 +14,7 @@ mod edges;
 pub mod examples;
 pub mod faults;
 pub mod filter;
+pub mod kept;
 pub mod library;
 pub mod listing;
 pub mod listings;
@@ -22,8 +24,13 @@ pub mod parts;
 pub mod random;
 pub mod reader;
 pub mod repeats;
+pub mod row;
+#[cfg(test)]
+mod row_edges;
+pub mod row_shapes;
 pub mod shapes;
 pub mod slips;
+pub mod standing;
 pub mod tables;
 pub mod text;
 pub mod turned;

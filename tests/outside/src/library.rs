@@ -4,6 +4,7 @@ use sighting::{ffi, Alternatives, Refusal};
 
 use crate::calls::{Call, Sheet};
 use crate::memory::Part;
+use crate::row;
 
 /// The memory lent to one call; what it has no use for is empty.
 pub struct Lent {
@@ -60,6 +61,7 @@ impl Library for Exported {
             Call::Withdraw { field } => ffi::sighting_withdraw(s, b, n, *field, o),
             Call::Filtered { relaxed } => ffi::sighting_filtered(s, b, n, *relaxed, lent.numbers.at, lent.numbers.len, o),
             Call::Alternatives => ffi::sighting_alternatives(s, b, n, out, lent_len, o),
+            Call::Row { field, code, table } => ffi::sighting_row(s, b, n, *field, *code, *table, o),
             Call::Load { .. } => ffi::sighting_load(s, b, n, list, list_len, o),
             Call::Store => ffi::sighting_store(s, b, n, out, lent_len, o),
             Call::Replay { .. } => ffi::sighting_replay(s, b, n, list, list_len, out, lent_len, o),
@@ -95,6 +97,7 @@ impl Library for Wrapper {
                 nothing_counted(sheet.filtered(book, relaxed, numbers))
             }
             Call::Alternatives => counts(sheet.alternatives(book, bytes)),
+            Call::Row { field, code, table } => sheet.row(book, *field, *code, *table).map(row::told),
             Call::Load { .. } => {
                 let loaded = sighting::Sheet::load(book, list);
                 sheet = loaded.unwrap_or_default();

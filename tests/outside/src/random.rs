@@ -4,6 +4,7 @@ use std::collections::BTreeSet;
 
 use crate::book::{field_limit, Book, Table};
 use crate::filter::{largest, relaxed, NO_ANSWER};
+use crate::kept;
 use crate::many;
 use crate::parts;
 use crate::repeats;
@@ -197,7 +198,7 @@ pub fn book(r: &mut Random) -> Book {
 }
 
 fn of_some_kind(r: &mut Random) -> Book {
-    match r.from(0, 367) {
+    match r.from(0, 398) {
         0..=11 => wide(r),
         12..=23 => many_tables(r),
         24 => many_rows(r),
@@ -206,6 +207,7 @@ fn of_some_kind(r: &mut Random) -> Book {
         63..=122 => parts::book(r),
         123..=172 => repeats::book(r),
         173..=203 => many::book(r),
+        204..=234 => kept::book(r),
         _ => small(r),
     }
 }
@@ -215,7 +217,7 @@ fn of_some_kind(r: &mut Random) -> Book {
 pub fn form(r: &mut Random, book: &Book) -> Vec<u8> {
     let answered = r.from(0, 4) as u64;
     let tied: BTreeSet<u8> = book.tables.iter().flat_map(|table| table.fields.iter().copied()).collect();
-    let guided = tied.len() <= 12 && book.rows() < 300 && !r.one_in(4);
+    let guided = tied.len() <= 12 && book.rows() < 400 && !r.one_in(4);
     let mut form = vec![NO_ANSWER; book.counts.len()];
     for f in 0..form.len() {
         if r.word() % 4 < answered {

@@ -16,7 +16,7 @@ pub struct Made<'a> {
     pub trial: &'a Trial<'a>,
 }
 
-/// A shape: its name, how often each of its calls has to reach it in a run of 30,000 cases, these calls, and what has it.
+/// A shape: its name, how often each of its calls has to reach it in a run of 32,500 cases, these calls, and what has it.
 type Shape = (&'static str, u64, &'static [&'static str], fn(&Made) -> bool);
 
 const OF_A_FORM: &[&str] = &["load", "report"];
@@ -143,21 +143,14 @@ impl Made<'_> {
         self.number() == 14 && places.contains(&place) && (place < self.fields() as u64) == of_a_field
     }
 
-    fn field(&self) -> Option<usize> {
-        match *self.trial.call {
-            Call::Enter { field, .. } | Call::Withdraw { field } | Call::Filtered { relaxed: field } => Some(field),
-            _ => None,
-        }
-    }
-
     fn takes(&self, fields: RangeInclusive<usize>) -> bool {
-        self.number() == 0 && self.field().is_some_and(|field| fields.contains(&field))
+        self.number() == 0 && self.trial.call.field().is_some_and(|field| fields.contains(&field))
     }
 
     /// 15 for such a field, of a book of so many fields.
     fn lacks(&self, fields: RangeInclusive<usize>, of: RangeInclusive<usize>) -> bool {
         let refused = self.number() == 15 && of.contains(&self.fields());
-        refused && self.field().is_some_and(|field| fields.contains(&field))
+        refused && self.trial.call.field().is_some_and(|field| fields.contains(&field))
     }
 
     /// How many elements are lent, where the call has so many to write.

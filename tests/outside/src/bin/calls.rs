@@ -3,9 +3,10 @@
 //! `calls CASES [SEED]` runs the cases of a seed, 1 if none is given; `calls case INDEX SEED` repeats one of them. Each call is made
 //! bare and by the safe wrapper, with buffers one short, exact, longer, as long as the header says suffices, and of length 0, and with
 //! its memory flush against a page that nobody may touch, in front and behind; a list of calls is also made one by one, alternatives are
-//! held against plain filtering with each answered field relaxed, a book that is shown or written goes the way back too, and an accepted
-//! book is turned into the other version. The run prints how often each refusal of each call was reached and what else the cases had, and
-//! fails if something was missed; some of it has to be had so often that it takes 30,000 cases.
+//! held against plain filtering with each answered field relaxed, rows against plain filtering and the listing, a book that is shown or
+//! written goes the way back too, and an accepted book is turned into the other version. The run prints how often each refusal of each
+//! call was reached and what else the cases had, and fails if something was missed; some of it has to be had so often that it takes
+//! 32,500 cases.
 
 use std::ffi::c_int;
 use std::io::Write;
@@ -14,11 +15,12 @@ use std::process::{abort, ExitCode};
 use std::sync::atomic::{AtomicU64, Ordering::Relaxed};
 
 use outside::calls::Call;
-use outside::cases::{case, Case};
+use outside::cases::{case, random, Case};
 use outside::compare::{trials, Rooms, Trial};
 use outside::coverage::Coverage;
 use outside::desk::{after, Desk, Reading};
 use outside::library::{one_by_one, shown, written, Exported, Library, OneByOne, Wrapper};
+use outside::random::Random;
 use outside::turned::turned;
 
 extern "C" {
@@ -85,6 +87,15 @@ fn filterings_agree(rooms: &Rooms, case: &Case, reading: &Reading) -> bool {
     })
 }
 
+/// The rows behind some codes are those that plain filtering and the listing give.
+fn rows_agree(rooms: &Rooms, case: &Case, reading: &Reading, r: &mut Random) -> bool {
+    let disagreement = rooms.row_disagreement(&Exported, case, reading, r);
+    if let Some(disagreement) = &disagreement {
+        println!("rows, plain filtering and the listing do not agree\n{disagreement}");
+    }
+    disagreement.is_none()
+}
+
 /// The ways to make a call.
 fn ways(call: &Call) -> &'static [(&'static str, &'static dyn Library)] {
     let ways: &[(&str, &dyn Library)] = &[("bare", &Exported), ("by the wrapper", &Wrapper), ("one by one", &OneByOne)];
@@ -123,6 +134,7 @@ fn case_agrees(rooms: &Rooms, seed: u64, index: u64, seen: &mut Coverage) -> boo
     seen.note(&case, &reading, &trials);
     trials.iter().all(|trial| trial_agrees(rooms, &case, trial))
         && filterings_agree(rooms, &case, &reading)
+        && rows_agree(rooms, &case, &reading, &mut random(seed ^ 0xC0DE, index))
         && versions_agree(rooms, &case, &reading, &trials)
         && case.calls.iter().all(|call| list_agrees(&case, &reading, call) && round_trips_agree(&case, call))
 }

@@ -5,30 +5,31 @@ use super::{
     Wrong::{Left, Part},
 };
 use crate::book::{refuse, Book, Refusal};
-use crate::calls::{self, Call, FRESH, OF_A_FIELD, OF_A_SHEET};
+use crate::calls::{self, Call, FRESH, OF_A_CODE, OF_A_FIELD, OF_A_SHEET, TELLING};
 use crate::compare::UNWRITTEN;
 use crate::desk::{faults, Desk};
 use crate::filter::{largest, NO_ANSWER};
 use crate::reader::field_list;
 
-const TELLING: &[&str] =
-    &["read", "enter", "withdraw", "filtered", "alternatives", "load", "store", "replay", "report", "show", "write"];
 const WRITING: &[&str] = &["filtered", "alternatives", "store", "replay", "report", "show", "write"];
 /// The calls that write and have a count.
 const COUNTING: &[&str] = &["alternatives", "replay", "report", "show", "write"];
 
 pub const SLIPS: &[Listed] = &[
     ("a field taken as a byte", OF_A_FIELD, Part(|desk| desk.taken = |call| taken(call, byte, whole))),
+    ("a field taken as 16 bits", OF_A_FIELD, Part(|desk| desk.taken = |call| taken(call, two_bytes, whole))),
     ("a field taken as 32 bits", OF_A_FIELD, Part(|desk| desk.taken = |call| taken(call, word, whole))),
-    ("a code taken as a byte", &["enter"], Part(|desk| desk.taken = |call| taken(call, whole, byte))),
-    ("a code taken as 32 bits", &["enter"], Part(|desk| desk.taken = |call| taken(call, whole, word))),
+    ("a code taken as a byte", OF_A_CODE, Part(|desk| desk.taken = |call| taken(call, whole, byte))),
+    ("a code taken as 16 bits", OF_A_CODE, Part(|desk| desk.taken = |call| taken(call, whole, two_bytes))),
+    ("a code taken as 32 bits", OF_A_CODE, Part(|desk| desk.taken = |call| taken(call, whole, word))),
+    ("a code by its low five bits", OF_A_CODE, Part(|desk| desk.taken = |call| taken(call, whole, |code| code % 32))),
     ("a list of calls that stops after ten", &["replay"], Part(|desk| desk.taken = ten_calls)),
     ("an incomplete last call made", &["replay"], Part(|desk| desk.taken = completed)),
     ("14 tested before 19", &["load", "report"], Part(|desk| desk.load = fault_first)),
     ("14 tested before 8 to 13", OF_A_SHEET, Left(fault_before_tables)),
     ("14 names the last place at fault", OF_A_SHEET, Left(last_fault_named)),
     ("15 tested before 14", OF_A_FIELD, Left(|seen, left| before(left, 14, 15, || seen.has_no_field()))),
-    ("16 tested before 14", &["enter"], Left(|seen, left| before(left, 14, 16, || seen.has_no_code()))),
+    ("16 tested before 14", OF_A_CODE, Left(|seen, left| before(left, 14, 16, || seen.has_no_code()))),
     ("17 tested before 14", &["withdraw", "filtered"], Left(|seen, left| before(left, 14, 17, || seen.has_no_answer()))),
     ("17 tested before 15", &["withdraw", "filtered"], Left(|_, left| before(left, 15, 17, || true))),
     ("18 tested before 14", &["filtered", "store"], Left(|seen, left| before(left, 14, 18, || seen.lacks_room()))),
@@ -53,6 +54,10 @@ fn byte(number: usize) -> usize {
     number as u8 as usize
 }
 
+fn two_bytes(number: usize) -> usize {
+    number as u16 as usize
+}
+
 fn word(number: usize) -> usize {
     number as u32 as usize
 }
@@ -63,6 +68,7 @@ pub fn taken(call: &Call, field_as: fn(usize) -> usize, code_as: fn(usize) -> us
         Call::Enter { field, code } => Call::Enter { field: field_as(field), code: code_as(code) },
         Call::Withdraw { field } => Call::Withdraw { field: field_as(field) },
         Call::Filtered { relaxed } => Call::Filtered { relaxed: field_as(relaxed) },
+        Call::Row { field, code, table } => Call::Row { field: field_as(field), code: code_as(code), table },
         _ => call.clone(),
     }
 }
@@ -89,14 +95,11 @@ fn fault_first(book: &Book, form: &[u8]) -> Result<Vec<u8>, Refusal> {
 
 impl Seen<'_> {
     pub fn accepted(&self) -> &Book {
-        self.reading.as_ref().expect("14 to 18 come after the book was read")
+        self.reading.as_ref().expect("14 to 18 and 21 come after the book was read")
     }
 
     pub fn field(&self) -> usize {
-        match *self.call {
-            Call::Enter { field, .. } | Call::Withdraw { field } | Call::Filtered { relaxed: field } => field,
-            _ => NO_ANSWER as usize,
-        }
+        self.call.field().unwrap_or(NO_ANSWER as usize)
     }
 
     fn has_no_field(&self) -> bool {
@@ -106,10 +109,10 @@ impl Seen<'_> {
 
     fn has_no_code(&self) -> bool {
         let count = self.accepted().counts.get(self.field());
-        matches!(self.call, Call::Enter { code, .. } if count.is_some_and(|&count| *code >= count as usize))
+        self.call.code().is_some_and(|code| count.is_some_and(|&count| code >= count as usize))
     }
 
-    fn has_no_answer(&self) -> bool {
+    pub fn has_no_answer(&self) -> bool {
         self.field() < self.accepted().counts.len() && self.sheet[self.field()] == NO_ANSWER
     }
 
@@ -158,8 +161,14 @@ pub fn if_refused(left: &mut calls::Left, change: impl Fn(&mut calls::Left)) {
     }
 }
 
+pub fn if_accepted(left: &mut calls::Left, change: impl Fn(&mut calls::Left)) {
+    if left.number == 0 {
+        change(left);
+    }
+}
+
 /// Names another place with a refusal of this number.
-pub fn with_place(left: &mut calls::Left, number: u64, other: fn(u64) -> u64) {
+pub fn with_place(left: &mut calls::Left, number: u64, other: impl Fn(u64) -> u64) {
     if left.number == number {
         left.cells[0] = other(left.cells[0]);
     }

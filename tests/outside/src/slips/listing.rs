@@ -1,7 +1,7 @@
 //! Wrong showing and wrong writing: numbers in another order or form, listings taken for what they do not say, bytes laid out
 //! otherwise.
 
-use super::calling::{before, if_refused};
+use super::calling::{before, if_accepted, if_refused};
 use super::reading::{first_rows, table, whole};
 use super::{
     Listed, Seen,
@@ -178,12 +178,6 @@ fn missing_as_1(call: &Call) -> Call {
     match (Listing::taken_apart(call.listing()), Listing::in_front(&continued)) {
         (Err(Fault::Missing), Ok((listing, _))) => Call::Write { listing: listing.numbers() },
         _ => call.clone(),
-    }
-}
-
-fn if_accepted(left: &mut calls::Left, change: fn(&mut calls::Left)) {
-    if left.number == 0 {
-        change(left);
     }
 }
 

@@ -7,6 +7,7 @@ mod filtering;
 mod lifting;
 mod listing;
 mod places;
+mod pointing;
 mod reading;
 mod rows;
 mod straying;
@@ -18,6 +19,7 @@ use crate::book::Book;
 use crate::calls::{Answer, Buffers, Call, Left, Sheet};
 use crate::desk::{Desk, Reading};
 use crate::library::{Lent, Library};
+use crate::row::Search;
 pub use lifting::listed_although_empty;
 pub use straying::Stray;
 
@@ -37,6 +39,8 @@ pub enum Wrong {
     Part(fn(&mut Desk)),
     /// The desk counts different rows by this.
     Counted(fn(&Book) -> usize),
+    /// The desk looks for the row behind a code by this.
+    Sought(Search),
     /// The desk leaves something else than it answers.
     Left(fn(&Seen, &mut Left)),
     /// The desk touches memory that it may not touch.
@@ -62,9 +66,10 @@ impl Slip {
 
 /// All slips, each in each of its calls.
 pub fn all() -> Vec<Slip> {
-    let of_m_103 = [versions::SLIPS, places::SLIPS].concat();
-    let listed =
-        [reading::SLIPS, counting::SLIPS, filtering::SLIPS, lifting::SLIPS, calling::SLIPS, listing::SLIPS, &of_m_103].concat();
+    let of_document_01 = [reading::SLIPS, filtering::SLIPS, calling::SLIPS].concat();
+    let of_rows = [counting::SLIPS, pointing::SLIPS].concat();
+    let of_versions = [versions::SLIPS, places::SLIPS].concat();
+    let listed = [&of_document_01, &of_rows[..], &of_versions, lifting::SLIPS, listing::SLIPS].concat();
     let in_each = |(what, calls, wrong): Listed| calls.iter().map(move |call| Slip::new(call, what, wrong));
     listed.into_iter().flat_map(in_each).chain(straying::slips()).collect()
 }
@@ -93,6 +98,7 @@ impl SlowLibrary {
         match slip.wrong {
             Wrong::Part(exchange) => exchange(&mut desk),
             Wrong::Counted(different_rows) => desk.different_rows = different_rows,
+            Wrong::Sought(search) => desk.row = search,
             _ => {}
         }
         SlowLibrary { desk, wrong: Some(slip.wrong), last: RefCell::default() }
@@ -142,9 +148,10 @@ impl Library for SlowLibrary {
 #[cfg(test)]
 mod tests {
     use super::{all, SlowLibrary};
-    use crate::cases::case;
+    use crate::cases::{case, Case};
     use crate::compare::{trials, Rooms};
-    use crate::desk::Desk;
+    use crate::desk::{Desk, Reading};
+    use crate::random::Random;
 
     #[test]
     fn a_desk_without_a_slip_is_not_caught() {
@@ -156,22 +163,41 @@ mod tests {
         }
     }
 
-    /// Whether alternatives and plain filtering do not agree in one of the first cases.
-    fn disagrees(library: &SlowLibrary) -> bool {
+    /// What is found first in the first cases, with the case's book as the right desk reads it.
+    fn in_first_cases(found: impl Fn(&Rooms, &Case, &Reading) -> Option<String>) -> Option<String> {
         let (desk, rooms) = (Desk::default(), Rooms::default());
-        (0..200).map(|index| case(1, index)).any(|case| {
-            let reading = desk.reader.read(&case.book);
-            rooms.disagreement(library, &case, &reading).is_some()
-        })
+        (0..200).map(|index| case(1, index)).find_map(|case| found(&rooms, &case, &desk.reader.read(&case.book)))
+    }
+
+    fn named(name: &str) -> SlowLibrary {
+        SlowLibrary::with(all().iter().find(|slip| slip.name == name).expect("it is listed"))
     }
 
     #[test]
     fn a_list_that_plain_filtering_does_not_give_is_seen() {
-        assert!(!disagrees(&SlowLibrary::default()));
-        let slips = all();
+        let seen = |library| in_first_cases(|rooms, case, reading| rooms.disagreement(&library, case, reading)).is_some();
+        assert!(!seen(SlowLibrary::default()));
         for name in ["a field listed although another is empty", "empty fields looked for with nothing lifted"] {
-            let slip = slips.iter().find(|slip| slip.name == format!("alternatives: {name}")).expect("it is listed");
-            assert!(disagrees(&SlowLibrary::with(slip)), "{name}");
+            assert!(seen(named(&format!("alternatives: {name}"))), "{name}");
+        }
+    }
+
+    #[test]
+    fn rows_that_plain_filtering_and_the_listing_do_not_give_are_seen() {
+        let seen = |library| {
+            in_first_cases(|rooms, case, reading| rooms.row_disagreement(&library, case, reading, &mut Random(1)))
+                .unwrap_or_default()
+        };
+        assert_eq!(seen(SlowLibrary::default()), "");
+        for (name, problem) in [
+            ("row: the last row that keeps the code", "the row is not the first"),
+            ("row: none in tables of one field", "the row is not the first"),
+            ("row: tables without rows not filtered by", "the code stands, and a table with its field has no row"),
+            ("row: an empty field empties all others", "the code does not stand, and each table with its field has a row"),
+            ("show: no version", "an accepted book is not filtered, or not shown"),
+        ] {
+            let told = seen(named(name));
+            assert!(told.contains(problem), "{name}: {told}");
         }
     }
 

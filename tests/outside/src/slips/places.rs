@@ -162,7 +162,7 @@ pub const SLIPS: &[Listed] = &[
 ];
 
 /// What the call leaves where 14 does not see faults in such places and bytes.
-fn unseen(seen: &Seen, left: &mut calls::Left, is_unseen: fn(usize, u8, &Book) -> bool) {
+pub fn unseen(seen: &Seen, left: &mut calls::Left, is_unseen: fn(usize, u8, &Book) -> bool) {
     if left.number == 14 {
         let (book, mut sheet) = (seen.accepted(), *seen.sheet);
         faults(book, seen.sheet)
@@ -200,14 +200,17 @@ fn remainder(field: usize, modulus: usize) -> usize {
     }
 }
 
-/// A field of no book is entered where the sheet has a place for it; to withdraw or to relax, it has no answer.
+/// A field of no book is entered where the sheet has a place for it; to withdraw or to relax, it has no answer; for a row, no code.
 fn place_for_field(seen: &Seen, left: &mut calls::Left) {
     if left.number == 15 && seen.field() < PLACES {
-        left.number = 17;
-        if let Call::Enter { field, code } = *seen.call {
-            left.number = 0;
-            left.sheet[field] = code as u8;
-        }
+        left.number = match *seen.call {
+            Call::Enter { field, code } => {
+                left.sheet[field] = code as u8;
+                0
+            }
+            Call::Row { .. } => 16,
+            _ => 17,
+        };
     }
 }
 

@@ -2,7 +2,7 @@
 //! lent to be read only. Most of them die by it, so each needs a process of its own.
 
 use super::{Slip, Wrong};
-use crate::calls::OF_A_BOOK;
+use crate::calls::{OF_A_BOOK, TELLING};
 use crate::library::Lent;
 
 #[derive(Clone, Copy, Debug)]
@@ -71,18 +71,16 @@ const LENT: [(Memory, &[&str]); 8] = [
     (Memory::Book, OF_A_BOOK),
     (Memory::List, &["load", "replay", "report"]),
     (Memory::Listing, &["write"]),
-    (Memory::Sheet, &["fresh", "clear", "enter", "withdraw", "filtered", "alternatives", "load", "store", "replay"]),
-    (
-        Memory::Outcome,
-        &["read", "enter", "withdraw", "filtered", "alternatives", "load", "store", "replay", "report", "show", "write"],
-    ),
+    (Memory::Sheet, &["fresh", "clear", "enter", "withdraw", "filtered", "alternatives", "row", "load", "store", "replay"]),
+    (Memory::Outcome, TELLING),
     (Memory::Bytes, &["alternatives", "store", "replay", "report", "write"]),
     (Memory::Shown, &["show"]),
     (Memory::Numbers, &["filtered"]),
 ];
 
 /// The calls that each memory is lent to be read only.
-const LENT_TO_READ: [(Memory, &[&str]); 4] = [LENT[0], LENT[1], LENT[2], (Memory::Sheet, &["filtered", "alternatives", "store"])];
+const LENT_TO_READ: [(Memory, &[&str]); 4] =
+    [LENT[0], LENT[1], LENT[2], (Memory::Sheet, &["filtered", "alternatives", "row", "store"])];
 
 const BESIDE: [(Place, Access); 4] = [
     (Place::Before, Access::Read),
