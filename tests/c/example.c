@@ -1,4 +1,4 @@
-/* Prints the alternatives of example E1. */
+/* Prints the alternatives of example E1, and the row that keeps the open code. */
 #include <sighting.h>
 #include <stdio.h>
 
@@ -14,5 +14,7 @@ int main(void) {
     if (sighting_alternatives(sheet, book, sizeof book, pairs, sizeof pairs, found) != 0) return 1;
     printf("%d alternatives, %d struck\n", (int)found[1], (int)found[2]);
     for (size_t i = 0; i < found[1]; i++) printf("field %d code %d\n", pairs[2 * i], pairs[2 * i + 1]);
+    if (sighting_row(sheet, book, sizeof book, 2, 1, 0, found) != 0) return 1;
+    if (found[1] == 1) printf("field 2 code 1: row %d of table 0\n", (int)found[2]);
     return 0;
 }
