@@ -36,8 +36,8 @@ pub(crate) fn survey(
     let mut at = 0;
     for i in 0..tables {
         places[i] = at;
+        watch_table(book, watch, at, wide(book[at]), i);
         let table = shape_at(book, at);
-        watch_table(book, watch, at, table.arity, i);
         at = table.first + table.rows * table.arity;
     }
 }

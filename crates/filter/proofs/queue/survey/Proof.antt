@@ -1,9 +1,8 @@
 -- `filter::queue::survey` meets its contract. The invariant: the next table's place, and all that the tables passed have. Assumes nothing.
-use mathlib.Core.Path.{_≡_, ap}
+use mathlib.Core.Path.{_≡_}
 use Prim.Native.Nat.{_≤_, _-_}
 use Rattle.format.specs.Promise.{place}
-use Rattle.filter.specs.declared.support.Shape.{Shape}
-use Rattle.filter.proofs.Shapes.{end-at, place-zero, place-next}
+use Rattle.filter.proofs.Shapes.{head-in, end-at, place-zero, place-next}
 use Rattle.filter.proofs.Surveys.{SurveyedTo, surveyed-none, place-small, table-surveyed, watch-given, surveyed-more, surveyed-all}
 use native.Mathlib.Omega.{arith}
 use Rattle.filter.proofs.queue.survey.Statement.{statement}
@@ -24,17 +23,23 @@ mul-places c = omega (arith, place-small (c .before .before .before .pre) _ _ (c
 element-write-places : tie.Need-element-write-places Inv-loop μ-loop
 element-write-places c = place-small (c .before .before .before .pre) _ _ (c .loop-test .taken) (c .before .loop .inv .1)
 
-shape-at-requires : tie.Need-shape-at-requires Inv-loop μ-loop
-shape-at-requires c κs = table-surveyed (c .before .before .before .pre) _ _ (c .loop-test .taken) (c .before .loop .inv .1)
+shared-slice-read-wide : tie.Need-shared-slice-read-wide Inv-loop μ-loop
+shared-slice-read-wide c = omega (arith, head-in (table-surveyed (c .before .before .before .before .before .pre) _ _ (c .before .before .loop-test .taken) (c .before .before .before .loop .inv .1)))
+
+wide-requires : tie.Need-wide-requires Inv-loop μ-loop
+wide-requires c κs = tt
 
 watch-table-requires : tie.Need-watch-table-requires Inv-loop μ-loop
-watch-table-requires c κs = watch-given (c .before .before .before .before .before .pre) _ _ (c .before .before .loop-test .taken) (c .before .before .before .loop .inv .1) _ (ap (λ (t : Shape). t .arity) (c .before .shape-at .ensures)) (c .before .before .before .loop .inv .2)
+watch-table-requires c κs = watch-given (c .before .before .before .before .before .before .pre) _ _ (c .before .before .before .loop-test .taken) (c .before .before .before .before .loop .inv .1) _ (c .wide .ensures) (c .before .before .before .before .loop .inv .2)
+
+shape-at-requires : tie.Need-shape-at-requires Inv-loop μ-loop
+shape-at-requires c κs = table-surveyed (c .before .before .before .before .before .before .before .pre) _ _ (c .before .before .before .before .loop-test .taken) (c .before .before .before .before .before .loop .inv .1)
 
 mul-at : tie.Need-mul-at Inv-loop μ-loop
-mul-at c = omega (arith, end-at (table-surveyed (c .before .before .before .before .before .before .before .pre) _ _ (c .before .before .before .before .loop-test .taken) (c .before .before .before .before .before .loop .inv .1)) (c .before .before .before .shape-at .ensures), c .before .before .before .before .before .before .before .pre .promise .short)
+mul-at c = omega (arith, end-at (table-surveyed (c .before .before .before .before .before .before .before .before .before .pre) _ _ (c .before .before .before .before .before .before .loop-test .taken) (c .before .before .before .before .before .before .before .loop .inv .1)) (c .before .shape-at .ensures), c .before .before .before .before .before .before .before .before .before .pre .promise .short)
 
 add-at : tie.Need-add-at Inv-loop μ-loop
-add-at c = omega (arith, end-at (table-surveyed (c .before .before .before .before .before .before .before .before .pre) _ _ (c .before .before .before .before .before .loop-test .taken) (c .before .before .before .before .before .before .loop .inv .1)) (c .before .before .before .before .shape-at .ensures), c .before .before .before .before .before .before .before .before .pre .promise .short)
+add-at c = omega (arith, end-at (table-surveyed (c .before .before .before .before .before .before .before .before .before .before .pre) _ _ (c .before .before .before .before .before .before .before .loop-test .taken) (c .before .before .before .before .before .before .before .before .loop .inv .1)) (c .before .before .shape-at .ensures), c .before .before .before .before .before .before .before .before .before .before .pre .promise .short)
 
 add-i : tie.Need-add-i Inv-loop μ-loop
 add-i c = omega arith
@@ -45,8 +50,8 @@ loop-less c = omega arith
 loop-again : tie.Need-loop-again Inv-loop μ-loop
 loop-again c = (
   omega arith,
-  place-next _ _ _ (c .before .before .before .before .before .before .loop .inv .1) _ (c .before .before .before .before .shape-at .ensures),
-  surveyed-more (c .before .before .before .before .before .before .before .before .pre) _ _ (c .before .before .before .before .before .loop-test .taken) (c .before .before .before .before .before .before .loop .inv .1) _ (ap (λ (t : Shape). t .arity) (c .before .before .before .before .shape-at .ensures)) _ _ _ (c .before .before .before .before .before .before .loop .inv .2) (c .before .before .watch-table .ensures),
+  place-next _ _ _ (c .before .before .before .before .before .before .before .before .loop .inv .1) _ (c .before .before .shape-at .ensures),
+  surveyed-more (c .before .before .before .before .before .before .before .before .before .before .pre) _ _ (c .before .before .before .before .before .before .before .loop-test .taken) (c .before .before .before .before .before .before .before .before .loop .inv .1) _ (c .before .before .before .before .wide .ensures) _ _ _ (c .before .before .before .before .before .before .before .before .loop .inv .2) (c .before .before .before .watch-table .ensures),
 )
 
 returns : tie.Need-returns Inv-loop μ-loop
@@ -61,8 +66,10 @@ survey-spec =
     loop-holds
     mul-places
     element-write-places
-    shape-at-requires
+    shared-slice-read-wide
+    wide-requires
     watch-table-requires
+    shape-at-requires
     mul-at
     add-at
     add-i
