@@ -198,11 +198,12 @@ pub fn filtering(family: &Family, n: usize) -> Filtering {
     Filtering { library: times[0], plain: times[1] }
 }
 
-/// The medians of the row behind a code, by the library and by plain Rust, and of the library's filtering alone on the same sheet.
+/// The median of the row behind a code, and how many times that of the library's filtering alone on the same sheet it is, and that of
+/// plain Rust.
 pub struct Row {
     pub row: Option<u64>,
     pub library: f64,
-    pub filtering: f64,
+    pub filterings: f64,
     pub plain: f64,
 }
 
@@ -218,8 +219,13 @@ pub fn row(q: &Question) -> Row {
     let row = library();
     assert_eq!(row, plain());
     let number = |row: Option<u64>| row.map_or(0, |r| r + 1);
-    let times = medians(&mut [Box::new(|| number(library())), Box::new(filtering), Box::new(|| number(plain()))]);
-    Row { row, library: times[0], filtering: times[1], plain: times[2] }
+    // in pairs: in turns of three the filtering, behind the row, would find its pass learned, and the row, behind plain Rust, would not
+    let beside = |other: Contender| {
+        let times = medians(&mut [Box::new(|| number(library())), other]);
+        (times[0], times[0] / times[1])
+    };
+    let (time, filterings) = beside(Box::new(filtering));
+    Row { row, library: time, filterings, plain: beside(Box::new(|| number(plain()))).1 }
 }
 
 /// The medians of asking for a row where it is refused: by 16, by 21 since there is no such table, and by 21 since the last table

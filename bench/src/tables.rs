@@ -135,8 +135,8 @@ pub fn rows(out: &mut String, rows: &[(&Question, Row)]) -> Result {
     )?;
     for (q, r) in rows {
         let row = r.row.map_or("–".to_string(), |row| row.to_string());
-        let (time, filterings, plain) = (microseconds(r.library), r.library / r.filtering, r.library / r.plain);
-        writeln!(out, "| {} | {} | {} | {row} | {time} | {filterings:.2} | {plain:.2} |", q.book_name, q.n, q.what)?;
+        let cells = [microseconds(r.library), ratio(Some(r.filterings)), ratio(Some(r.plain))];
+        writeln!(out, "| {} | {} | {} | {row} | {} |", q.book_name, q.n, q.what, cells.join(" | "))?;
     }
     Ok(())
 }
