@@ -1,4 +1,4 @@
-//! The five families of books, each with answers for any n.
+//! The five families of books and two small ones, each with answers for any n.
 
 use sighting::{NO_ANSWER, SHEET_BYTES};
 
@@ -193,4 +193,35 @@ fn repeated() -> Family {
 
 pub fn all() -> [Family; 5] {
     [configuration(), full_of_version_1(4_096), ring(), repeated(), full_of_version_2()]
+}
+
+/// E1, the first book of document 01: three fields and two tables of four rows.
+fn smallest() -> Family {
+    let first = (vec![0, 2], [[0, 0], [0, 1], [1, 2], [0, 1]].map(Vec::from).to_vec());
+    let second = (vec![1, 2], [[0, 0], [1, 1], [1, 2], [2, 2]].map(Vec::from).to_vec());
+    let book = bytes(1, &[2, 3, 3], &[first, second]);
+    Family { name: "E1", what: "3 fields, 2 tables, 8 rows", book, reading: vec![0, 1, 1], order: vec![0, 1, 2] }
+}
+
+/// 8 fields of 2 to 6 codes, and six tables of ten rows.
+fn eight_fields() -> Family {
+    let mut r = Random(7);
+    let counts: Vec<u8> = (0..8).map(|_| 2 + r.below(5) as u8).collect();
+    let reading = r.reading(&counts);
+    let mut tables = Vec::new();
+    for _ in 0..6 {
+        let fields = r.fields(counts.len(), 3);
+        let mut rows = vec![on(&fields, &reading)];
+        while rows.len() < 10 {
+            let other = r.reading(&counts);
+            rows.push(on(&fields, &other));
+        }
+        tables.push((fields, rows));
+    }
+    let order = r.shuffled(counts.len());
+    Family { name: "8 fields", what: "8 fields, 6 tables, 60 rows", book: bytes(1, &counts, &tables), reading, order }
+}
+
+pub fn small() -> [Family; 2] {
+    [smallest(), eight_fields()]
 }

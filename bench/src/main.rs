@@ -9,6 +9,7 @@ mod listings;
 mod measure;
 mod plain;
 mod plot;
+mod questions;
 mod shapes;
 mod stack;
 mod tables;
@@ -39,6 +40,18 @@ fn families_sections(out: &mut String, books: &[Family], passes: &[(String, Vec<
     tables::growth(out, &steps)
 }
 
+/// What the row behind a code costs, on small books, on full ones and in one long table, and what its refusals cost.
+fn row_sections(out: &mut String, b: &Family, e: &Family) -> std::fmt::Result {
+    let [small, eight_fields] = &families::small();
+    let asked = [small, eight_fields, b, e].into_iter().flat_map(questions::of_family).chain(questions::of_one_table());
+    let asked: Vec<_> = asked.collect();
+    let rows: Vec<_> = asked.iter().map(|question| (question, measure::row(question))).collect();
+    writeln!(out, "\n### The row behind a code, beside one plain filtering of the same sheet\n")?;
+    tables::rows(out, &rows)?;
+    writeln!(out, "\n### Refusals of the row behind a code\n")?;
+    tables::refused_rows(out, &[small, b, e].map(|f| (f.name, measure::refused_rows(f, f.fields()))))
+}
+
 /// The report on a family's book with all fields answered.
 fn full_report(family: &Family) -> Report {
     measure::report(slice::from_ref(&family.book), &family.stored(family.fields()))
@@ -66,6 +79,7 @@ fn measured() -> Result<(String, String), std::fmt::Error> {
     families_sections(&mut out, &books, &passes)?;
     writeln!(out, "\n### The full book of version 2 beside that of version 1, in turns\n")?;
     tables::versions(&mut out, &versions)?;
+    row_sections(&mut out, b, e)?;
     writeln!(out, "\n### Reading, by the shape of the tables and the order of the rows\n")?;
     tables::shapes(&mut out, &shaped)?;
     writeln!(out, "\n### The report, and reading as a part of it\n")?;

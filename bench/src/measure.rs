@@ -6,6 +6,7 @@ use crate::families::Family;
 use crate::gecode::Root;
 use crate::listings::{refused, Listed};
 use crate::plain::{engine, listing, reader};
+use crate::questions::{standing, Question};
 use crate::shapes::{Order, Shape, FRESH, ONE_TABLE};
 use crate::stack;
 use crate::timing::{medians, Contender};
@@ -197,6 +198,60 @@ pub fn filtering(family: &Family, n: usize) -> Filtering {
     Filtering { library: times[0], plain: times[1] }
 }
 
+/// The median of the row behind a code, and how many times that of the library's filtering alone on the same sheet it is, and that of
+/// plain Rust.
+pub struct Row {
+    pub row: Option<u64>,
+    pub library: f64,
+    pub filterings: f64,
+    pub plain: f64,
+}
+
+pub fn row(q: &Question) -> Row {
+    let (book, sheet) = (&q.book[..], Sheet::from(q.sheet));
+    let library = || sheet.row(book, q.field, q.code, q.table).expect("accepted");
+    let plain = || engine::row(&q.sheet, book, q.field, q.code, q.table).expect("accepted");
+    let filtering = || {
+        let mut numbers = [0; NUMBERS];
+        sheet.filtered(book, None, &mut numbers).expect("accepted");
+        numbers[q.field] as u64
+    };
+    let row = library();
+    assert_eq!(row, plain());
+    let number = |row: Option<u64>| row.map_or(0, |r| r + 1);
+    // in pairs: in turns of three the filtering, behind the row, would find its pass learned, and the row, behind plain Rust, would not
+    let beside = |other: Contender| {
+        let times = medians(&mut [Box::new(|| number(library())), other]);
+        (times[0], times[0] / times[1])
+    };
+    let (time, filterings) = beside(Box::new(filtering));
+    Row { row, library: time, filterings, plain: beside(Box::new(|| number(plain()))).1 }
+}
+
+/// The medians of asking for a row where it is refused: by 16, by 21 since there is no such table, and by 21 since the last table
+/// lacks the field; and of asking for one that is there.
+pub struct RefusedRows {
+    pub n: usize,
+    pub no_code: f64,
+    pub no_table: f64,
+    pub not_in_it: f64,
+    pub accepted: f64,
+}
+
+pub fn refused_rows(family: &Family, n: usize) -> RefusedRows {
+    let q = standing(family, n);
+    let (book, sheet) = (&q.book[..], Sheet::from(q.sheet));
+    let checked = reader::check(book).expect("accepted");
+    let (view, table) = (&checked.view, checked.tables[q.table]);
+    let other =
+        (0..view.fields).find(|&f| (0..table.arity).all(|j| view.field(table, j) != f)).expect("a field beside the table's");
+    let asked = [(q.field, 255, q.table), (q.field, q.code, q.table + 1), (other, 0, q.table), (q.field, q.code, q.table)];
+    let ask = |(field, code, table)| sheet.row(book, field, code, table).map_or_else(|refusal| refusal.number, |_| 0);
+    assert_eq!(asked.map(ask), [16, 21, 21, 0]);
+    let times = medians(&mut asked.map(|question| Box::new(move || ask(question)) as Contender));
+    RefusedRows { n, no_code: times[0], no_table: times[1], not_in_it: times[2], accepted: times[3] }
+}
+
 /// The medians of writing a listing, and of showing the book that is written, by the library and by plain Rust.
 pub struct Listing {
     pub numbers: usize,
@@ -252,13 +307,14 @@ pub fn stacks(family: &Family) -> Vec<(&'static str, usize)> {
     let length = sighting::show(book, &mut shown).expect("accepted") as usize;
     let (listing, refused) = (shown[..length].to_vec(), refused().listing);
     let one_table = &ONE_TABLE.books(Order::Random)[0][..];
-    let list = [0, 0, 0].repeat(all);
+    let (list, q) = ([0, 0, 0].repeat(all), standing(family, all));
     let mut entered = sheet;
     vec![
         ("read", stack::bytes(&mut || assert!(sighting::read(book).is_ok()))),
         ("read, 4,096 rows in one table", stack::bytes(&mut || assert!(sighting::read(one_table).is_ok()))),
         ("enter", stack::bytes(&mut || assert!(entered.enter(book, 0, 0).is_ok()))),
         ("filtered", stack::bytes(&mut || assert!(sheet.filtered(book, None, &mut numbers).is_ok()))),
+        ("row", stack::bytes(&mut || assert!(sheet.row(book, q.field, q.code, q.table).is_ok()))),
         ("alternatives", stack::bytes(&mut || assert!(sheet.alternatives(book, &mut pairs).is_ok()))),
         ("replay", stack::bytes(&mut || assert!(Sheet::replay(book, &list, &mut pairs).1.is_ok()))),
         ("report", stack::bytes(&mut || assert!(sighting::report(book, &form, &mut text).is_ok()))),

@@ -2,7 +2,8 @@
 
 use std::fmt::{Result, Write};
 
-use crate::measure::{Filtering, Listing, Pass, Reading, Report, Shaped, Versions};
+use crate::measure::{Filtering, Listing, Pass, Reading, RefusedRows, Report, Row, Shaped, Versions};
+use crate::questions::Question;
 
 fn ratio(value: Option<f64>) -> String {
     value.map_or("–".to_string(), |v| format!("{v:.2}"))
@@ -124,6 +125,34 @@ fn microseconds(time: f64) -> String {
     } else {
         format!("{time:.1}")
     }
+}
+
+/// The row behind a code, one row for each question.
+pub fn rows(out: &mut String, rows: &[(&Question, Row)]) -> Result {
+    writeln!(
+        out,
+        "| book | n | asked for | row | `sighting_row`, µs | ÷ one filtering | × plain Rust |\n|---|---|---|---|---|---|---|"
+    )?;
+    for (q, r) in rows {
+        let row = r.row.map_or("–".to_string(), |row| row.to_string());
+        let cells = [microseconds(r.library), ratio(Some(r.filterings)), ratio(Some(r.plain))];
+        writeln!(out, "| {} | {} | {} | {row} | {} |", q.book_name, q.n, q.what, cells.join(" | "))?;
+    }
+    Ok(())
+}
+
+/// What a refusal of the row behind a code costs.
+pub fn refused_rows(out: &mut String, rows: &[(&str, RefusedRows)]) -> Result {
+    writeln!(
+        out,
+        "| book | n | refused by 16, µs | by 21, no such table ÷ it | by 21, field not in the last table ÷ it | accepted ÷ it |"
+    )?;
+    writeln!(out, "|---|---|---|---|---|---|")?;
+    for (name, r) in rows {
+        let against = [r.no_table, r.not_in_it, r.accepted].map(|time| format!("{:.2}", time / r.no_code));
+        writeln!(out, "| {name} | {} | {} | {} |", r.n, microseconds(r.no_code), against.join(" | "))?;
+    }
+    Ok(())
 }
 
 /// Reading, one row for each shape and order.

@@ -179,3 +179,22 @@ pub fn filtered(sheet: &[u8; PLACES], bytes: &[u8], out: &mut [u32]) -> Result<(
     }
     Ok(())
 }
+
+/// The first row of a table that has the code in the field's column and only standing codes in its others, with nothing relaxed.
+pub fn row(sheet: &[u8; PLACES], bytes: &[u8], field: usize, code: usize, table: usize) -> Result<Option<u64>, Refused> {
+    let book = check(bytes)?;
+    check_sheet(&book, sheet)?;
+    if field >= book.view.fields {
+        return Err((15, 0));
+    }
+    if code >= book.view.codes(field) {
+        return Err((16, 0));
+    }
+    let table = *book.tables[..book.view.tables].get(table).ok_or((21, 0))?;
+    let column = (0..table.arity).find(|&j| book.view.field(table, j) == field).ok_or((21, 0))?;
+    let mut need = [0; CODES];
+    need[code] = 1;
+    let mut engine = Engine::start(&book, sheet, 1, &[0; PLACES]);
+    engine.propagate();
+    Ok(engine.support(table, column, &need, 0).map(|(r, _)| r as u64))
+}
