@@ -37,6 +37,7 @@ pub(crate) fn survey(
     for i in 0..tables {
         places[i] = at;
         watch_table(book, watch, at, wide(book[at]), i);
+        // Read behind the fields' loop, so that nothing of the shape has to be kept over it.
         let table = shape_at(book, at);
         at = table.first + table.rows * table.arity;
     }
