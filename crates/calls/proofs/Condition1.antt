@@ -4,7 +4,7 @@ use mathlib.Core.Path.{_≡_, refl, sym, _∙_}
 use mathlib.Core.Logic.{_⊎_, inl, inr, ⊎-elim, _≢_}
 use mathlib.Core.List.{List, []}
 use mathlib.Core.Bool.{Bool, true, false, _&&_, true≢false}
-use Prim.Native.Nat.{ℕ, _*_, _≤_, _<_}
+use Prim.Native.Nat.{ℕ, _*_, _<_}
 use native.Mathlib.Omega.{arith}
 use lib.ListN.{length}
 use lib.Dec.{ltb, eqb}
@@ -18,12 +18,11 @@ use Rattle.format.proofs.Numbers.{book-refusal}
 use Rattle.format.proofs.ByteTests.{bytes-true, true-bytes}
 use Rattle.consistency.specs.Consistency.{codes, nth, answer, relax}
 use Rattle.consistency.specs.Counts.{total}
-use Rattle.consistency.specs.Ties.{FieldIn}
 use Rattle.consistency.specs.Rows.{hasField}
 use Rattle.consistency.proofs.Booleans.{false-T}
 use Rattle.consistency.proofs.FirstRows.{has-field}
 use Rattle.calls.specs.Calls.{Result, turned, done, beside, faultOf, onSheet, masksInto, sheetFrom, entered, withdrawn, filtered, alternatives, loaded, stored, rowBehind}
-use Rattle.calls.specs.Conditions.{Request, to-read, to-fresh, to-enter, to-withdraw, to-clear, to-filter, to-list, to-store, to-load, to-row, to-show, to-write, resultOf, givenBook, sheetGiven, lentTo, countsOf, FirstFault, NoFault, Refusal, enter-14, enter-15, enter-16, withdraw-14, withdraw-15, withdraw-17, filter-14, filter-15, filter-17, filter-18, list-14, list-18, store-14, store-18, load-19, load-14, row-14, row-15, row-16, row-21, show-18, WriteRefusal, write-missing, write-left-over, write-too-large, write-unread, write-18, RefusedBy, the-book, the-call, the-listing, IsRefusal, Condition1}
+use Rattle.calls.specs.Conditions.{Request, to-read, to-fresh, to-enter, to-withdraw, to-clear, to-filter, to-list, to-store, to-load, to-row, to-show, to-write, resultOf, givenBook, sheetGiven, lentTo, countsOf, FirstFault, NoFault, NotInTable, Refusal, enter-14, enter-15, enter-16, withdraw-14, withdraw-15, withdraw-17, filter-14, filter-15, filter-17, filter-18, list-14, list-18, store-14, store-18, load-19, load-14, row-14, row-15, row-16, row-21, show-18, WriteRefusal, write-missing, write-left-over, write-too-large, write-unread, write-18, RefusedBy, the-book, the-call, the-listing, IsRefusal, Condition1}
 use Rattle.calls.proofs.Faults.{first-fault, fault-free}
 use Rattle.calls.proofs.CallLaws.{pick-cases, fault-holds, book-holds, sheet-holds}
 
@@ -130,11 +129,10 @@ write-settled bytes s l o =
     (λ t. refused-by (the-listing (unwritable l o t)))
 
 -- 21: where the test for the field fails, there is no such table, or the field is not in it
-not-there : (b : Book) (f i : ℕ) → hasField (nth b i) f ≡ false
-    → (length (b .tables) ≤ i) ⊎ ((i < length (b .tables)) × (FieldIn f (nth b i) → ⊥))
+not-there : (b : Book) (f i : ℕ) → hasField (nth b i) f ≡ false → NotInTable b f i
 not-there b f i e = at (ltb i (length (b .tables))) refl
   where
-    at : (t : Bool) → ltb i (length (b .tables)) ≡ t → (length (b .tables) ≤ i) ⊎ ((i < length (b .tables)) × (FieldIn f (nth b i) → ⊥))
+    at : (t : Bool) → ltb i (length (b .tables)) ≡ t → NotInTable b f i
     at true t = inr (ltb-true i (length (b .tables)) t, λ q. false-T e (has-field (nth b i) f .1 q))
     at false t = inl (ltb-false i (length (b .tables)) t)
 

@@ -5,13 +5,14 @@ use mathlib.Core.Logic.{_↔_}
 use mathlib.Core.List.{List, [], _∷_}
 use Prim.Native.Nat.{ℕ, _<_}
 use native.Mathlib.Omega.{arith}
-use lib.Dec.{ltb}
+use lib.Dec.{T, ltb}
 use lib.ListN.{length, getD}
 use borrow.Author.Tests.{lt-ltb, ltb-true}
 use Rattle.format.specs.Format.{Book, bookOf}
 use Rattle.format.specs.Reading.{Outcome, accepted, Accepted}
 use Rattle.format.proofs.Accepted.{accepted-verdict, verdict-accepted, accepted-promise}
 use Rattle.consistency.specs.Consistency.{codes, nth, Standing}
+use Rattle.consistency.specs.Largest.{allowed}
 use Rattle.consistency.specs.Ties.{FieldIn}
 use Rattle.consistency.specs.Rows.{RowFound, at-row, no-row, Keeps, IsFirstRow, hasField, firstSupport}
 use Rattle.consistency.proofs.Booleans.{true-T, T-true}
@@ -19,7 +20,7 @@ use Rattle.consistency.proofs.CodeCounts.{field-in}
 use Rattle.consistency.proofs.FirstRows.{has-field, table-known, first-in, standing-found, struck-somewhere, one-column}
 use Rattle.calls.specs.Calls.{Result, done, rowCounts, rowBehind}
 use Rattle.calls.specs.Conditions.{NoFault}
-use Rattle.calls.specs.Rows.{Allowed, TableWith, Request104}
+use Rattle.calls.specs.Rows.{TableWith, Request104}
 use Rattle.calls.proofs.Faults.{fault-free, fault-none}
 use Rattle.calls.proofs.CallLaws.{pick-cases, Where, sheet-where, sheet-go}
 
@@ -60,24 +61,24 @@ module _ (bytes s : List ℕ) (f c i : ℕ) where
       ∙ simp (lt-ltb f (length (b .counts)) (field-in b f c (p .2)), lt-ltb c (codes b f) (p .2), T-true {x = hasField (nth b i) f} (has-field (nth b i) f .1 (p .3 .1)))
 
   -- the computed row is the first that keeps the code
-  first-row : Passes → (x : RowFound) → (x ≡ firstSupport (bookOf bytes) s f c i) ↔ IsFirstRow (bookOf bytes) s (nth (bookOf bytes) i) f c x
+  row-is-first : Passes → (x : RowFound) → (x ≡ firstSupport (bookOf bytes) s f c i) ↔ IsFirstRow (bookOf bytes) s (nth (bookOf bytes) i) f c x
   unfolding firstSupport
-  first-row p x =
+  row-is-first p x =
       first-in (bookOf bytes) s (nth (bookOf bytes) i) (one-column bytes (accepted-promise bytes (p .0)) i (p .3 .0)) f c (p .3 .1) x
 
   shows-exactly : rowBehind bytes s f c i .outcome .number ≡ 0 → (x : RowFound)
       → (rowBehind bytes s f c i ≡ done (rowCounts x) s []) ↔ IsFirstRow (bookOf bytes) s (nth (bookOf bytes) i) f c x
   shows-exactly n x =
       let p = passes n in (
-        λ e. first-row p x .0 (counts-tell x (firstSupport (bookOf bytes) s f c i) (ap (λ (r : Result). r .outcome .counts) (sym e ∙ row-go p))),
-        λ h. row-go p ∙ ap (λ (y : RowFound). done (rowCounts y) s []) (sym (first-row p x .1 h)),
+        λ e. row-is-first p x .0 (counts-tell x (firstSupport (bookOf bytes) s f c i) (ap (λ (r : Result). r .outcome .counts) (sym e ∙ row-go p))),
+        λ h. row-go p ∙ ap (λ (y : RowFound). done (rowCounts y) s []) (sym (row-is-first p x .1 h)),
       )
 
   none-exactly : rowBehind bytes s f c i .outcome .number ≡ 0
       → (rowBehind bytes s f c i .outcome ≡ accepted (0 ∷ 0 ∷ [])) ↔ ((r : ℕ) → Keeps (bookOf bytes) s (nth (bookOf bytes) i) f c r → ⊥)
   none-exactly n =
       let p = passes n in (
-        λ e. first-row p no-row .0
+        λ e. row-is-first p no-row .0
             (counts-tell no-row (firstSupport (bookOf bytes) s f c i) (ap (λ (o : Outcome). o .counts) (sym e ∙ ap (λ (r : Result). r .outcome) (row-go p)))),
         λ h. ap (λ (r : Result). r .outcome) (shows-exactly n no-row .1 h),
       )
@@ -93,10 +94,10 @@ module _ (bytes s : List ℕ) (a : Accepted bytes) (w : NoFault (bookOf bytes) s
       let x = standing-found (bookOf bytes) s f c u i (t .0) (t .1) in
       (x .0, shown (u .fits .of-book f c (u .has)) i t (x .1))
 
-  struck-shown : c < codes (bookOf bytes) f → Allowed s f c → (Standing (bookOf bytes) s f c → ⊥)
+  struck-shown : c < codes (bookOf bytes) f → T (allowed s f c) → (Standing (bookOf bytes) s f c → ⊥)
       → (i : ℕ) × TableWith bytes f i × (rowBehind bytes s f c i ≡ done (0 ∷ 0 ∷ []) s [])
-  struck-shown k allowed n =
-      let x = struck-somewhere (bookOf bytes) s f c k allowed (one-column bytes (accepted-promise bytes a)) n in
+  struck-shown k permitted n =
+      let x = struck-somewhere (bookOf bytes) s f c k permitted (one-column bytes (accepted-promise bytes a)) n in
       (x .0, (x .1, x .2), shown k (x .0) (x .1, x .2) (x .3))
 
 pub request104 : Request104

@@ -124,6 +124,10 @@ pub record FirstFault (b : Book) (s : List ℕ) (p : ℕ) : Type 0 where
 abbrev pub NoFault : Book → List ℕ → Type 0
 NoFault b s = (k : ℕ) → k < places → placeOk b s k ≡ true
 
+-- 21, "no such table or the field isn't in it"
+abbrev pub NotInTable : Book → ℕ → ℕ → Type 0
+NotInTable b f i = (length (b .tables) ≤ i) ⊎ ((i < length (b .tables)) × (FieldIn f (nth b i) → ⊥))
+
 -- The refusals of each call on sheet s behind 1 to 13, with number and place, each on its condition only: that the tests before it in the
 -- paper's order passed, and its own. Reading has none, "Fresh and clear: none"
 pub data Refusal (b : Book) (s : List ℕ) : Request → ℕ → ℕ → Type 0 where
@@ -154,8 +158,7 @@ pub data Refusal (b : Book) (s : List ℕ) : Request → ℕ → ℕ → Type 0 
   row-14 : {f c i p : ℕ} → FirstFault b s p → Refusal b s (to-row f c i) 14 p
   row-15 : {f c i : ℕ} → NoFault b s → length (b .counts) ≤ f → Refusal b s (to-row f c i) 15 0
   row-16 : {f c i : ℕ} → NoFault b s → f < length (b .counts) → codes b f ≤ c → Refusal b s (to-row f c i) 16 0
-  row-21 : {f c i : ℕ} → NoFault b s → f < length (b .counts) → c < codes b f
-      → (length (b .tables) ≤ i) ⊎ ((i < length (b .tables)) × (FieldIn f (nth b i) → ⊥)) → Refusal b s (to-row f c i) 21 0
+  row-21 : {f c i : ℕ} → NoFault b s → f < length (b .counts) → c < codes b f → NotInTable b f i → Refusal b s (to-row f c i) 21 0
   -- Request M-100: "Showing: 1 to 13, then 18, too few numbers lent"
   show-18 : {o : List ℕ} → length o < length (listingOf b) → Refusal b s (to-show o) 18 0
 

@@ -124,7 +124,7 @@ examples =
     ∷ record { book = encode twoPairs; form = 0 ∷ 1 ∷ 0 ∷ 255 ∷ []; read = accepted (4 ∷ 2 ∷ 4 ∷ 4 ∷ []); standing = 0 ∷ 0 ∷ 1 ∷ 1 ∷ []; pairs = 0 ∷ 1 ∷ 1 ∷ 0 ∷ []; listing = accepted (2 ∷ 18 ∷ []); rows = [] }
     ∷ []
 
--- the same, as the call answers it
+-- what is asked about a row, as the call answers it
 abbrev pub rowAnswered : List ℕ → List ℕ → RowExample → RowExample
 rowAnswered bytes s x = record { field = x .field; code = x .code; table = x .table; outcome = rowBehind bytes s (x .field) (x .code) (x .table) .outcome }
 

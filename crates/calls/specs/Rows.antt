@@ -1,20 +1,18 @@
 -- Document 02, M-104: what the call that shows the row behind a code says. Its proof is request104 (proofs/RowsShown.antt). Assumes nothing.
 use Prim.Native.Nat.{ℕ, _<_}
 use mathlib.Core.Path.{_≡_}
-use mathlib.Core.Logic.{_≢_, _↔_}
+use mathlib.Core.Logic.{_↔_}
 use mathlib.Core.List.{List, [], _∷_}
+use lib.Dec.{T}
 use lib.ListN.{length}
 use Rattle.format.specs.Format.{bookOf}
 use Rattle.format.specs.Reading.{accepted, Accepted}
-use Rattle.consistency.specs.Consistency.{codes, nth, answer, Standing}
+use Rattle.consistency.specs.Consistency.{codes, nth, Standing}
+use Rattle.consistency.specs.Largest.{allowed}
 use Rattle.consistency.specs.Ties.{FieldIn}
 use Rattle.consistency.specs.Rows.{RowFound, Keeps, IsFirstRow}
 use Rattle.calls.specs.Calls.{done, rowCounts, rowBehind}
 use Rattle.calls.specs.Conditions.{NoFault}
-
--- the answers allow code c of field f: the field has no other answer
-abbrev pub Allowed : List ℕ → ℕ → ℕ → Type 0
-Allowed s f c = answer s f ≢ 255 → c ≡ answer s f
 
 -- table i of the book has field f
 abbrev pub TableWith : List ℕ → ℕ → ℕ → Type 0
@@ -36,6 +34,6 @@ pub record Request104 : Type 0 where
   pub standing-shown : (bytes s : List ℕ) → Accepted bytes → NoFault (bookOf bytes) s → (f c : ℕ) → Standing (bookOf bytes) s f c
       → (i : ℕ) → TableWith bytes f i → (r : ℕ) × (rowBehind bytes s f c i ≡ done (1 ∷ r ∷ []) s [])
   -- a code that is struck, though the answers allow it, has none in some table with its field
-  pub struck-shown : (bytes s : List ℕ) → Accepted bytes → NoFault (bookOf bytes) s → (f c : ℕ) → c < codes (bookOf bytes) f → Allowed s f c
+  pub struck-shown : (bytes s : List ℕ) → Accepted bytes → NoFault (bookOf bytes) s → (f c : ℕ) → c < codes (bookOf bytes) f → T (allowed s f c)
       → (Standing (bookOf bytes) s f c → ⊥)
       → (i : ℕ) × TableWith bytes f i × (rowBehind bytes s f c i ≡ done (0 ∷ 0 ∷ []) s [])

@@ -18,11 +18,12 @@ use Rattle.format.proofs.Views.{noTable, tables-count, table-view, table-field,
 use Rattle.format.proofs.Scans.{bad-before, bad-fails, bad-ext}
 use Rattle.consistency.specs.Counting.{anyBelow}
 use Rattle.consistency.specs.Consistency.{Subdomain, Support, Inside, fieldOf, codeOf, codes, nth, answer, Standing}
-use Rattle.consistency.specs.Largest.{rowSupports, largest}
+use Rattle.consistency.specs.Largest.{rowSupports, allowed, largest}
 use Rattle.consistency.specs.Ties.{FieldIn}
 use Rattle.consistency.specs.Rows.{RowFound, at-row, no-row, Keeps, IsFirstRow, firstWhere, columnOf, hasField, rowBelow, firstSupportIn, firstSupport}
-use Rattle.consistency.proofs.Booleans.{T-or-not, T-true, true-T, false-T, and-in, and-left, and-right, or-left, or-right, or-out, eq→eqb, any-in, any-out}
+use Rattle.consistency.proofs.Booleans.{T-or-not, T-true, true-T, false-T, and-in, and-left, and-right, or-left, or-right, or-out, eq→eqb, any-in, any-out, all-ext}
 use Rattle.consistency.proofs.Supports.{SupportedIn, support-grows, row-in, row-there, row-others}
+use Rattle.consistency.proofs.Rounds.{allowed-out}
 use Rattle.consistency.proofs.Largest.{largest-is, standing-largest}
 
 -- ---- the first number at which p holds
@@ -65,6 +66,17 @@ module _ (p : ℕ → Bool) (n : ℕ) where
 pub first-ext : (p q : ℕ → Bool) (n : ℕ) → ((r : ℕ) → r < n → p r ≡ q r) → rowBelow n (firstWhere p n) ≡ rowBelow n (firstWhere q n)
 first-ext p q n h = ap (rowBelow n) (bad-ext (λ k. not (p k)) (λ k. not (q k)) 0 n zero-le (λ k l u. ap not (h k u)))
 
+-- that of a table turns on the subdomain's codes alone
+pub support-ext : (R S : Subdomain) → ((f c : ℕ) → R f c ≡ S f c) → (t : Table) (j c : ℕ) → firstSupportIn R t j c ≡ firstSupportIn S t j c
+unfolding rowSupports
+support-ext R S h t j c = first-ext (rowSupports R t j c) (rowSupports S t j c) (length (t .rows)) (λ r l. row-ext r)
+  where
+    row-ext : (r : ℕ) → rowSupports R t j c r ≡ rowSupports S t j c r
+    row-ext r =
+        ap (eqb (codeOf t r j) c &&_)
+        (all-ext (length (t .fields)) (λ k. eqb k j || R (fieldOf t k) (codeOf t r k)) (λ k. eqb k j || S (fieldOf t k) (codeOf t r k))
+        (λ k l. ap (eqb k j ||_) (h (fieldOf t k) (codeOf t r k))))
+
 -- ---- the column of a field
 
 -- no field has two columns of t: so it is in each table of an accepted book, whose fields rise
@@ -98,7 +110,7 @@ table-known b f i q = go (decLt i (length (b .tables)))
     go : Dec (i < length (b .tables)) → i < length (b .tables)
     go (yes l) = l
     go (no n) =
-        let none : nth b i ≡ noTable = List·getD-eq-default (b .tables) (noTable) (omega arith) in
+        let none : nth b i ≡ noTable = List·getD-eq-default (b .tables) noTable (omega arith) in
         absurd (not-suc-le-zero (subst (λ (t : Table). q .0 < length (t .fields)) none (q .1)))
 
 -- ---- the first row that keeps a code
@@ -211,7 +223,7 @@ module _ (b : Book) (a : List ℕ) (f c : ℕ) where
   grown : Inside (largest b a) added
   grown g d u = or-left (largest b a g d) (eqb g f && eqb d c) u
 
-  module _ (known : c < codes b f) (permitted : answer a f ≢ 255 → c ≡ answer a f) where
+  module _ (known : c < codes b f) (permitted : T (allowed a f c)) where
     -- with all its supports it fits, so it was there before
     supported-stands : SupportedIn b (largest b a) f c → Standing b a f c
     supported-stands s =
@@ -238,7 +250,7 @@ module _ (b : Book) (a : List ℕ) (f c : ℕ) where
 
         within : (g d : ℕ) → answer a g ≢ 255 → T (largest b a g d) ⊎ ((g ≡ f) × (d ≡ c)) → d ≡ answer a g
         within g d n (inl u) = largest-is b a .fits .within g d n u
-        within g d n (inr e) = e .1 ∙ permitted (λ z. n (ap (answer a) (e .0) ∙ z)) ∙ ap (answer a) (sym (e .0))
+        within g d n (inr e) = e .1 ∙ allowed-out a f c permitted (λ z. n (ap (answer a) (e .0) ∙ z)) ∙ ap (answer a) (sym (e .0))
 
     -- a code that the answers allow stands exactly where each table with its field has a row
     pub stands-exactly : ((i : ℕ) → i < length (b .tables) → OneColumn (nth b i)) → Standing b a f c ↔ RowEach

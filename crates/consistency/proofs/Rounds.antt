@@ -18,6 +18,12 @@ use Rattle.consistency.proofs.Removals.{remove-at, remove-falls, every-
 
 -- ---- the start
 
+-- a code that the answers allow is the answered one where there is an answer
+pub allowed-out : (a : List ℕ) (f c : ℕ) → T (allowed a f c) → answer a f ≢ 255 → c ≡ answer a f
+allowed-out a f c t n =
+    ⊎-elim (λ (q : T (eqb (answer a f) 255)). absurd (n (eqb→eq (answer a f) 255 q))) (λ (q : T (eqb c (answer a f))). eqb→eq c (answer a f) q)
+    (or-out (eqb (answer a f) 255) (eqb c (answer a f)) t)
+
 module _ (b : Book) (a : List ℕ) where
   -- the book's codes that the answers allow
   pub start-at : (f c : ℕ) → has (start b a) f c ≡ (ltb c (codes b f) && allowed a f c)
@@ -32,9 +38,7 @@ module _ (b : Book) (a : List ℕ) where
 
   -- the start has, of an answered field, at most the answered code
   pub start-within : WithinAnswers a (has (start b a))
-  start-within f c n t =
-      ⊎-elim (λ (q : T (eqb (answer a f) 255)). absurd (n (eqb→eq (answer a f) 255 q))) (λ (q : T (eqb c (answer a f))). eqb→eq c (answer a f) q)
-      (or-out (eqb (answer a f) 255) (eqb c (answer a f)) (and-right (ltb c (codes b f)) (allowed a f c) (subst T (start-at f c) t)))
+  start-within f c n t = allowed-out a f c (and-right (ltb c (codes b f)) (allowed a f c) (subst T (start-at f c) t)) n
 
   -- the answers allow a code that is the answered one where there is an answer
   allowed-in : (f c : ℕ) → (answer a f ≢ 255 → c ≡ answer a f) → Dec (answer a f ≡ 255) → T (allowed a f c)

@@ -8,7 +8,7 @@ use Prim.Native.Nat.{ℕ, _+_, _-_, _≤_, _<_, zero-le}
 use native.Mathlib.Nat.{le-trans}
 use native.Mathlib.Omega.{arith}
 use borrow.Author.Tests.{lt-ltb, le-ltb, eq-eqb, ne-eqb}
-use lib.Dec.{T, eqb}
+use lib.Dec.{eqb}
 use lib.ListN.{length, set, replicate}
 use lib.Seq.{getD-set-same, getD-set-other}
 use Rattle.format.specs.Basics.{pick, firstBad}
@@ -17,11 +17,11 @@ use Rattle.format.specs.Promise.{Promise, place}
 use Rattle.format.proofs.Views.{tables-count}
 use Rattle.format.proofs.Scans.{bad-on, bad-here, bad-none}
 use Rattle.book.specs.View.{Numbered}
-use Rattle.consistency.specs.Consistency.{Subdomain, fieldOf, codeOf, nth}
+use Rattle.consistency.specs.Consistency.{Subdomain, fieldOf, nth}
 use Rattle.consistency.specs.Largest.{rowSupports, largest}
 use Rattle.consistency.specs.Rows.{no-row, columnOf, hasField, firstSupportIn, firstSupport}
-use Rattle.consistency.proofs.Booleans.{T-ext, T-false}
-use Rattle.consistency.proofs.Supports.{row-in, row-there, row-others}
+use Rattle.consistency.proofs.Booleans.{T-false}
+use Rattle.consistency.proofs.Supports.{row-there}
 use Rattle.consistency.proofs.FirstRows as rows
 use Rattle.filter.specs.declared.support.Shape.{Shape}
 use Rattle.filter.specs.declared.support.Found.{Found}
@@ -33,9 +33,8 @@ use Rattle.filter.specs.Cases.{marksOf}
 use Rattle.filter.specs.Support.{InTable, shapeAt, firstFrom, rowCases}
 use Rattle.filter.specs.Rows.{supporting, supportingRow}
 use Rattle.filter.proofs.Lists.{zeros}
-use Rattle.filter.proofs.Words.{domain-bit}
-use Rattle.filter.proofs.CaseMarks.{marks-bit}
-use Rattle.filter.proofs.Shapes.{nth-at, table-at, arity-of, field-is, field-small, codes-small}
+use Rattle.filter.proofs.Shapes.{nth-at, table-at, arity-of, field-is, codes-small}
+use Rattle.filter.proofs.Agreement.{marks-domain}
 use Rattle.filter.proofs.FirstRow.{OneMark, rowNumber, first-row}
 
 -- ---- the place of a table
@@ -121,33 +120,13 @@ module _ {s : List ℕ} {at : ℕ} (q : InTable s (shapeAt s at)) where
       )))
       (rows.first-below (rowSupports S (tableAt s at) j c) (length (tableAt s at .rows)))
 
-  -- the marks of plain filtering are the largest subdomain
-  module _ (a M : List ℕ) (e : M ≡ marksOf (bookOf s) (a ∷ [])) where
-    same-mark : (r k : ℕ) → r < length (tableAt s at .rows) → k < length (tableAt s at .fields)
-        → domainOf M 0 (fieldOf (tableAt s at) k) (codeOf (tableAt s at) r k)
-        ≡ largest (bookOf s) a (fieldOf (tableAt s at) k) (codeOf (tableAt s at) r k)
-    same-mark r k l m =
-        let f : ℕ = fieldOf (tableAt s at) k in
-        let c : ℕ = codeOf (tableAt s at) r k in
-        let cl = codes-small s (shapeAt s at) q r k l m in
-        ap (λ (N : List ℕ). domainOf N 0 f c) e ∙ domain-bit (marksOf (bookOf s) (a ∷ [])) 0 f c cl
-        ∙ marks-bit (bookOf s) (a ∷ []) 0 f c (omega arith) (field-small s (shapeAt s at) q k (omega (arith, arity-of s (shapeAt s at) q))) cl
-
-    same-rows : (j c r : ℕ) → r < length (tableAt s at .rows)
-        → rowSupports (domainOf M 0) (tableAt s at) j c r ≡ rowSupports (largest (bookOf s) a) (tableAt s at) j c r
-    same-rows j c r l =
-        T-ext
-        (λ u.
-        row-in (largest (bookOf s) a) (tableAt s at) j c r (row-there (domainOf M 0) (tableAt s at) j c r u)
-        (λ k m n. subst T (same-mark r k l m) (row-others (domainOf M 0) (tableAt s at) j c r u k m n)))
-        (λ u.
-        row-in (domainOf M 0) (tableAt s at) j c r (row-there (largest (bookOf s) a) (tableAt s at) j c r u)
-        (λ k m n. subst T (sym (same-mark r k l m)) (row-others (largest (bookOf s) a) (tableAt s at) j c r u k m n)))
-
-    marks-rows : (j c : ℕ) → firstSupportIn (domainOf M 0) (tableAt s at) j c ≡ firstSupportIn (largest (bookOf s) a) (tableAt s at) j c
-    marks-rows j c =
-        rows.first-ext (rowSupports (domainOf M 0) (tableAt s at) j c) (rowSupports (largest (bookOf s) a) (tableAt s at) j c)
-        (length (tableAt s at .rows)) (same-rows j c)
+  -- in the marks of plain filtering the row is that of the largest subdomain
+  marks-rows : (a M : List ℕ) → M ≡ marksOf (bookOf s) (a ∷ []) → (j c : ℕ)
+      → firstSupportIn (domainOf M 0) (tableAt s at) j c ≡ firstSupportIn (largest (bookOf s) a) (tableAt s at) j c
+  marks-rows a M e j c =
+      ap (λ (N : List ℕ). firstSupportIn (domainOf N 0) (tableAt s at) j c) e
+      ∙ rows.support-ext (domainOf (marksOf (bookOf s) (a ∷ [])) 0) (largest (bookOf s) a) (marks-domain s (q .promise) (a ∷ []) 0 (omega arith))
+      (tableAt s at) j c
 
 -- ---- the whole
 

@@ -21,7 +21,7 @@ use Rattle.consistency.specs.Counts.{bit, mask, struck}
 use Rattle.consistency.proofs.Largest.{largest-is}
 use Rattle.consistency.proofs.CodeCounts.{field-in}
 use Rattle.consistency.proofs.Masks.{mask-ext, mask-none}
-use Rattle.filter.specs.Words.{wordAt, domainOf}
+use Rattle.filter.specs.Words.{domainOf}
 use Rattle.filter.specs.Cases.{casesOf, marksOf, plainOf}
 use Rattle.filter.specs.Revise.{Room}
 use Rattle.filter.specs.Queue.{SurveyGiven, Surveyed, PropagateGiven, Propagated}
@@ -32,8 +32,7 @@ use Rattle.filter.proofs.Totals.{allCodes}
 use Rattle.filter.proofs.CaseWords.{own-within, one-case}
 use Rattle.filter.proofs.Lists.{zeros, tabulate-ext}
 use Rattle.filter.proofs.StartDomains.{started-of-book}
-use Rattle.filter.proofs.Words.{domain-bit}
-use Rattle.filter.proofs.CaseMarks.{marks-bit}
+use Rattle.filter.proofs.Agreement.{marks-domain}
 use Rattle.filter.proofs.Gathers.{maskOf, maskBelow}
 use Rattle.filter.proofs.Ends.{marks-ended, count-ended, outside-struck}
 
@@ -120,10 +119,10 @@ module _ (s : List ℕ) (list fields tables : ℕ) (a own : List ℕ) (h : Numbe
 
 module _ (s : List ℕ) (list fields tables : ℕ) (a : List ℕ) (h : Numbered s list fields tables) (N : List ℕ) (e : N ≡ marksOf (bookOf s) (a ∷ [])) where
   -- each field's number
-  number-is : (f : ℕ) → f < places → maskOf N f ≡ mask codeLimit (largest (bookOf s) a f)
-  number-is f l =
+  number-is : (f : ℕ) → maskOf N f ≡ mask codeLimit (largest (bookOf s) a f)
+  number-is f =
       mask-ext codeLimit (domainOf N 0 f) (largest (bookOf s) a f)
-      (λ c m. domain-bit N 0 f c m ∙ ap (λ (M : List ℕ). bit (wordAt M f c) 0) e ∙ marks-bit (bookOf s) (a ∷ []) 0 f c (omega arith) l m)
+      (λ c m. ap (λ (M : List ℕ). domainOf M 0 f c) e ∙ marks-domain s (h .promise) (a ∷ []) 0 (omega arith) f c)
 
   -- 0 where the book has no field
   none-there : (f : ℕ) → fields ≤ f → mask codeLimit (largest (bookOf s) a f) ≡ 0
@@ -141,7 +140,7 @@ module _ (s : List ℕ) (list fields tables : ℕ) (a : List ℕ) (h : Numbered 
   number-below f l = at (decLt f fields)
     where
       at : Dec (f < fields) → maskBelow N fields f ≡ mask codeLimit (largest (bookOf s) a f)
-      at (yes m) = ap (λ (t : Bool). pick t (maskOf N f) 0) (lt-ltb f fields m) ∙ number-is f l
+      at (yes m) = ap (λ (t : Bool). pick t (maskOf N f) 0) (lt-ltb f fields m) ∙ number-is f
       at (no n) = ap (λ (t : Bool). pick t (maskOf N f) 0) (le-ltb f fields (omega arith)) ∙ sym (none-there f (omega arith))
 
   pub one-case-done : (n : List ℕ) → n ≡ tabulate (maskBelow N fields) places 0 → n ≡ plainOf (bookOf s) a
