@@ -13,14 +13,14 @@ use lib.Dec.{T, eqb, eqb→eq, T-not, not-T, T-prop}
 use Rattle.format.specs.Format.{Table, Book}
 use Rattle.consistency.specs.Consistency.{Subdomain, Fits, IsLargest, nth, answer, relax}
 use Rattle.consistency.specs.Counting.{those}
-use Rattle.consistency.specs.Counts.{answered, relaxable}
-use Rattle.consistency.specs.Unary.{answerTable, answerTables, withAnswers}
+use Rattle.consistency.specs.Counts.{answered}
+use Rattle.consistency.specs.Order.{In}
+use Rattle.consistency.specs.Unary.{answerTable, answerTables, answeredFields, withAnswers}
 use Rattle.consistency.proofs.Booleans.{T-ext, and-in, and-left, and-right, eq→eqb}
-use Rattle.consistency.proofs.Members.{in-those}
+use Rattle.consistency.proofs.Members.{in-those, those-in}
 use Rattle.consistency.proofs.Positions.{at-in, in-at}
 use Rattle.consistency.proofs.Sums.{those-ext}
 use Rattle.consistency.proofs.CodeCounts.{field-in}
-use Rattle.consistency.proofs.Lines.{relaxable-are}
 use Rattle.consistency.proofs.Tables.{Supported}
 
 -- ---- a field with an answer
@@ -32,10 +32,14 @@ answered-in a f n = not-T (eqb (answer a f) 255) (λ t. n (eqb→eq (answer a f)
 answered-out : (a : List ℕ) (f : ℕ) → T (answered a f) → answer a f ≢ 255
 answered-out a f t e = T-not (eqb (answer a f) 255) t (eq→eqb e)
 
--- a field with a table of its own is answered
-relaxable-answered : (b : Book) (a : List ℕ) (n : ℕ) → n < length (relaxable b a) → answer a (getD (relaxable b a) n 0) ≢ 255
-relaxable-answered b a n l =
-    answered-out a (getD (relaxable b a) n 0) (relaxable-are b a (getD (relaxable b a) n 0) .0 (at-in 0 (relaxable b a) n l) .1)
+-- the fields with a table of their own are the book's answered ones
+answered-are : (b : Book) (a : List ℕ) (f : ℕ) → In f (answeredFields b a) ↔ ((f < length (b .counts)) × T (answered a f))
+answered-are b a f = (in-those (length (b .counts)) (answered a), λ h. those-in (length (b .counts)) (answered a) (h .0) (h .1))
+
+-- so each is answered
+field-answered : (b : Book) (a : List ℕ) (n : ℕ) → n < length (answeredFields b a) → answer a (getD (answeredFields b a) n 0) ≢ 255
+field-answered b a n l =
+    answered-out a (getD (answeredFields b a) n 0) (answered-are b a (getD (answeredFields b a) n 0) .0 (at-in 0 (answeredFields b a) n l) .1)
 
 -- ---- the tables of the book with its answers
 
@@ -48,23 +52,23 @@ table-at a (f ∷ fs) d (suc n) l = table-at a fs d n (omega arith)
 module _ (b : Book) (a : List ℕ) where
   -- the book's own come first
   own : (i : ℕ) → i < length (b .tables) → nth (withAnswers b a) i ≡ nth b i
-  own i l = List·getD-append (b .tables) (answerTables a (relaxable b a)) (record { fields = []; rows = [] }) i l
+  own i l = List·getD-append (b .tables) (answerTables a (answeredFields b a)) (record { fields = []; rows = [] }) i l
 
   own-in : (i : ℕ) → i < length (b .tables) → i < length (withAnswers b a .tables)
   own-in i l = simp length-append (omega arith)
 
   -- then one for each field with an answer
-  added : (n : ℕ) → n < length (relaxable b a) → nth (withAnswers b a) (length (b .tables) + n) ≡ answerTable a (getD (relaxable b a) n 0)
+  added : (n : ℕ) → n < length (answeredFields b a) → nth (withAnswers b a) (length (b .tables) + n) ≡ answerTable a (getD (answeredFields b a) n 0)
   added n l =
-      getD-append-add (b .tables) (answerTables a (relaxable b a)) n (record { fields = []; rows = [] })
-      ∙ table-at a (relaxable b a) (record { fields = []; rows = [] }) n l
+      getD-append-add (b .tables) (answerTables a (answeredFields b a)) n (record { fields = []; rows = [] })
+      ∙ table-at a (answeredFields b a) (record { fields = []; rows = [] }) n l
 
-  added-in : (n : ℕ) → n < length (relaxable b a) → length (b .tables) + n < length (withAnswers b a .tables)
+  added-in : (n : ℕ) → n < length (answeredFields b a) → length (b .tables) + n < length (withAnswers b a .tables)
   added-in n l = simp (length-append, length-map) (omega arith)
 
   -- and no others
   added-all : (i : ℕ) → length (b .tables) ≤ i → i < length (withAnswers b a .tables)
-      → (n : ℕ) × (n < length (relaxable b a)) × (length (b .tables) + n ≡ i)
+      → (n : ℕ) × (n < length (answeredFields b a)) × (length (b .tables) + n ≡ i)
   added-all i h l = (i - length (b .tables), omega (arith, simp (length-append, length-map) at l), omega arith)
 
 -- the one row of an answer's table supports the answer, and nothing else
@@ -91,10 +95,10 @@ module _ (b : Book) (a : List ℕ) (S : Subdomain) where
       }
     where
       -- the n-th table added: where its field is f, its answer is c
-      added-supported : (f c : ℕ) → T (S f c) → (n : ℕ) → n < length (relaxable b a) → Supported S f c (answerTable a (getD (relaxable b a) n 0))
+      added-supported : (f c : ℕ) → T (S f c) → (n : ℕ) → n < length (answeredFields b a) → Supported S f c (answerTable a (getD (answeredFields b a) n 0))
       added-supported f c t n l =
-          answer-supports a f (getD (relaxable b a) n 0) c
-          (λ e. ap (answer a) e ∙ sym (h .within f c (λ o. relaxable-answered b a n l (ap (answer a) e ∙ o)) t))
+          answer-supports a f (getD (answeredFields b a) n 0) c
+          (λ e. ap (answer a) e ∙ sym (h .within f c (λ o. field-answered b a n l (ap (answer a) e ∙ o)) t))
 
       -- a table of the book, or one added
       turn : (f c : ℕ) → T (S f c) → (i : ℕ) → i < length (withAnswers b a .tables)
@@ -112,9 +116,9 @@ module _ (b : Book) (a : List ℕ) (S : Subdomain) where
         of-book = h .of-book;
         consistent = λ f c t i l. subst (Supported S f c) (own b a i l) (h .consistent f c t i (own-in b a i l));
         within = λ f c n t.
-            let w = in-at 0 (relaxable-are b a f .1 (field-in b f c (h .of-book f c t), answered-in a f n)) in
+            let w = in-at 0 (answered-are b a f .1 (field-in b f c (h .of-book f c t), answered-in a f n)) in
             let s = h .consistent f c t (length (b .tables) + w .0) (added-in b a (w .0) (w .1)) in
-            let g : ℕ = getD (relaxable b a) (w .0) 0 in
+            let g : ℕ = getD (answeredFields b a) (w .0) 0 in
             sym (supports-answer a f g c (w .2) (subst (Supported S f c) (added b a (w .0) (w .1)) s)) ∙ ap (answer a) (w .2);
       }
 
@@ -167,7 +171,7 @@ module _ (b : Book) (a : List ℕ) (f : ℕ) where
   other-table g t = ap (λ (x : ℕ). record { fields = g ∷ []; rows = (x ∷ []) ∷ [] }) (other-answer g (others-out g t))
 
   -- relaxing f leaves exactly f's table out
-  pub relax-leaves-out : answerTables (relax a f) (relaxable b (relax a f))
+  pub relax-leaves-out : answerTables (relax a f) (answeredFields b (relax a f))
       ≡ answerTables a (those (length (b .counts)) (λ g. answered a g && not (eqb g f)))
   relax-leaves-out =
       let n : ℕ = length (b .counts) in

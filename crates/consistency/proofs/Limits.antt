@@ -7,8 +7,8 @@ use native.Mathlib.Omega.{arith}
 use lib.ListN.{length}
 use Rattle.format.specs.Format.{Book, codeLimit}
 use Rattle.consistency.specs.Counting.{howMany, those, sumBelow, sumOver}
-use Rattle.consistency.specs.Consistency.{places, codes}
-use Rattle.consistency.specs.Counts.{answered, relaxable, listed, total, struck, codeTotal}
+use Rattle.consistency.specs.Consistency.{Sheet, places, codes}
+use Rattle.consistency.specs.Counts.{inDoubt, relaxable, listed, total, struck, codeTotal}
 use Rattle.consistency.proofs.Sums.{length-those, many-not}
 use Rattle.consistency.proofs.Marks.{struck-and-staying}
 
@@ -40,15 +40,15 @@ module _ (b : Book) (small : (f : ℕ) → codes b f ≤ codeLimit) where
     unfolding codeTotal
     code-total-few = omega (arith, sum-few (length (b .counts)) (codes b) codeLimit small)
 
-    module _ (a : List ℕ) where
+    module _ (s : Sheet) where
       -- the total: a line for each code of each place
-      pub total-few : total b a ≤ places * codeLimit
+      pub total-few : total b s ≤ places * codeLimit
       unfolding total
-      total-few = omega (arith, picked-few (length (b .counts)) (answered a) (listed b a), many-few (length (b .counts)) (answered a))
+      total-few = omega (arith, picked-few (length (b .counts)) (inDoubt s) (listed b (s .answers)), many-few (length (b .counts)) (inDoubt s))
 
       -- the number struck: all marks
-      pub struck-few : struck b a ≤ (places + 1) * (places * codeLimit)
+      pub struck-few : struck b s ≤ (places + 1) * (places * codeLimit)
       struck-few =
           let n : ℕ = length (b .counts) in
-          let cases : length (relaxable b a) + 1 ≤ places + 1 = omega (arith, length-those n (answered a), many-few n (answered a)) in
-          omega (arith, struck-and-staying b a, mul-le-mul cases code-total-few)
+          let cases : length (relaxable b s) + 1 ≤ places + 1 = omega (arith, length-those n (inDoubt s), many-few n (inDoubt s)) in
+          omega (arith, struck-and-staying b s, mul-le-mul cases code-total-few)

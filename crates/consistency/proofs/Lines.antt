@@ -1,28 +1,28 @@
--- The lines: exactly the alternatives of the answered fields, in order, as many as the total, two bytes each. Assumes nothing.
+-- The lines: exactly the alternatives of the answered fields without a photograph, in order, as many as the total, two bytes each. Assumes nothing.
 use mathlib.Core.Path.{_≡_, refl, sym, ap, ap₂, _∙_, subst, subst₂}
 use mathlib.Core.Logic.{_↔_}
-use mathlib.Core.Bool.{Bool, _&&_}
+use mathlib.Core.Bool.{Bool, not, _&&_}
 use mathlib.Core.List.{List, [], _∷_, Memᴰ·map}
 use Prim.Native.Nat.{ℕ, _*_, _<_}
 use native.Mathlib.Omega.{arith}
 use lib.ListN.{length, length-map}
-use lib.Dec.{T}
+use lib.Dec.{T, T-not}
 use Rattle.format.specs.Format.{Book}
 use Rattle.consistency.specs.Counting.{howMany, those, sumOver, joinOver}
-use Rattle.consistency.specs.Consistency.{Subdomain, OfBook, IsLargest, codes, relax}
+use Rattle.consistency.specs.Consistency.{Subdomain, OfBook, Sheet, IsLargest, codes, backed, relax}
 use Rattle.consistency.specs.Largest.{largest}
 use Rattle.consistency.specs.Emptiness.{noneEmpty}
-use Rattle.consistency.specs.Counts.{answered, relaxable, listedIn, listed, total, Line, linesOf, lines, lineBytes}
+use Rattle.consistency.specs.Counts.{answered, inDoubt, relaxable, listedIn, listed, total, Line, linesOf, lines, lineBytes}
 use Rattle.consistency.specs.Order.{In, Before, by-field, by-code, InOrder}
-use Rattle.consistency.proofs.Booleans.{and-left}
+use Rattle.consistency.proofs.Booleans.{and-left, and-right}
 use Rattle.consistency.proofs.Sums.{length-those, length-join, sum-over-ext}
 use Rattle.consistency.proofs.Members.{in-map, in-join, join-in, in-those, those-in, those-rising, map-in-order, join-in-order}
 use Rattle.consistency.proofs.Largest.{largest-is, largest-unique}
 use Rattle.consistency.proofs.EmptyFields.{none-ext}
 
--- the fields that get a case of their own are the book's answered ones
-pub relaxable-are : (b : Book) (a : List ℕ) (f : ℕ) → In f (relaxable b a) ↔ ((f < length (b .counts)) × T (answered a f))
-relaxable-are b a f = (in-those (length (b .counts)) (answered a), λ h. those-in (length (b .counts)) (answered a) (h .0) (h .1))
+-- the fields that get a case of their own are the book's answered ones without a photograph
+pub relaxable-are : (b : Book) (s : Sheet) (f : ℕ) → In f (relaxable b s) ↔ ((f < length (b .counts)) × T (inDoubt s f))
+relaxable-are b s f = (in-those (length (b .counts)) (inDoubt s), λ h. those-in (length (b .counts)) (inDoubt s) (h .0) (h .1))
 
 -- field f, code c
 abbrev line : ℕ → ℕ → Line
@@ -97,20 +97,27 @@ module _ (b : Book) (a : List ℕ) where
   listed-known f c t =
       largest-is b (relax a f) .fits .of-book f c (and-left (largest b (relax a f) f c) (noneEmpty b (largest b (relax a f))) t)
 
+module _ (b : Book) (s : Sheet) where
   -- by field, then code
-  pub lines-in-order : InOrder (lines b a)
+  pub lines-in-order : InOrder (lines b s)
   unfolding lines
-  lines-in-order = picked-in-order b (answered a) (listed b a)
+  lines-in-order = picked-in-order b (inDoubt s) (listed b (s .answers))
 
   -- "the total of alternatives" is the number of lines
-  pub length-lines : length (lines b a) ≡ total b a
+  pub length-lines : length (lines b s) ≡ total b s
   unfolding lines total
-  length-lines = length-picked b (answered a) (listed b a)
+  length-lines = length-picked b (inDoubt s) (listed b (s .answers))
 
-  -- a line is there exactly when its field is answered and its code is one of the field's alternatives
-  pub lines-are : (l : Line) → In l (lines b a) ↔ (In (l .field) (relaxable b a) × T (listed b a (l .field) (l .code)))
+  -- a line is there exactly when its field is answered without a photograph and its code is one of the field's alternatives
+  pub lines-are : (l : Line) → In l (lines b s) ↔ (In (l .field) (relaxable b s) × T (listed b (s .answers) (l .field) (l .code)))
   unfolding lines
-  lines-are = picked-are b (answered a) (listed b a) listed-known
+  lines-are = picked-are b (inDoubt s) (listed b (s .answers)) (listed-known b (s .answers))
+
+-- a photographed field "gets .. no alternatives" (02, M-105)
+pub backed-unlisted : (b : Book) (s : Sheet) (l : Line) → T (backed s (l .field)) → In l (lines b s) → ⊥
+backed-unlisted b s l t m =
+    let d = relaxable-are b s (l .field) .0 (lines-are b s l .0 m .0) .1 in
+    T-not (backed s (l .field)) (and-right (answered (s .answers) (l .field)) (not (backed s (l .field))) d) t
 
 -- two bytes a line
 pub length-line-bytes : (ls : List Line) → length (lineBytes ls) ≡ 2 * length ls

@@ -8,7 +8,7 @@ use native.Mathlib.Omega.{arith}
 use lib.ListN.{length, length-append}
 use Rattle.format.specs.Format.{Book}
 use Rattle.consistency.specs.Counting.{howMany, howManyIn, sumBelow, sumOver, joinOver, joinBelow}
-use Rattle.consistency.specs.Consistency.{codes, relax}
+use Rattle.consistency.specs.Consistency.{Sheet, codes, relax}
 use Rattle.consistency.specs.Largest.{largest}
 use Rattle.consistency.specs.Counts.{outside, relaxable, struck, codeTotal, caseMarks, marks, stays}
 use Rattle.consistency.proofs.Sums.{sum-ext, sum-over-ext, length-join, one-of-two}
@@ -73,26 +73,26 @@ module _ (b : Book) where
       ∙ sum-ext (length (b .counts)) _ (λ f. howMany (codes b f) (λ c. not (largest b a f c)))
       (λ f l. many-each (λ m. not (stays b m)) (codes b f) (λ c. record { answers = a; field = f; code = c }))
 
-  module _ (a : List ℕ) where
+  module _ (s : Sheet) where
     -- "(n+1) × K marks in all"
-    pub length-marks : length (marks b a) ≡ (length (relaxable b a) + 1) * codeTotal b
+    pub length-marks : length (marks b s) ≡ (length (relaxable b s) + 1) * codeTotal b
     unfolding marks
     length-marks =
-        length-append (caseMarks b a) _
-        ∙ ap₂ _+_ (length-case a)
-        (length-join (relaxable b a) _ ∙ sum-over-ext (relaxable b a) _ (λ f. codeTotal b) (λ f m. length-case (relax a f))
-        ∙ sum-over-same (relaxable b a) (codeTotal b))
-        ∙ omega (arith, add-mul (length (relaxable b a)) 1 (codeTotal b))
+        length-append (caseMarks b (s .answers)) _
+        ∙ ap₂ _+_ (length-case (s .answers))
+        (length-join (relaxable b s) _ ∙ sum-over-ext (relaxable b s) _ (λ f. codeTotal b) (λ f m. length-case (relax (s .answers) f))
+        ∙ sum-over-same (relaxable b s) (codeTotal b))
+        ∙ omega (arith, add-mul (length (relaxable b s)) 1 (codeTotal b))
 
     -- "The pass strikes marks and counts each as it is struck"
-    pub struck-marks : howManyIn (λ m. not (stays b m)) (marks b a) ≡ struck b a
+    pub struck-marks : howManyIn (λ m. not (stays b m)) (marks b s) ≡ struck b s
     unfolding marks struck
     struck-marks =
-        many-append (λ m. not (stays b m)) (caseMarks b a) _
-        ∙ ap₂ _+_ (struck-case a)
-        (many-join (λ m. not (stays b m)) (relaxable b a) _
-        ∙ sum-over-ext (relaxable b a) _ (λ f. outside b (largest b (relax a f))) (λ f m. struck-case (relax a f)))
+        many-append (λ m. not (stays b m)) (caseMarks b (s .answers)) _
+        ∙ ap₂ _+_ (struck-case (s .answers))
+        (many-join (λ m. not (stays b m)) (relaxable b s) _
+        ∙ sum-over-ext (relaxable b s) _ (λ f. outside b (largest b (relax (s .answers) f))) (λ f m. struck-case (relax (s .answers) f)))
 
     -- so those struck and those that stay are all
-    pub struck-and-staying : struck b a + howManyIn (stays b) (marks b a) ≡ (length (relaxable b a) + 1) * codeTotal b
-    struck-and-staying = omega (arith, struck-marks, many-in-not (stays b) (marks b a), length-marks)
+    pub struck-and-staying : struck b s + howManyIn (stays b) (marks b s) ≡ (length (relaxable b s) + 1) * codeTotal b
+    struck-and-staying = omega (arith, struck-marks, many-in-not (stays b) (marks b s), length-marks)

@@ -6,10 +6,10 @@ use Prim.Native.Nat.{ℕ, _+_}
 use lib.ListN.{length, getD}
 use Rattle.format.specs.Format.{Book}
 use Rattle.consistency.specs.Counting.{allBelow, anyBelow, howMany, those, sumBelow, sumOver, joinOver, tabulate}
-use Rattle.consistency.specs.Consistency.{Subdomain, relax}
+use Rattle.consistency.specs.Consistency.{Subdomain, Sheet, relax}
 use Rattle.consistency.specs.Largest.{largest}
 use Rattle.consistency.specs.Emptiness.{noneEmpty}
-use Rattle.consistency.specs.Counts.{outside, answered, total, struck, lines, mask, masks}
+use Rattle.consistency.specs.Counts.{outside, inDoubt, total, struck, lines, mask, masks}
 
 module _ (b d : Book) (counts : d .counts ≡ b .counts) (same : (a : List ℕ) (f c : ℕ) → largest b a f c ≡ largest d a f c) where
   -- what is a function of the field list and of the largest subdomain for each sheet is the same
@@ -20,26 +20,26 @@ module _ (b d : Book) (counts : d .counts ≡ b .counts) (same : (a : List ℕ) 
   abbrev listedBy : List ℕ → Subdomain → ℕ → ℕ → Bool
   listedBy ns S f c = S f c && allBelow (length ns) (λ g. anyBelow (getD ns g 0) (S g))
 
-  pub same-total : (a : List ℕ) → total b a ≡ total d a
+  pub same-total : (s : Sheet) → total b s ≡ total d s
   unfolding total noneEmpty
-  same-total a =
-      by-both (λ ns L. sumOver (those (length ns) (answered a)) (λ f. howMany (getD ns f 0) (listedBy ns (L (relax a f)) f)))
+  same-total s =
+      by-both (λ ns L. sumOver (those (length ns) (inDoubt s)) (λ f. howMany (getD ns f 0) (listedBy ns (L (relax (s .answers) f)) f)))
 
-  pub same-struck : (a : List ℕ) → struck b a ≡ struck d a
+  pub same-struck : (s : Sheet) → struck b s ≡ struck d s
   unfolding struck outside
-  same-struck a =
+  same-struck s =
       by-both
       (λ ns L.
       let out : Subdomain → ℕ = λ S. sumBelow (length ns) (λ f. howMany (getD ns f 0) (λ c. not (S f c))) in
-      out (L a) + sumOver (those (length ns) (answered a)) (λ f. out (L (relax a f))))
+      out (L (s .answers)) + sumOver (those (length ns) (inDoubt s)) (λ f. out (L (relax (s .answers) f))))
 
-  pub same-lines : (a : List ℕ) → lines b a ≡ lines d a
+  pub same-lines : (s : Sheet) → lines b s ≡ lines d s
   unfolding lines noneEmpty
-  same-lines a =
+  same-lines s =
       by-both
       (λ ns L.
-      joinOver (those (length ns) (answered a))
-      (λ f. map (λ (c : ℕ). record { field = f; code = c }) (those (getD ns f 0) (listedBy ns (L (relax a f)) f))))
+      joinOver (those (length ns) (inDoubt s))
+      (λ f. map (λ (c : ℕ). record { field = f; code = c }) (those (getD ns f 0) (listedBy ns (L (relax (s .answers) f)) f))))
 
   pub same-masks : (a : List ℕ) → masks b a ≡ masks d a
   unfolding masks

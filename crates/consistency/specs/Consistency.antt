@@ -4,7 +4,7 @@ use Prim.Native.Nat.{ℕ, _<_}
 use mathlib.Core.Path.{_≡_}
 use mathlib.Core.Logic.{_≢_}
 use mathlib.Core.List.{List, []}
-use mathlib.Core.Bool.{Bool}
+use mathlib.Core.Bool.{Bool, false}
 use lib.ListN.{length, getD, set}
 use lib.Dec.{T}
 use Rattle.format.specs.Format.{Table, Book, fieldMost}
@@ -32,9 +32,22 @@ Subdomain = ℕ → ℕ → Bool
 abbrev pub places : ℕ
 places = fieldMost
 
--- Answers are a sheet's bytes: "the answered code, or 255 for no answer". Nothing there is no answer
+-- A sheet's bytes are its answers; "Each place of the sheet gains a photographed yes or no" (02, M-105)
+pub record Sheet : Type 0 where
+  pub answers : List ℕ
+  pub photographs : List Bool
+
+-- the sheet with these answers and these photographs
+abbrev pub sheetWith : List ℕ → List Bool → Sheet
+sheetWith a p = record { answers = a; photographs = p }
+
+-- "the answered code, or 255 for no answer". Nothing there is no answer
 abbrev pub answer : List ℕ → ℕ → ℕ
 answer a f = getD a f 255
+
+-- "An answer backed by a photograph". Nothing there is no photograph
+abbrev pub backed : Sheet → ℕ → Bool
+backed s f = getD (s .photographs) f false
 
 -- "some row has that code there and, in its other columns, codes that are all in the subdomain"
 pub record Support (S : Subdomain) (t : Table) (j c : ℕ) : Type 0 where

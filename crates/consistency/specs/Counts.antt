@@ -1,4 +1,4 @@
--- Document 01, "The sheet and its one pass", with document 02's M-101: the cases, and what the pass counts and lists over them. Assumes nothing.
+-- Document 01, "The sheet and its one pass", with document 02's M-101 and M-105: the cases, and what the pass counts and lists over them. Assumes nothing.
 use Prim.Native.Nat.{ℕ, zero, suc, _+_, _/_, _%_, _^_}
 use mathlib.Core.List.{List, [], _∷_, _++_, map}
 use mathlib.Core.Bool.{Bool, not, _&&_}
@@ -7,7 +7,7 @@ use lib.Dec.{eqb}
 use Rattle.format.specs.Basics.{pick}
 use Rattle.format.specs.Format.{Book}
 use Rattle.consistency.specs.Counting.{howMany, those, sumBelow, sumOver, joinOver, joinBelow, tabulate}
-use Rattle.consistency.specs.Consistency.{Subdomain, codes, answer, relax}
+use Rattle.consistency.specs.Consistency.{Subdomain, Sheet, codes, answer, backed, relax}
 use Rattle.consistency.specs.Largest.{largest}
 use Rattle.consistency.specs.Emptiness.{noneEmpty}
 
@@ -23,9 +23,14 @@ outside b S = sumBelow (length (b .counts)) (λ f. howMany (codes b f) (λ c. no
 abbrev pub answered : List ℕ → ℕ → Bool
 answered a f = not (eqb (answer a f) 255)
 
--- The fields that get a case of their own, rising: "nothing lifted, then each answered field lifted by itself"
-abbrev pub relaxable : Book → List ℕ → List ℕ
-relaxable b a = those (length (b .counts)) (answered a)
+-- field f has an answer that may "be put in doubt": one without a photograph
+abbrev pub inDoubt : Sheet → ℕ → Bool
+inDoubt s f = answered (s .answers) f && not (backed s f)
+
+-- The fields that get a case of their own, rising: "nothing lifted, then each answered field lifted by itself"; a photographed field "gets no case
+-- of its own in the one pass and no alternatives" (02, M-105)
+abbrev pub relaxable : Book → Sheet → List ℕ
+relaxable b s = those (length (b .counts)) (inDoubt s)
 
 -- What is listed for field f if S is the largest subdomain with f lifted: "its own codes in the subdomain with it lifted", and "only if, with it
 -- lifted, no field at all is empty. Otherwise it has none" (document 02, M-101; source 004's summary has only codes that lead to no wipe-out)
@@ -36,13 +41,13 @@ listedIn b S f c = S f c && noneEmpty b S
 abbrev pub listed : Book → List ℕ → ℕ → ℕ → Bool
 listed b a f c = listedIn b (largest b (relax a f)) f c
 
--- "the total of alternatives"
-unfoldable pub total : Book → List ℕ → ℕ
-total b a = sumOver (relaxable b a) (λ f. howMany (codes b f) (listed b a f))
+-- "the total of alternatives"; "Totals and struck counts therefore run over the answered fields without a photograph, n being their number"
+unfoldable pub total : Book → Sheet → ℕ
+total b s = sumOver (relaxable b s) (λ f. howMany (codes b f) (listed b (s .answers) f))
 
 -- "the number struck": the codes outside the subdomain of each of the n + 1 cases, "those forbidden by an answer included"
-unfoldable pub struck : Book → List ℕ → ℕ
-struck b a = outside b (largest b a) + sumOver (relaxable b a) (λ f. outside b (largest b (relax a f)))
+unfoldable pub struck : Book → Sheet → ℕ
+struck b s = outside b (largest b (s .answers)) + sumOver (relaxable b s) (λ f. outside b (largest b (relax (s .answers) f)))
 
 -- "K is the number of codes of all fields of the book together"
 unfoldable pub codeTotal : Book → ℕ
@@ -59,8 +64,8 @@ unfoldable pub caseMarks : Book → List ℕ → List Mark
 caseMarks b a = joinBelow (length (b .counts)) (λ f. joinBelow (codes b f) (λ c. record { answers = a; field = f; code = c } ∷ []))
 
 -- the marks of a pass: "The one pass considers n+1 cases"
-unfoldable pub marks : Book → List ℕ → List Mark
-marks b a = caseMarks b a ++ joinOver (relaxable b a) (λ f. caseMarks b (relax a f))
+unfoldable pub marks : Book → Sheet → List Mark
+marks b s = caseMarks b (s .answers) ++ joinOver (relaxable b s) (λ f. caseMarks b (relax (s .answers) f))
 
 -- the mark's code is in the largest subdomain of its case
 abbrev pub stays : Book → Mark → Bool
@@ -74,9 +79,9 @@ pub record Line : Type 0 where
 abbrev pub linesOf : Book → (ℕ → Bool) → ℕ → List Line
 linesOf b p f = map (λ (c : ℕ). record { field = f; code = c }) (those (codes b f) p)
 
--- the alternatives of each answered field, by field then code
-unfoldable pub lines : Book → List ℕ → List Line
-lines b a = joinOver (relaxable b a) (λ f. linesOf b (listed b a f) f)
+-- the alternatives of each answered field without a photograph, by field then code
+unfoldable pub lines : Book → Sheet → List Line
+lines b s = joinOver (relaxable b s) (λ f. linesOf b (listed b (s .answers) f) f)
 
 -- "the lines go out as byte pairs, field then code"
 abbrev pub lineBytes : List Line → List ℕ
