@@ -1,8 +1,8 @@
--- Plain filtering with one answered field relaxed shows that field's alternatives, where it leaves no field empty. Assumes nothing.
+-- Plain filtering with one answered field without a photograph relaxed shows that field's alternatives, where it leaves no field empty. Assumes nothing.
 use mathlib.Core.Path.{_≡_, sym, ap, _∙_, subst}
 use mathlib.Core.Logic.{_≢_, _↔_}
 use mathlib.Core.List.{List, _++_}
-use mathlib.Core.Bool.{Bool}
+use mathlib.Core.Bool.{Bool, not}
 use Prim.Native.Nat.{ℕ, _*_, _<_}
 use native.Mathlib.Omega.{arith}
 use lib.ListN.{length, getD, drop}
@@ -11,10 +11,10 @@ use borrow.Author.Tests.{ne-eqb}
 use Rattle.format.specs.Basics.{pick}
 use Rattle.format.specs.Format.{Book, bookOf}
 use Rattle.format.proofs.Accepted.{verdict-accepted}
-use Rattle.consistency.specs.Consistency.{Subdomain, codes, relax}
+use Rattle.consistency.specs.Consistency.{Subdomain, Sheet, codes, backed, relax}
 use Rattle.consistency.specs.Largest.{largest}
 use Rattle.consistency.specs.Emptiness.{noneEmpty, NoneEmpty}
-use Rattle.consistency.specs.Counts.{bit, mask, total, lines, lineBytes}
+use Rattle.consistency.specs.Counts.{bit, answered, mask, total, lines, lineBytes}
 use Rattle.consistency.proofs.Booleans.{and-in, and-left, and-right, any-out, false-T}
 use Rattle.consistency.proofs.Largest.{largest-is}
 use Rattle.consistency.proofs.Masks.{mask-some, zero-bit}
@@ -28,16 +28,16 @@ use Rattle.calls.proofs.Sheets.{accepted-within}
 
 -- ---- what filtering with f relaxed writes
 
-module _ (bytes s : List ℕ) (f : ℕ) (o : List ℕ) (n : f ≢ 255) (e : filtered bytes s f o .outcome .number ≡ 0) where
+module _ (bytes : List ℕ) (s : Sheet) (f : ℕ) (o : List ℕ) (n : f ≢ 255) (e : filtered bytes s f o .outcome .number ≡ 0) where
   abbrev b : Book
   b = bookOf bytes
 
   abbrev S : Subdomain
-  S = largest b (relax s f)
+  S = largest b (relax (s .answers) f)
 
   -- f's answer alone is left out
-  answers : filterAnswers s f ≡ relax s f
-  answers = ap (λ (x : Bool). pick x s (relax s f)) (ne-eqb f 255 n)
+  answers : filterAnswers s f ≡ relax (s .answers) f
+  answers = ap (λ (x : Bool). pick x (s .answers) (relax (s .answers) f)) (ne-eqb f 255 n)
 
   -- a field's number shows its codes
   shows : (g c : ℕ) → g < length (b .counts) → Shows (filtered bytes s f o .buffer) g c ↔ T (S g c)
@@ -63,10 +63,10 @@ module _ (bytes s : List ℕ) (f : ℕ) (o : List ℕ) (n : f ≢ 255) (e : filt
 pub agreement : Agreement
 agreement bytes s o o′ e enough f l t =
     let b : Book = bookOf bytes in
-    let S : Subdomain = largest b (relax s f) in
+    let S : Subdomain = largest b (relax (s .answers) f) in
     let h = list-accepted bytes s o e in
     let n : f ≢ 255 = (λ k. omega (arith, accepted-within bytes (verdict-accepted bytes (h .passes)) .few)) in
-    let k = filter-accepts bytes s f o′ (h .passes) (h .no-fault) n l t enough in
+    let k = filter-accepts bytes s f o′ (h .passes) (h .no-fault) n l (and-left (answered (s .answers) f) (not (backed s f)) t) enough in
     record {
       accepts = k;
       list = lines b s;

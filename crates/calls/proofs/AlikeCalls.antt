@@ -10,7 +10,7 @@ use Rattle.consistency.specs.Alike.{Alike}
 use Rattle.consistency.proofs.SameLargest.{same-total, same-struck, same-lines}
 use Rattle.consistency.proofs.AlikeLaws.{alike-largest}
 use Rattle.calls.specs.Calls.{alternatives}
-use Rattle.calls.specs.Histories.{Call, enter, withdraw, clear, Answers, change, refusalOf, after, answersFrom, answersAfter, noAnswers, sheetOf}
+use Rattle.calls.specs.Histories.{Call, enter, withdraw, photograph, clear, Answers, change, refusalOf, after, answersFrom, answersAfter, noAnswers, sheetOf}
 use Rattle.calls.specs.Conditions.{SameResults}
 use Rattle.calls.proofs.Sheets.{Sound}
 use Rattle.calls.proofs.Steps.{on-sheet}
@@ -23,6 +23,7 @@ module _ (b d : Book) (counts : d .counts ≡ b .counts) where
   refusal-same : (a : Answers) (call : Call) → refusalOf b a call ≡ refusalOf d a call
   refusal-same a (enter f c) = rw counts
   refusal-same a (withdraw f) = rw counts
+  refusal-same a (photograph f) = rw counts
   refusal-same a clear = refl
 
   -- the answers after a call, and after a list

@@ -13,15 +13,17 @@ use Rattle.format.proofs.Numbers.{fail-number}
 use Rattle.format.proofs.Accepted.{verdict-accepted, accepted-promise}
 use Rattle.format.proofs.Decode.{promise-well}
 use Rattle.format.proofs.WriteAndShow.{book-well, write-and-show}
+use Rattle.consistency.specs.Consistency.{Sheet}
 use Rattle.consistency.specs.Counts.{total}
 use Rattle.consistency.proofs.Limits.{total-few}
+use Rattle.calls.specs.Calls.{freshSheet}
 use Rattle.calls.specs.Buffers.{Suffices}
-use Rattle.calls.specs.Conditions.{Request, to-filter, to-list, to-store, to-show, to-write, resultOf, givenBook, Refusal, filter-14, filter-15, filter-17, filter-18, list-14, list-18, store-14, store-18, show-18, WriteRefusal, write-missing, write-left-over, write-too-large, write-unread, write-18, RefusedBy, the-book, the-call, the-listing}
+use Rattle.calls.specs.Conditions.{Request, to-filter, to-list, to-store, to-show, to-write, resultOf, givenBook, Refusal, filter-14, filter-15, filter-17, filter-18, list-14, list-18, store-14, store-22, store-18, show-18, WriteRefusal, write-missing, write-left-over, write-too-large, write-unread, write-18, RefusedBy, the-book, the-call, the-listing}
 use Rattle.calls.proofs.Sheets.{Within, accepted-within}
 use Rattle.calls.proofs.Condition1.{condition1}
 
 -- a call refused by 18 has an accepted book, and is refused on a condition of its own
-refused-18 : (bytes s : List ℕ) (q : Request) → givenBook q ≡ true → resultOf bytes s q .outcome .number ≡ 18
+refused-18 : (bytes : List ℕ) (s : Sheet) (q : Request) → givenBook q ≡ true → resultOf bytes s q .outcome .number ≡ 18
     → Accepted bytes × Refusal (bookOf bytes) s q (resultOf bytes s q .outcome .number) (resultOf bytes s q .outcome .place)
 refused-18 bytes s q given e = at q given (condition1 bytes s q (λ z. omega arith) .reason) e
   where
@@ -32,13 +34,13 @@ refused-18 bytes s q given e = at q given (condition1 bytes s q (λ z. omega ari
     at (to-write l o) g (the-listing r) n = absurd (true≢false (sym g))
 
 -- writing is refused on a condition of its own, whatever the bytes
-of-writing : {bytes s l o : List ℕ} {number place : ℕ} → RefusedBy bytes s (to-write l o) number place → WriteRefusal l o number place
+of-writing : {bytes : List ℕ} {s : Sheet} {l o : List ℕ} {number place : ℕ} → RefusedBy bytes s (to-write l o) number place → WriteRefusal l o number place
 of-writing (the-book g e r) = absurd (true≢false (sym g))
 of-writing (the-listing r) = r
 
 -- ---- that condition
 
-module _ {b : Book} {s o : List ℕ} where
+module _ {b : Book} {s : Sheet} {o : List ℕ} where
   filter-short : {f number place : ℕ} → Refusal b s (to-filter f o) number place → number ≡ 18 → length o < length (b .counts)
   filter-short (filter-14 h) n = absurd (omega arith)
   filter-short (filter-15 w h l) n = absurd (omega arith)
@@ -51,7 +53,8 @@ module _ {b : Book} {s o : List ℕ} where
 
   store-short : {number place : ℕ} → Refusal b s (to-store o) number place → number ≡ 18 → length o < length (b .counts)
   store-short (store-14 h) n = absurd (omega arith)
-  store-short (store-18 w l) n = l
+  store-short (store-22 w k p) n = absurd (omega arith)
+  store-short (store-18 w p l) n = l
 
   show-short : {number place : ℕ} → Refusal b s (to-show o) number place → length o < length (listingOf b)
   show-short (show-18 l) = l
@@ -77,10 +80,10 @@ suffices =
           let r = refused-18 bytes s (to-store o) refl e in
           omega (arith, store-short (r .1) e, accepted-within bytes (r .0) .few);
       listing = λ bytes o l e.
-          let r = refused-18 bytes [] (to-show o) refl e in
+          let r = refused-18 bytes freshSheet (to-show o) refl e in
           let well = promise-well bytes (accepted-promise bytes (r .0)) in
           omega (arith, show-short (r .1), write-and-show .each (bookOf bytes) well .numbers-few);
       book = λ l o h e.
-          let w = write-short (of-writing (condition1 [] [] (to-write l o) (λ z. omega arith) .reason)) e in
+          let w = write-short (of-writing (condition1 [] freshSheet (to-write l o) (λ z. omega arith) .reason)) e in
           omega (arith, w .1, write-and-show .each (bookIn l) (book-well l (w .0)) .bytes-few);
     }

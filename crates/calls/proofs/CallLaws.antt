@@ -11,7 +11,7 @@ use Rattle.format.specs.Basics.{pick}
 use Rattle.format.specs.Format.{Book, bookOf}
 use Rattle.format.specs.Reading.{Verdict, pass, fail, verdict}
 use Rattle.format.proofs.Numbers.{fail-number}
-use Rattle.consistency.specs.Consistency.{places}
+use Rattle.consistency.specs.Consistency.{places, Sheet}
 use Rattle.calls.specs.Calls.{Result, turned, faultOf, withBook, faultThen, onSheet}
 -- either way of a test, with what the test says
 pub use Rattle.format.proofs.Picks.{pick-cases}
@@ -33,7 +33,7 @@ module _ (P : Result → Type 0) (refuse : ℕ → ℕ → Result) where
       at (fail number place) e = k number place e
 
 -- 1 to 14, then the rest
-pub sheet-holds : (P : Result → Type 0) (k : ℕ) (bytes s o : List ℕ) (go : Book → Result)
+pub sheet-holds : (P : Result → Type 0) (k : ℕ) (bytes : List ℕ) (s : Sheet) (o : List ℕ) (go : Book → Result)
     → ((number place : ℕ) → verdict bytes ≡ fail number place → P (turned k s o number place))
     → (verdict bytes ≡ pass → faultOf (bookOf bytes) s < places → P (turned k s o 14 (faultOf (bookOf bytes) s)))
     → (verdict bytes ≡ pass → places ≤ faultOf (bookOf bytes) s → P (go (bookOf bytes))) → P (onSheet k bytes s o go)
@@ -47,7 +47,7 @@ sheet-holds P k bytes s o go n f h =
 abbrev pub Where : (Result → Type 0) → Result → Type 0
 Where P r = r .outcome .number ≡ 0 → P r
 
-module _ (P : Result → Type 0) (k : ℕ) (bytes s o : List ℕ) (go : Book → Result) where
+module _ (P : Result → Type 0) (k : ℕ) (bytes : List ℕ) (s : Sheet) (o : List ℕ) (go : Book → Result) where
   -- a refusal does not accept
   refusal-where : (number place : ℕ) → 1 ≤ number → Where P (turned k s o number place)
   refusal-where number place l e = absurd (omega arith)
@@ -74,7 +74,7 @@ fault-go : (refuse : ℕ → ℕ → Result) (fault : ℕ) (r : Result) → plac
 fault-go refuse fault r l = ap (λ (t : Bool). pick t (refuse 14 fault) r) (le-ltb fault places l)
 
 -- both
-pub sheet-go : (k : ℕ) (bytes s o : List ℕ) (go : Book → Result) → verdict bytes ≡ pass → places ≤ faultOf (bookOf bytes) s
+pub sheet-go : (k : ℕ) (bytes : List ℕ) (s : Sheet) (o : List ℕ) (go : Book → Result) → verdict bytes ≡ pass → places ≤ faultOf (bookOf bytes) s
     → onSheet k bytes s o go ≡ go (bookOf bytes)
 sheet-go k bytes s o go e l =
     book-go bytes (turned k s o) (λ b. faultThen (turned k s o) (faultOf b s) (go b)) e

@@ -4,6 +4,7 @@ use mathlib.Core.Path.{_≡_, refl, ap, _∙_}
 use mathlib.Core.List.{List, [], _∷_}
 use Rattle.format.specs.Format.{Book, bookOf}
 use Rattle.format.specs.Reading.{Accepted}
+use Rattle.consistency.specs.Consistency.{Sheet}
 use Rattle.calls.specs.Calls.{Result, freshSheet}
 use Rattle.calls.specs.Histories.{Call, Answers, after, answersFrom, noAnswers, answersAfter, refusalsFrom, sheetOf, results, sheetThrough, sheetAfter}
 use Rattle.calls.specs.Conditions.{numbers}
@@ -53,7 +54,7 @@ module _ (bytes : List ℕ) (ok : Accepted bytes) where
   module _ (calls : List Call) where
     -- each call's result
     pub results-are : results bytes freshSheet calls ≡ stepsFrom b noAnswers calls
-    results-are = ap (λ (x : List ℕ). results bytes x calls) sheet-fresh ∙ results-from calls noAnswers (sound-none b)
+    results-are = ap (λ (x : Sheet). results bytes x calls) sheet-fresh ∙ results-from calls noAnswers (sound-none b)
 
     -- each call's number
     pub numbers-are : numbers (results bytes freshSheet calls) ≡ refusalsFrom b noAnswers calls
@@ -61,7 +62,7 @@ module _ (bytes : List ℕ) (ok : Accepted bytes) where
 
     -- "The sheet so reached holds the answers after the list and 255 in every other place"
     pub sheet-after : sheetAfter bytes calls ≡ sheetOf (answersAfter b calls)
-    sheet-after = ap (λ (x : List ℕ). sheetThrough bytes x calls) sheet-fresh ∙ through-from calls noAnswers (sound-none b)
+    sheet-after = ap (λ (x : Sheet). sheetThrough bytes x calls) sheet-fresh ∙ through-from calls noAnswers (sound-none b)
 
     -- the answers after the list are codes of their fields
     pub sound-after : Sound b (answersAfter b calls)

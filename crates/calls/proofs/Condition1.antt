@@ -16,25 +16,25 @@ use Rattle.format.specs.Listing.{listingOf, listingEnd}
 use Rattle.format.specs.Writing.{Reply, into, showingBy, showing, laidOut, allBytes, writable, writing}
 use Rattle.format.proofs.Numbers.{book-refusal}
 use Rattle.format.proofs.ByteTests.{bytes-true, true-bytes}
-use Rattle.consistency.specs.Consistency.{codes, nth, answer, relax}
+use Rattle.consistency.specs.Consistency.{places, Sheet, codes, nth, answer, backed, relax}
 use Rattle.consistency.specs.Counts.{total}
 use Rattle.consistency.specs.Rows.{hasField}
-use Rattle.consistency.proofs.Booleans.{false-T}
+use Rattle.consistency.proofs.Booleans.{true-T, false-T, T-true, T-false, any-in, any-out}
 use Rattle.consistency.proofs.FirstRows.{has-field}
-use Rattle.calls.specs.Calls.{Result, turned, done, beside, faultOf, onSheet, masksInto, sheetFrom, entered, withdrawn, filtered, alternatives, loaded, stored, rowBehind}
-use Rattle.calls.specs.Conditions.{Request, to-read, to-fresh, to-enter, to-withdraw, to-clear, to-filter, to-list, to-store, to-load, to-row, to-show, to-write, resultOf, givenBook, sheetGiven, lentTo, countsOf, FirstFault, NoFault, NotInTable, Refusal, enter-14, enter-15, enter-16, withdraw-14, withdraw-15, withdraw-17, filter-14, filter-15, filter-17, filter-18, list-14, list-18, store-14, store-18, load-19, load-14, row-14, row-15, row-16, row-21, show-18, WriteRefusal, write-missing, write-left-over, write-too-large, write-unread, write-18, RefusedBy, the-book, the-call, the-listing, IsRefusal, Condition1}
-use Rattle.calls.proofs.Faults.{first-fault, fault-free}
+use Rattle.calls.specs.Calls.{Result, turned, done, beside, faultOf, onSheet, anyBacked, masksInto, sheetFrom, entered, withdrawn, photographed, filtered, alternatives, loaded, stored, rowBehind}
+use Rattle.calls.specs.Conditions.{Request, to-read, to-fresh, to-enter, to-withdraw, to-photograph, to-clear, to-filter, to-list, to-store, to-load, to-row, to-show, to-write, resultOf, givenBook, sheetGiven, lentTo, countsOf, FirstFault, NoFault, NoPhotograph, NotInTable, Refusal, enter-14, enter-15, enter-16, enter-22, withdraw-14, withdraw-15, withdraw-17, withdraw-22, photograph-14, photograph-15, photograph-17, filter-14, filter-15, filter-17, filter-18, list-14, list-18, store-14, store-22, store-18, load-19, load-14, row-14, row-15, row-16, row-21, show-18, WriteRefusal, write-missing, write-left-over, write-too-large, write-unread, write-18, RefusedBy, the-book, the-call, the-listing, IsRefusal, Condition1}
+use Rattle.calls.proofs.Faults.{first-fault, fault-free, backed-known}
 use Rattle.calls.proofs.CallLaws.{pick-cases, fault-holds, book-holds, sheet-holds}
 
 -- r is an answer that accepts, or a refusal of call q
-abbrev Settled : List ℕ → List ℕ → Request → Result → Type 0
+abbrev Settled : List ℕ → Sheet → Request → Result → Type 0
 Settled bytes s q r = r .outcome .number ≢ 0 → IsRefusal bytes s q r
 
 -- call q on sheet s turned down
-abbrev refusal : List ℕ → Request → ℕ → ℕ → Result
+abbrev refusal : Sheet → Request → ℕ → ℕ → Result
 refusal s q number place = turned (countsOf q) (sheetGiven s q) (lentTo q) number place
 
-module _ {bytes s : List ℕ} {q : Request} where
+module _ {bytes : List ℕ} {s : Sheet} {q : Request} where
   refused-by : {number place : ℕ} → RefusedBy bytes s q number place → Settled bytes s q (refusal s q number place)
   refused-by why n = record { reason = why; counts = refl; sheet = refl; buffer = refl }
 
@@ -46,7 +46,7 @@ module _ {bytes s : List ℕ} {q : Request} where
   by-call : {number place : ℕ} → verdict bytes ≡ pass → Refusal (bookOf bytes) s q number place → Settled bytes s q (refusal s q number place)
   by-call e why = refused-by (the-call e why)
 
-  done-settled : {counts t o : List ℕ} → Settled bytes s q (done counts t o)
+  done-settled : {counts : List ℕ} {t : Sheet} {o : List ℕ} → Settled bytes s q (done counts t o)
   done-settled n = absurd (n refl)
 
   -- a test that turns the call down where it passes, and one where it fails
@@ -65,12 +65,12 @@ module _ {bytes s : List ℕ} {q : Request} where
       → Settled bytes s q (onSheet (countsOf q) bytes (sheetGiven s q) (lentTo q) go)
   sheet-settled g go at-fault h =
       let b : Book = bookOf bytes in
-      let t : List ℕ = sheetGiven s q in
+      let t : Sheet = sheetGiven s q in
       sheet-holds (Settled bytes s q) (countsOf q) bytes t (lentTo q) go (by-book g)
       (λ e l. by-call e (at-fault (faultOf b t) (first-fault b t l))) (λ e l. h e (fault-free b t l))
 
 -- what reading answers
-read-settled : (bytes s : List ℕ) → Settled bytes s to-read (resultOf bytes s to-read)
+read-settled : (bytes : List ℕ) (s : Sheet) → Settled bytes s to-read (resultOf bytes s to-read)
 unfolding reading
 read-settled bytes s = at (verdict bytes) refl
   where
@@ -79,7 +79,7 @@ read-settled bytes s = at (verdict bytes) refl
     at (fail number place) e = by-book refl number place e
 
 -- what a call with one count leaves behind, whether the memory lent suffices for xs or not
-into-settled : {bytes s : List ℕ} {q : Request} (xs o : List ℕ)
+into-settled : {bytes : List ℕ} {s : Sheet} {q : Request} (xs o : List ℕ)
     → (length o < length xs → Settled bytes s q (turned 1 s o 18 0)) → Settled bytes s q (beside s (into xs o))
 unfolding into
 into-settled {bytes} {s} {q} xs o h =
@@ -87,7 +87,7 @@ into-settled {bytes} {s} {q} xs o h =
     done-settled)
 
 -- what showing answers
-show-settled : (bytes s o : List ℕ) → Settled bytes s (to-show o) (resultOf bytes s (to-show o))
+show-settled : (bytes : List ℕ) (s : Sheet) (o : List ℕ) → Settled bytes s (to-show o) (resultOf bytes s (to-show o))
 unfolding showing
 show-settled bytes s o = at (verdict bytes) refl
   where
@@ -121,7 +121,7 @@ unwritable l o e =
     (first-false (eqb (listingEnd l) (length l)) (allBytes bytes && eqb (reading bytes .number) 0) e)
 
 -- what writing answers
-write-settled : (bytes s l o : List ℕ) → Settled bytes s (to-write l o) (resultOf bytes s (to-write l o))
+write-settled : (bytes : List ℕ) (s : Sheet) (l o : List ℕ) → Settled bytes s (to-write l o) (resultOf bytes s (to-write l o))
 unfolding writing
 write-settled bytes s l o =
     pick-cases (λ (r : Reply). Settled bytes s (to-write l o) (beside s r)) (writable l)
@@ -136,8 +136,18 @@ not-there b f i e = at (ltb i (length (b .tables))) refl
     at true t = inr (ltb-true i (length (b .tables)) t, λ q. false-T e (has-field (nth b i) f .1 q))
     at false t = inl (ltb-false i (length (b .tables)) t)
 
+-- 22 of storing: where the test passes, a field of the book has a photograph, and where it fails no place has
+store-backed : (b : Book) (s : Sheet) (o : List ℕ) → NoFault b s → anyBacked s ≡ true → Refusal b s (to-store o) 22 0
+store-backed b s o w t =
+    let k = any-out places (backed s) (true-T t) in
+    let y : backed s (k .0) ≡ true = T-true (k .2) in
+    store-22 w (backed-known b s w (k .0) (k .1) y) y
+
+none-backed : (s : Sheet) → anyBacked s ≡ false → NoPhotograph s
+none-backed s t k l = T-false (λ u. false-T t (any-in places (backed s) k l u))
+
 pub condition1 : Condition1
-unfolding entered withdrawn filtered alternatives loaded stored rowBehind
+unfolding entered withdrawn photographed filtered alternatives loaded stored rowBehind
 condition1 bytes s to-read = read-settled bytes s
 condition1 bytes s to-fresh = done-settled
 condition1 bytes s (to-enter f c) =
@@ -146,33 +156,47 @@ condition1 bytes s (to-enter f c) =
     sheet-settled refl _ (λ p. enter-14) (λ e w.
     fail-settled e (ltb f n) (λ t. enter-15 w (ltb-false f n t)) (λ t.
     fail-settled e (ltb c (codes b f)) (λ u. enter-16 w (ltb-true f n t) (ltb-false c (codes b f) u)) (λ u.
-    done-settled)))
+    pass-settled e (backed s f) (λ v. enter-22 w (ltb-true f n t) (ltb-true c (codes b f) u) v) (λ v.
+    done-settled))))
 condition1 bytes s (to-withdraw f) =
     let n : ℕ = length (bookOf bytes .counts) in
+    let x : ℕ = answer (s .answers) f in
     sheet-settled refl _ (λ p. withdraw-14) (λ e w.
     fail-settled e (ltb f n) (λ t. withdraw-15 w (ltb-false f n t)) (λ t.
-    pass-settled e (eqb (answer s f) 255) (λ u. withdraw-17 w (ltb-true f n t) (eqb-true (answer s f) 255 u)) (λ u.
+    pass-settled e (eqb x 255) (λ u. withdraw-17 w (ltb-true f n t) (eqb-true x 255 u)) (λ u.
+    pass-settled e (backed s f) (λ v. withdraw-22 w (ltb-true f n t) (eqb-false x 255 u) v) (λ v.
+    done-settled))))
+condition1 bytes s (to-photograph f) =
+    let n : ℕ = length (bookOf bytes .counts) in
+    let x : ℕ = answer (s .answers) f in
+    sheet-settled refl _ (λ p. photograph-14) (λ e w.
+    fail-settled e (ltb f n) (λ t. photograph-15 w (ltb-false f n t)) (λ t.
+    pass-settled e (eqb x 255) (λ u. photograph-17 w (ltb-true f n t) (eqb-true x 255 u)) (λ u.
     done-settled)))
 condition1 bytes s to-clear = done-settled
 condition1 bytes s (to-filter f o) =
     let b : Book = bookOf bytes in
     let n : ℕ = length (b .counts) in
-    let masks-settled : verdict bytes ≡ pass → NoFault b s → (f ≡ 255) ⊎ ((f < n) × (answer s f ≢ 255)) → (a : List ℕ)
+    let x : ℕ = answer (s .answers) f in
+    let masks-settled : verdict bytes ≡ pass → NoFault b s → (f ≡ 255) ⊎ ((f < n) × (x ≢ 255)) → (a : List ℕ)
     → Settled bytes s (to-filter f o) (masksInto b s a o) =
     (λ e w g a. pass-settled e (ltb (length o) n) (λ t. filter-18 w g (ltb-true (length o) n t)) (λ t. done-settled)) in
     sheet-settled refl _ (λ p. filter-14) (λ e w.
-    pick-cases (Settled bytes s (to-filter f o)) (eqb f 255) (λ t. masks-settled e w (inl (eqb-true f 255 t)) s) (λ t.
+    pick-cases (Settled bytes s (to-filter f o)) (eqb f 255) (λ t. masks-settled e w (inl (eqb-true f 255 t)) (s .answers)) (λ t.
     let some : f ≢ 255 = eqb-false f 255 t in
     fail-settled e (ltb f n) (λ u. filter-15 w some (ltb-false f n u)) (λ u.
-    pass-settled e (eqb (answer s f) 255) (λ v. filter-17 w some (ltb-true f n u) (eqb-true (answer s f) 255 v)) (λ v.
-    masks-settled e w (inr (ltb-true f n u, eqb-false (answer s f) 255 v)) (relax s f)))))
+    pass-settled e (eqb x 255) (λ v. filter-17 w some (ltb-true f n u) (eqb-true x 255 v)) (λ v.
+    masks-settled e w (inr (ltb-true f n u, eqb-false x 255 v)) (relax (s .answers) f)))))
 condition1 bytes s (to-list o) =
     let enough : ℕ = 2 * total (bookOf bytes) s in
     sheet-settled refl _ (λ p. list-14) (λ e w.
     pass-settled e (ltb (length o) enough) (λ t. list-18 w (ltb-true (length o) enough t)) (λ t. done-settled))
 condition1 bytes s (to-store o) =
-    let n : ℕ = length (bookOf bytes .counts) in
-    sheet-settled refl _ (λ p. store-14) (λ e w. pass-settled e (ltb (length o) n) (λ t. store-18 w (ltb-true (length o) n t)) (λ t. done-settled))
+    let b : Book = bookOf bytes in
+    let n : ℕ = length (b .counts) in
+    sheet-settled refl _ (λ p. store-14) (λ e w.
+    pass-settled e (anyBacked s) (λ t. store-backed b s o w t) (λ t.
+    pass-settled e (ltb (length o) n) (λ u. store-18 w (none-backed s t) (ltb-true (length o) n u)) (λ u. done-settled)))
 condition1 bytes s (to-load form) =
     let S : Result → Type 0 = Settled bytes s (to-load form) in
     let b : Book = bookOf bytes in

@@ -12,7 +12,7 @@ use borrow.Author.Tests.{ltb-false, ltb-true, eqb-true, lt-ltb, le-ltb, ne-eqb, 
 use Rattle.format.specs.Basics.{pick}
 use Rattle.format.specs.Format.{Book, bookOf}
 use Rattle.format.specs.Reading.{pass, verdict}
-use Rattle.consistency.specs.Consistency.{places, codes, answer, relax}
+use Rattle.consistency.specs.Consistency.{places, Sheet, codes, answer, relax}
 use Rattle.consistency.specs.Largest.{largest}
 use Rattle.consistency.specs.Counts.{bit, mask, masks, answered}
 use Rattle.consistency.proofs.Booleans.{true-T, T-true}
@@ -51,13 +51,13 @@ module _ (b : Book) (a o : List ℕ) where
 -- ---- an accepted filtering
 
 -- what it says: numbers enough, a field to relax that the book has and that is answered, and the numbers written
-record Filters (b : Book) (s : List ℕ) (g : ℕ) (o : List ℕ) (r : Result) : Type 0 where
+record Filters (b : Book) (s : Sheet) (g : ℕ) (o : List ℕ) (r : Result) : Type 0 where
   enough : length (b .counts) ≤ length o
-  relaxed : g ≢ 255 → (g < length (b .counts)) × T (answered s g)
+  relaxed : g ≢ 255 → (g < length (b .counts)) × T (answered (s .answers) g)
   result : r ≡ done [] s (numbers b (filterAnswers s g) o)
 
-module _ (b : Book) (s : List ℕ) (g : ℕ) (o : List ℕ) where
-  masks-where : (a : List ℕ) → filterAnswers s g ≡ a → (g ≢ 255 → (g < length (b .counts)) × T (answered s g))
+module _ (b : Book) (s : Sheet) (g : ℕ) (o : List ℕ) where
+  masks-where : (a : List ℕ) → filterAnswers s g ≡ a → (g ≢ 255 → (g < length (b .counts)) × T (answered (s .answers) g))
       → Where (Filters b s g o) (masksInto b s a o)
   masks-where a e h =
       pick-cases (Where (Filters b s g o)) (ltb (length o) (length (b .counts))) (λ t n. absurd (omega arith))
@@ -69,17 +69,17 @@ module _ (b : Book) (s : List ℕ) (g : ℕ) (o : List ℕ) where
       })
 
   -- nothing relaxed
-  none-where : eqb g 255 ≡ true → Where (Filters b s g o) (masksInto b s s o)
-  none-where t = masks-where s (ap (λ (x : Bool). pick x s (relax s g)) t) (λ n. absurd (n (eqb-true g 255 t)))
+  none-where : eqb g 255 ≡ true → Where (Filters b s g o) (masksInto b s (s .answers) o)
+  none-where t = masks-where (s .answers) (ap (λ (x : Bool). pick x (s .answers) (relax (s .answers) g)) t) (λ n. absurd (n (eqb-true g 255 t)))
 
   -- field g relaxed
-  one-where : eqb g 255 ≡ false → ltb g (length (b .counts)) ≡ true → eqb (answer s g) 255 ≡ false
-      → Where (Filters b s g o) (masksInto b s (relax s g) o)
+  one-where : eqb g 255 ≡ false → ltb g (length (b .counts)) ≡ true → eqb (answer (s .answers) g) 255 ≡ false
+      → Where (Filters b s g o) (masksInto b s (relax (s .answers) g) o)
   one-where t l u =
-      masks-where (relax s g) (ap (λ (x : Bool). pick x s (relax s g)) t)
+      masks-where (relax (s .answers) g) (ap (λ (x : Bool). pick x (s .answers) (relax (s .answers) g)) t)
       (λ n. (ltb-true g (length (b .counts)) l, true-T (ap not u)))
 
-filter-accepted : (bytes s : List ℕ) (g : ℕ) (o : List ℕ) → filtered bytes s g o .outcome .number ≡ 0
+filter-accepted : (bytes : List ℕ) (s : Sheet) (g : ℕ) (o : List ℕ) → filtered bytes s g o .outcome .number ≡ 0
     → Filters (bookOf bytes) s g o (filtered bytes s g o)
 unfolding filtered
 filter-accepted bytes s g o =
@@ -88,11 +88,11 @@ filter-accepted bytes s g o =
     sheet-where F 0 bytes s o _ (λ p w.
     pick-cases (Where F) (eqb g 255) (none-where b s g o) (λ t.
     pick-cases (Where F) (ltb g (length (b .counts)))
-    (λ l. pick-cases (Where F) (eqb (answer s g) 255) (λ u n. absurd (omega arith)) (one-where b s g o t l))
+    (λ l. pick-cases (Where F) (eqb (answer (s .answers) g) 255) (λ u n. absurd (omega arith)) (one-where b s g o t l))
     (λ l n. absurd (omega arith))))
 
 -- a field's number is the mask of its codes
-pub filter-number : (bytes s : List ℕ) (g : ℕ) (o : List ℕ) → filtered bytes s g o .outcome .number ≡ 0
+pub filter-number : (bytes : List ℕ) (s : Sheet) (g : ℕ) (o : List ℕ) → filtered bytes s g o .outcome .number ≡ 0
     → (f : ℕ) → f < length (bookOf bytes .counts)
     → getD (filtered bytes s g o .buffer) f 0 ≡ mask (codes (bookOf bytes) f) (largest (bookOf bytes) (filterAnswers s g) f)
 filter-number bytes s g o e f l =
@@ -101,13 +101,13 @@ filter-number bytes s g o e f l =
     ap (λ (r : Result). getD (r .buffer) f 0) (filter-accepted bytes s g o e .result) ∙ number-at b a o f l ∙ masks-at b a f
 
 -- the other way: where the book passes, no place is at fault, field g has an answer and numbers enough are lent
-pub filter-accepts : (bytes s : List ℕ) (g : ℕ) (o : List ℕ) → verdict bytes ≡ pass → places ≤ faultOf (bookOf bytes) s → g ≢ 255
-    → g < length (bookOf bytes .counts) → T (answered s g) → length (bookOf bytes .counts) ≤ length o
+pub filter-accepts : (bytes : List ℕ) (s : Sheet) (g : ℕ) (o : List ℕ) → verdict bytes ≡ pass → places ≤ faultOf (bookOf bytes) s → g ≢ 255
+    → g < length (bookOf bytes .counts) → T (answered (s .answers) g) → length (bookOf bytes .counts) ≤ length o
     → filtered bytes s g o .outcome .number ≡ 0
 unfolding filtered
 filter-accepts bytes s g o p w n l t enough =
     let b : Book = bookOf bytes in
-    let u : eqb (answer s g) 255 ≡ false = not-true (eqb (answer s g) 255) (T-true t) in
+    let u : eqb (answer (s .answers) g) 255 ≡ false = not-true (eqb (answer (s .answers) g) 255) (T-true t) in
     ap (λ (r : Result). r .outcome .number) (sheet-go 0 bytes s o _ p w)
     ∙ simp (ne-eqb g 255 n, lt-ltb g (length (b .counts)) l, u, le-ltb (length o) (length (b .counts)) enough)
 

@@ -1,6 +1,6 @@
 -- Condition 3 at work: two different books, both accepted, that are alike; a list of calls with every refusal, with what listing answers behind
 -- it, computed; and an enter of a code that does not stand. Condition 1 at work: each refusal of writing and showing. Assumes nothing.
-use Prim.Native.Nat.{ℕ}
+use Prim.Native.Nat.{ℕ, _-_}
 use mathlib.Core.Path.{_≡_, refl, sym, ap, _∙_, subst₂}
 use mathlib.Core.Logic.{_≢_}
 use mathlib.Core.Bool.{false}
@@ -15,13 +15,13 @@ use Rattle.format.specs.Writing.{declined, into, showing, laidOut, writable, wr
 use Rattle.format.specs.Examples.{e1, e1′}
 use Rattle.format.proofs.Witness.{e1-reading}
 use Rattle.format.proofs.ByteTests.{bytes-true}
-use Rattle.consistency.specs.Consistency.{fieldOf, nth}
+use Rattle.consistency.specs.Consistency.{places, Sheet, fieldOf, nth}
 use Rattle.consistency.specs.Largest.{largest, largestDomains, rounds, start, remove, removeFrom, count, countOf, bookSupports, tableSupports, rowSupports}
 use Rattle.consistency.specs.Emptiness.{noneEmpty}
 use Rattle.consistency.specs.Counts.{total, struck, lines, outside}
 use Rattle.consistency.specs.Alike.{Alike}
 use Rattle.consistency.proofs.AlikeExample.{example, turned, example-alike}
-use Rattle.calls.specs.Calls.{freshSheet, done, sheetFrom, entered, withdrawn, alternatives}
+use Rattle.calls.specs.Calls.{plainSheet, freshSheet, done, sheetFrom, entered, withdrawn, alternatives}
 use Rattle.calls.specs.Histories.{Call, enter, withdraw, clear, results, sheetThrough, sheetAfter}
 use Rattle.calls.specs.Conditions.{to-show, Refusal, show-18, WriteRefusal, write-missing, write-left-over, write-too-large, write-unread, write-18, SameResults, numbers}
 use Rattle.calls.proofs.Condition3.{condition3}
@@ -72,18 +72,18 @@ some-numbers = refl
 
 -- E1's sheet, total, number struck and lines; the ninth byte lent keeps its contents
 pub some-alternatives : alternatives e1 (sheetAfter e1 someCalls) (replicate 9 7)
-    ≡ done (4 ∷ 11 ∷ []) (0 ∷ 1 ∷ replicate 58 255) (0 ∷ 0 ∷ 0 ∷ 1 ∷ 1 ∷ 0 ∷ 1 ∷ 1 ∷ 7 ∷ [])
+    ≡ done (4 ∷ 11 ∷ []) (plainSheet (0 ∷ 1 ∷ replicate (places - 2) 255)) (0 ∷ 0 ∷ 0 ∷ 1 ∷ 1 ∷ 0 ∷ 1 ∷ 1 ∷ 7 ∷ [])
 unfolding alternatives total noneEmpty struck lines outside largestDomains rounds start remove removeFrom count countOf bookSupports tableSupports rowSupports sheetThrough entered withdrawn verdict trailerTest listTest tablesStep tableStep rowsStep firstBad scan bookOf tablesAt tableAt rowsAt
 some-alternatives = refl
 
 -- ---- "It is accepted even if the code isn't standing: the observer saw it"
 
 -- E1 with field 0 answered 1
-abbrev seen : List ℕ
+abbrev seen : Sheet
 seen = sheetAfter e1 (enter 0 1 ∷ [])
 
 -- code 0 of field 1 does not stand
-pub not-standing : largest (bookOf e1) seen 1 0 ≡ false
+pub not-standing : largest (bookOf e1) (seen .answers) 1 0 ≡ false
 unfolding largestDomains rounds start remove removeFrom count countOf bookSupports tableSupports rowSupports sheetThrough entered verdict trailerTest listTest tablesStep tableStep rowsStep firstBad scan bookOf tablesAt tableAt rowsAt
 not-standing = refl
 
@@ -144,7 +144,7 @@ writings-refused = refl
 
 -- ---- and showing's own: E1's listing has 30 numbers
 
-pub e1-show-18 : (s : List ℕ) → Refusal (bookOf e1) s (to-show (replicate 29 9)) 18 0
+pub e1-show-18 : (s : Sheet) → Refusal (bookOf e1) s (to-show (replicate 29 9)) 18 0
 unfolding bookOf tablesAt tableAt rowsAt listingOf tableNumbers
 e1-show-18 s = show-18 {o = replicate 29 9} (omega arith)
 

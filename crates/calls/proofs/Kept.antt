@@ -7,12 +7,12 @@ use lib.Dec.{ltb, eqb}
 use Rattle.format.specs.Format.{Book, bookOf}
 use Rattle.format.specs.Reading.{Verdict, pass, fail, verdict}
 use Rattle.format.proofs.Picks.{pick-holds}
-use Rattle.consistency.specs.Consistency.{places, codes, nth, answer}
+use Rattle.consistency.specs.Consistency.{places, Sheet, codes, nth, answer}
 use Rattle.consistency.specs.Counts.{total}
 use Rattle.consistency.specs.Rows.{hasField}
-use Rattle.calls.specs.Calls.{Result, turned, faultOf, withBook, faultThen, onSheet, masksInto, filtered, alternatives, stored, rowBehind}
+use Rattle.calls.specs.Calls.{Result, turned, faultOf, withBook, faultThen, onSheet, anyBacked, masksInto, filtered, alternatives, stored, rowBehind}
 
-module _ (bytes s o : List ℕ) where
+module _ (bytes : List ℕ) (s : Sheet) (o : List ℕ) where
   -- a result with this sheet
   abbrev Kept : Result → Type 0
   Kept r = r .sheet ≡ s
@@ -33,7 +33,7 @@ module _ (bytes s o : List ℕ) where
   filtered-keeps f =
       on-sheet 0 _
       (pick-holds Kept (eqb f 255) (masks-into _)
-      (pick-holds Kept (ltb f (length (bookOf bytes .counts))) (pick-holds Kept (eqb (answer s f) 255) refl (masks-into _)) refl))
+      (pick-holds Kept (ltb f (length (bookOf bytes .counts))) (pick-holds Kept (eqb (answer (s .answers) f) 255) refl (masks-into _)) refl))
 
   pub alternatives-keeps : alternatives bytes s o .sheet ≡ s
   unfolding alternatives
@@ -41,9 +41,10 @@ module _ (bytes s o : List ℕ) where
 
   pub stored-keeps : stored bytes s o .sheet ≡ s
   unfolding stored
-  stored-keeps = on-sheet 0 _ (pick-holds Kept (ltb (length o) (length (bookOf bytes .counts))) refl refl)
+  stored-keeps =
+      on-sheet 0 _ (pick-holds Kept (anyBacked s) refl (pick-holds Kept (ltb (length o) (length (bookOf bytes .counts))) refl refl))
 
-pub row-keeps : (bytes s : List ℕ) (f c i : ℕ) → rowBehind bytes s f c i .sheet ≡ s
+pub row-keeps : (bytes : List ℕ) (s : Sheet) (f c i : ℕ) → rowBehind bytes s f c i .sheet ≡ s
 unfolding rowBehind
 row-keeps bytes s f c i =
     let K : Result → Type 0 = Kept bytes s [] in

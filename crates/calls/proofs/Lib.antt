@@ -17,6 +17,7 @@ pub mod Repeats
 pub mod Instances
 pub mod SixtyFields
 pub mod Held
+pub mod Photographs
 pub mod Agreement
 pub mod Stored
 pub mod Kept

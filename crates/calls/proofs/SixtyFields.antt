@@ -2,20 +2,21 @@
 -- Assumes nothing.
 use Prim.Native.Nat.{ℕ}
 use mathlib.Core.Path.{_≡_, refl}
-use mathlib.Core.List.{List, [], _∷_, _++_}
+use mathlib.Core.List.{[], _∷_, _++_}
 use lib.ListN.{replicate}
 use Rattle.format.specs.Basics.{scan, firstBad}
 use Rattle.format.specs.Format.{tablesAt, bookOf}
 use Rattle.format.specs.Reading.{trailerTest, listTest, tablesStep, verdict}
 use Rattle.format.specs.Examples.{fieldsOnly}
+use Rattle.consistency.specs.Consistency.{Sheet}
 use Rattle.consistency.specs.Largest.{largestDomains, rounds, start, remove, removeFrom, count, countOf, bookSupports}
 use Rattle.consistency.specs.Emptiness.{noneEmpty}
 use Rattle.consistency.specs.Counts.{total, struck, lines, outside}
-use Rattle.calls.specs.Calls.{freshSheet, done, turned, entered, alternatives}
+use Rattle.calls.specs.Calls.{plainSheet, freshSheet, done, turned, entered, alternatives}
 
 -- a sheet with the last place answered, and no other
-abbrev lastAnswered : List ℕ
-lastAnswered = replicate 59 255 ++ (0 ∷ [])
+abbrev lastAnswered : Sheet
+lastAnswered = plainSheet (replicate 59 255 ++ (0 ∷ []))
 
 pub last-entered : entered (fieldsOnly 2 60) freshSheet 59 0 ≡ done [] lastAnswered []
 unfolding entered verdict trailerTest listTest tablesStep firstBad scan bookOf tablesAt

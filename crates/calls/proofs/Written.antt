@@ -15,7 +15,7 @@ use Rattle.format.proofs.Picks.{pick-cases}
 use Rattle.format.proofs.Drops.{one-then}
 use Rattle.consistency.specs.Consistency.{codes}
 use Rattle.calls.specs.Calls.{Result}
-use Rattle.calls.specs.Histories.{Call, enter, withdraw, clear, Answers, refusalOf, after, answersFrom, noAnswers, sheetOf, addCall, callsIn, SameCalls, EveryListWritten}
+use Rattle.calls.specs.Histories.{Call, enter, withdraw, photograph, clear, Answers, refusalOf, after, answersFrom, noAnswers, sheetOf, addCall, callsIn, SameCalls, EveryListWritten}
 use Rattle.calls.proofs.Sheets.{Within, accepted-within}
 use Rattle.calls.proofs.Steps.{stepOf}
 use Rattle.calls.proofs.CallLists.{stepsFrom, results-are, sheet-after}
@@ -57,6 +57,7 @@ clip-byte x = pick-cases (λ y. y < 256) (ltb x 255) (λ e. omega (arith, ltb-tr
 abbrev clipped : Call → Call
 clipped (enter f c) = enter (clip f) (clip c)
 clipped (withdraw f) = withdraw (clip f)
+clipped (photograph f) = photograph (clip f)
 clipped clear = clear
 
 -- the three bytes of a call, before those of the calls behind it
@@ -64,6 +65,7 @@ unfoldable bytesOf : List Call → List ℕ
 bytesOf [] = []
 bytesOf (enter f c ∷ calls) = 0 ∷ clip f ∷ clip c ∷ bytesOf calls
 bytesOf (withdraw f ∷ calls) = 1 ∷ clip f ∷ 0 ∷ bytesOf calls
+bytesOf (photograph f ∷ calls) = 3 ∷ clip f ∷ 0 ∷ bytesOf calls
 bytesOf (clear ∷ calls) = 2 ∷ 0 ∷ 0 ∷ bytesOf calls
 
 bytes-small : (calls : List Call) → Bytes (bytesOf calls)
@@ -71,6 +73,7 @@ unfolding bytesOf
 bytes-small [] = tt
 bytes-small (enter f c ∷ calls) = (omega arith, (clip-byte f, (clip-byte c, bytes-small calls)))
 bytes-small (withdraw f ∷ calls) = (omega arith, (clip-byte f, (omega arith, bytes-small calls)))
+bytes-small (photograph f ∷ calls) = (omega arith, (clip-byte f, (omega arith, bytes-small calls)))
 bytes-small (clear ∷ calls) = (omega arith, (omega arith, (omega arith, bytes-small calls)))
 
 bytes-calls : (calls : List Call) → callsIn (bytesOf calls) ≡ map clipped calls
@@ -78,6 +81,7 @@ unfolding bytesOf callsIn
 bytes-calls [] = refl
 bytes-calls (enter f c ∷ calls) = ap (λ (x : List Call). enter (clip f) (clip c) ∷ x) (bytes-calls calls)
 bytes-calls (withdraw f ∷ calls) = ap (λ (x : List Call). withdraw (clip f) ∷ x) (bytes-calls calls)
+bytes-calls (photograph f ∷ calls) = ap (λ (x : List Call). photograph (clip f) ∷ x) (bytes-calls calls)
 bytes-calls (clear ∷ calls) = ap (λ (x : List Call). clear ∷ x) (bytes-calls calls)
 
 -- ---- a book has no field 255, no code 255, and none above
@@ -108,6 +112,9 @@ module _ (b : Book) (w : Within b) where
   withdraw-same : (a : Answers) (f f′ : ℕ) → 255 ≤ f → 255 ≤ f′ → Same a (withdraw f) (withdraw f′)
   withdraw-same a f f′ l l′ = record { refusal = rw (no-field f l, no-field f′ l′); answers = rw (no-field f l, no-field f′ l′) }
 
+  photograph-same : (a : Answers) (f f′ : ℕ) → 255 ≤ f → 255 ≤ f′ → Same a (photograph f) (photograph f′)
+  photograph-same a f f′ l l′ = record { refusal = rw (no-field f l, no-field f′ l′); answers = rw (no-field f l, no-field f′ l′) }
+
   clipped-same : (a : Answers) (call : Call) → Same a (clipped call) call
   clipped-same a (enter f c) =
       pick-cases (λ x. Same a (enter x (clip c)) (enter f c)) (ltb f 255)
@@ -117,6 +124,9 @@ module _ (b : Book) (w : Within b) where
   clipped-same a (withdraw f) =
       pick-cases (λ x. Same a (withdraw x) (withdraw f)) (ltb f 255) (λ e. same a (withdraw f))
       (λ e. withdraw-same a 255 f (omega arith) (ltb-false f 255 e))
+  clipped-same a (photograph f) =
+      pick-cases (λ x. Same a (photograph x) (photograph f)) (ltb f 255) (λ e. same a (photograph f))
+      (λ e. photograph-same a 255 f (omega arith) (ltb-false f 255 e))
   clipped-same a clear = same a clear
 
   answers-clipped : (a : Answers) (calls : List Call) → answersFrom b a (map clipped calls) ≡ answersFrom b a calls

@@ -5,7 +5,7 @@ use mathlib.Core.List.{List}
 use lib.ListN.{length}
 use Rattle.format.specs.Format.{codeLimit}
 use Rattle.format.specs.Writing.{showing, writing, bookLimit, listingLimit}
-use Rattle.consistency.specs.Consistency.{places}
+use Rattle.consistency.specs.Consistency.{places, Sheet}
 use Rattle.calls.specs.Calls.{filtered, alternatives, stored}
 
 -- bytes for alternatives: a pair for each code of each place
@@ -22,9 +22,9 @@ formEnough = places
 
 -- whatever the bytes and the sheet
 pub record Suffices : Type 0 where
-  pub pairs : (bytes s o : List ℕ) → pairsEnough ≤ length o → alternatives bytes s o .outcome .number ≢ 18
-  pub numbers : (bytes s : List ℕ) (f : ℕ) (o : List ℕ) → numbersEnough ≤ length o → filtered bytes s f o .outcome .number ≢ 18
-  pub form : (bytes s o : List ℕ) → formEnough ≤ length o → stored bytes s o .outcome .number ≢ 18
+  pub pairs : (bytes : List ℕ) (s : Sheet) (o : List ℕ) → pairsEnough ≤ length o → alternatives bytes s o .outcome .number ≢ 18
+  pub numbers : (bytes : List ℕ) (s : Sheet) (f : ℕ) (o : List ℕ) → numbersEnough ≤ length o → filtered bytes s f o .outcome .number ≢ 18
+  pub form : (bytes : List ℕ) (s : Sheet) (o : List ℕ) → formEnough ≤ length o → stored bytes s o .outcome .number ≢ 18
   -- Request M-100: numbers for a book's listing, bytes for a book
   pub listing : (bytes o : List ℕ) → listingLimit ≤ length o → showing bytes o .outcome .number ≢ 18
   pub book : (l o : List ℕ) → bookLimit ≤ length o → writing l o .outcome .number ≢ 18

@@ -14,14 +14,14 @@ use Rattle.format.specs.Layout.{Bytes}
 use Rattle.format.specs.Listing.{listingOf, listingEnd}
 use Rattle.format.specs.Writing.{showing, laidOut, writable, writing}
 use Rattle.consistency.specs.Counting.{sumOver, those}
-use Rattle.consistency.specs.Consistency.{places, Subdomain, codes, nth, answer, relax, IsLargest}
+use Rattle.consistency.specs.Consistency.{places, Subdomain, Sheet, codes, nth, answer, backed, relax, IsLargest}
 use Rattle.consistency.specs.Emptiness.{NoneEmpty, noneEmpty}
-use Rattle.consistency.specs.Counts.{bit, codesIn, outside, answered, total, Line, lineBytes}
+use Rattle.consistency.specs.Counts.{bit, codesIn, outside, answered, inDoubt, total, Line, lineBytes}
 use Rattle.consistency.specs.Order.{InOrder, In}
 use Rattle.consistency.specs.Alike.{Alike}
 use Rattle.consistency.specs.Ties.{FieldIn}
-use Rattle.calls.specs.Calls.{Result, freshSheet, done, beside, placeOk, sheetFrom, entered, withdrawn, cleared, filtered, alternatives, loaded, stored, rowBehind}
-use Rattle.calls.specs.Histories.{Call, Answer, none, is, Answers, given, noAnswers, answersAfter, refusalsFrom, sheetOf, results, sheetAfter}
+use Rattle.calls.specs.Calls.{Result, freshSheet, done, beside, placeOk, sheetFrom, entered, withdrawn, photographed, cleared, filtered, alternatives, loaded, stored, rowBehind}
+use Rattle.calls.specs.Histories.{Call, Answers, given, doubtful, noAnswers, answersAfter, refusalsFrom, sheetOf, results, sheetAfter}
 
 -- ---- Condition 1: "The answer to any bytes, sheet and call is the one that document 01 defines" is the contracts of the calls;
 -- "or a refusal with its number and place, on its condition only, each lent buffer left as stated": over all calls at once
@@ -32,6 +32,7 @@ pub data Request : Type 0 where
   to-fresh : Request
   to-enter : ℕ → ℕ → Request
   to-withdraw : ℕ → Request
+  to-photograph : ℕ → Request
   to-clear : Request
   to-filter : ℕ → List ℕ → Request
   to-list : List ℕ → Request
@@ -41,11 +42,12 @@ pub data Request : Type 0 where
   to-show : List ℕ → Request
   to-write : List ℕ → List ℕ → Request
 
-abbrev pub resultOf : List ℕ → List ℕ → Request → Result
+abbrev pub resultOf : List ℕ → Sheet → Request → Result
 resultOf bytes s to-read = record { outcome = reading bytes; sheet = s; buffer = [] }
 resultOf bytes s to-fresh = done [] freshSheet []
 resultOf bytes s (to-enter f c) = entered bytes s f c
 resultOf bytes s (to-withdraw f) = withdrawn bytes s f
+resultOf bytes s (to-photograph f) = photographed bytes s f
 resultOf bytes s to-clear = cleared s
 resultOf bytes s (to-filter f o) = filtered bytes s f o
 resultOf bytes s (to-list o) = alternatives bytes s o
@@ -61,6 +63,7 @@ givenBook to-read = true
 givenBook to-fresh = false
 givenBook (to-enter f c) = true
 givenBook (to-withdraw f) = true
+givenBook (to-photograph f) = true
 givenBook to-clear = false
 givenBook (to-filter f o) = true
 givenBook (to-list o) = true
@@ -71,11 +74,12 @@ givenBook (to-show o) = true
 givenBook (to-write l o) = false
 
 -- the sheet given; "It is given no sheet: a refused load hands back a fresh one"
-abbrev pub sheetGiven : List ℕ → Request → List ℕ
+abbrev pub sheetGiven : Sheet → Request → Sheet
 sheetGiven s to-read = s
 sheetGiven s to-fresh = s
 sheetGiven s (to-enter f c) = s
 sheetGiven s (to-withdraw f) = s
+sheetGiven s (to-photograph f) = s
 sheetGiven s to-clear = s
 sheetGiven s (to-filter f o) = s
 sheetGiven s (to-list o) = s
@@ -90,6 +94,7 @@ lentTo to-read = []
 lentTo to-fresh = []
 lentTo (to-enter f c) = []
 lentTo (to-withdraw f) = []
+lentTo (to-photograph f) = []
 lentTo to-clear = []
 lentTo (to-filter f o) = o
 lentTo (to-list o) = o
@@ -105,6 +110,7 @@ countsOf to-read = 4
 countsOf to-fresh = 0
 countsOf (to-enter f c) = 0
 countsOf (to-withdraw f) = 0
+countsOf (to-photograph f) = 0
 countsOf to-clear = 0
 countsOf (to-filter f o) = 0
 countsOf (to-list o) = 2
@@ -115,14 +121,18 @@ countsOf (to-show o) = 1
 countsOf (to-write l o) = 1
 
 -- 14, "the first field at fault": place p fails the test of 14, and each place before it passes
-pub record FirstFault (b : Book) (s : List ℕ) (p : ℕ) : Type 0 where
+pub record FirstFault (b : Book) (s : Sheet) (p : ℕ) : Type 0 where
   pub in-sheet : p < places
   pub fails : placeOk b s p ≡ false
   pub before : (k : ℕ) → k < p → placeOk b s k ≡ true
 
 -- no 14
-abbrev pub NoFault : Book → List ℕ → Type 0
+abbrev pub NoFault : Book → Sheet → Type 0
 NoFault b s = (k : ℕ) → k < places → placeOk b s k ≡ true
+
+-- no 22 of storing: no place "has a mark"
+abbrev pub NoPhotograph : Sheet → Type 0
+NoPhotograph s = (k : ℕ) → k < places → backed s k ≡ false
 
 -- 21, "no such table or the field isn't in it"
 abbrev pub NotInTable : Book → ℕ → ℕ → Type 0
@@ -130,27 +140,34 @@ NotInTable b f i = (length (b .tables) ≤ i) ⊎ ((i < length (b .tables)) × (
 
 -- The refusals of each call on sheet s behind 1 to 13, with number and place, each on its condition only: that the tests before it in the
 -- paper's order passed, and its own. Reading has none, "Fresh and clear: none"
-pub data Refusal (b : Book) (s : List ℕ) : Request → ℕ → ℕ → Type 0 where
-  -- Enter: "14 ..; 15, no such field; 16, no such code"
+pub data Refusal (b : Book) (s : Sheet) : Request → ℕ → ℕ → Type 0 where
+  -- Enter: "14 ..; 15, no such field; 16, no such code"; 22, "photographed field, last in the order of enter and withdraw" (02, M-105)
   enter-14 : {f c p : ℕ} → FirstFault b s p → Refusal b s (to-enter f c) 14 p
   enter-15 : {f c : ℕ} → NoFault b s → length (b .counts) ≤ f → Refusal b s (to-enter f c) 15 0
   enter-16 : {f c : ℕ} → NoFault b s → f < length (b .counts) → codes b f ≤ c → Refusal b s (to-enter f c) 16 0
-  -- Withdraw: "14, 15, then 17, the field has no answer"
+  enter-22 : {f c : ℕ} → NoFault b s → f < length (b .counts) → c < codes b f → backed s f ≡ true → Refusal b s (to-enter f c) 22 0
+  -- Withdraw: "14, 15, then 17, the field has no answer"; 22
   withdraw-14 : {f p : ℕ} → FirstFault b s p → Refusal b s (to-withdraw f) 14 p
   withdraw-15 : {f : ℕ} → NoFault b s → length (b .counts) ≤ f → Refusal b s (to-withdraw f) 15 0
-  withdraw-17 : {f : ℕ} → NoFault b s → f < length (b .counts) → answer s f ≡ 255 → Refusal b s (to-withdraw f) 17 0
+  withdraw-17 : {f : ℕ} → NoFault b s → f < length (b .counts) → answer (s .answers) f ≡ 255 → Refusal b s (to-withdraw f) 17 0
+  withdraw-22 : {f : ℕ} → NoFault b s → f < length (b .counts) → answer (s .answers) f ≢ 255 → backed s f ≡ true → Refusal b s (to-withdraw f) 22 0
+  -- Request M-105: "The new call refuses with 1 to 13, 14, 15 and 17"
+  photograph-14 : {f p : ℕ} → FirstFault b s p → Refusal b s (to-photograph f) 14 p
+  photograph-15 : {f : ℕ} → NoFault b s → length (b .counts) ≤ f → Refusal b s (to-photograph f) 15 0
+  photograph-17 : {f : ℕ} → NoFault b s → f < length (b .counts) → answer (s .answers) f ≡ 255 → Refusal b s (to-photograph f) 17 0
   -- Plain filtering: "a number, or 255 for none: .. 14, 15, 17, then 18, fewer numbers lent than fields"
   filter-14 : {f p : ℕ} {o : List ℕ} → FirstFault b s p → Refusal b s (to-filter f o) 14 p
   filter-15 : {f : ℕ} {o : List ℕ} → NoFault b s → f ≢ 255 → length (b .counts) ≤ f → Refusal b s (to-filter f o) 15 0
-  filter-17 : {f : ℕ} {o : List ℕ} → NoFault b s → f ≢ 255 → f < length (b .counts) → answer s f ≡ 255 → Refusal b s (to-filter f o) 17 0
-  filter-18 : {f : ℕ} {o : List ℕ} → NoFault b s → (f ≡ 255) ⊎ ((f < length (b .counts)) × (answer s f ≢ 255)) → length o < length (b .counts)
+  filter-17 : {f : ℕ} {o : List ℕ} → NoFault b s → f ≢ 255 → f < length (b .counts) → answer (s .answers) f ≡ 255 → Refusal b s (to-filter f o) 17 0
+  filter-18 : {f : ℕ} {o : List ℕ} → NoFault b s → (f ≡ 255) ⊎ ((f < length (b .counts)) × (answer (s .answers) f ≢ 255)) → length o < length (b .counts)
       → Refusal b s (to-filter f o) 18 0
   -- Alternatives: "14, then 18, exactly when fewer than 2 × total bytes are lent"
   list-14 : {p : ℕ} {o : List ℕ} → FirstFault b s p → Refusal b s (to-list o) 14 p
   list-18 : {o : List ℕ} → NoFault b s → length o < 2 * total b s → Refusal b s (to-list o) 18 0
-  -- Storing: "14, 18 if fewer bytes are lent than fields"
+  -- Storing: "14, 18 if fewer bytes are lent than fields"; 22, "for storing, after 14 and before 18" (02, M-105)
   store-14 : {p : ℕ} {o : List ℕ} → FirstFault b s p → Refusal b s (to-store o) 14 p
-  store-18 : {o : List ℕ} → NoFault b s → length o < length (b .counts) → Refusal b s (to-store o) 18 0
+  store-22 : {f : ℕ} {o : List ℕ} → NoFault b s → f < length (b .counts) → backed s f ≡ true → Refusal b s (to-store o) 22 0
+  store-18 : {o : List ℕ} → NoFault b s → NoPhotograph s → length o < length (b .counts) → Refusal b s (to-store o) 18 0
   -- Loading: "19 if its length isn't the number of fields, 14"
   load-19 : {form : List ℕ} → length form ≢ length (b .counts) → Refusal b s (to-load form) 19 0
   load-14 : {p : ℕ} {form : List ℕ} → length form ≡ length (b .counts) → FirstFault b (sheetFrom form) p → Refusal b s (to-load form) 14 p
@@ -172,7 +189,7 @@ pub data WriteRefusal (l o : List ℕ) : ℕ → ℕ → Type 0 where
   write-18 : writable l ≡ true → length o < length (laidOut l) → WriteRefusal l o 18 0
 
 -- "A refusal gives its number and a place (a byte of the book for 1 to 13, the first field at fault for 14, else 0)"
-pub data RefusedBy (bytes s : List ℕ) : Request → ℕ → ℕ → Type 0 where
+pub data RefusedBy (bytes : List ℕ) (s : Sheet) : Request → ℕ → ℕ → Type 0 where
   -- 1 to 13: the reader's first
   the-book : {q : Request} {number place : ℕ} → givenBook q ≡ true → verdict bytes ≡ fail number place → BookRefusal (length bytes) number place
       → RefusedBy bytes s q number place
@@ -181,14 +198,14 @@ pub data RefusedBy (bytes s : List ℕ) : Request → ℕ → ℕ → Type 0 whe
   the-listing : {l o : List ℕ} {number place : ℕ} → WriteRefusal l o number place → RefusedBy bytes s (to-write l o) number place
 
 -- r is a refusal of call q: number and place; "All counts in it are 0, each lent buffer keeps its bytes, and the sheet comes back as given"
-pub record IsRefusal (bytes s : List ℕ) (q : Request) (r : Result) : Type 0 where
+pub record IsRefusal (bytes : List ℕ) (s : Sheet) (q : Request) (r : Result) : Type 0 where
   pub reason : RefusedBy bytes s q (r .outcome .number) (r .outcome .place)
   pub counts : r .outcome .counts ≡ replicate (countsOf q) 0
   pub sheet : r .sheet ≡ sheetGiven s q
   pub buffer : r .buffer ≡ lentTo q
 
 abbrev pub Condition1 : Type 0
-Condition1 = (bytes s : List ℕ) (q : Request) → resultOf bytes s q .outcome .number ≢ 0 → IsRefusal bytes s q (resultOf bytes s q)
+Condition1 = (bytes : List ℕ) (s : Sheet) (q : Request) → resultOf bytes s q .outcome .number ≢ 0 → IsRefusal bytes s q (resultOf bytes s q)
 
 -- ---- Condition 2: "Open codes are exactly the unanswered fields' codes in the largest arc-consistent subdomain under the answers".
 -- ("a book is accepted exactly when it has document 01's layout" is Condition2-layout of crate `format`.)
@@ -199,14 +216,14 @@ Shows o f c = T (bit (getD o f 0) c)
 
 abbrev pub Condition2-open : Type 0
 Condition2-open =
-    (bytes s o : List ℕ) → filtered bytes s 255 o .outcome .number ≡ 0
-    → (S : Subdomain) → IsLargest (bookOf bytes) s S
-    → (f c : ℕ) → f < length (bookOf bytes .counts) → T (not (answered s f))
+    (bytes : List ℕ) (s : Sheet) (o : List ℕ) → filtered bytes s 255 o .outcome .number ≡ 0
+    → (S : Subdomain) → IsLargest (bookOf bytes) (s .answers) S
+    → (f c : ℕ) → f < length (bookOf bytes .counts) → T (not (answered (s .answers) f))
     → Shows (filtered bytes s 255 o .buffer) f c ↔ T (S f c)
 
 -- the answers under which plain filtering filters: "The lifted field is a number, or 255 for none"
-abbrev pub filterAnswers : List ℕ → ℕ → List ℕ
-filterAnswers s g = pick (eqb g 255) s (relax s g)
+abbrev pub filterAnswers : Sheet → ℕ → List ℕ
+filterAnswers s g = pick (eqb g 255) (s .answers) (relax (s .answers) g)
 
 -- "Plain filtering writes one 32-bit number a field, bit c set exactly when code c is in the field's part of the largest subdomain of that
 -- case, all other bits 0"; "Numbers behind the last field keep their contents": o before, o′ after, under answers a
@@ -217,10 +234,10 @@ pub record Filtered (b : Book) (a o o′ : List ℕ) : Type 0 where
   pub behind : drop (length (b .counts)) o′ ≡ drop (length (b .counts)) o
   pub as-many : length o′ ≡ length o
 
--- of every field, answered or not, whatever field is relaxed
+-- of every field, answered or not, whatever field is relaxed, photographed or not
 abbrev pub Condition2-filter : Type 0
 Condition2-filter =
-    (bytes s : List ℕ) (g : ℕ) (o : List ℕ) → filtered bytes s g o .outcome .number ≡ 0
+    (bytes : List ℕ) (s : Sheet) (g : ℕ) (o : List ℕ) → filtered bytes s g o .outcome .number ≡ 0
     → Filtered (bookOf bytes) (filterAnswers s g) o (filtered bytes s g o .buffer)
 
 -- "A plain filtering with one chosen field lifted is offered beside it and must agree with it"; "the list agrees with them wherever they leave no
@@ -235,54 +252,66 @@ pub record Agrees (n f : ℕ) (o : List ℕ) (plain whole : Result) : Type 0 whe
   -- where some field's number is 0, f has no line
   pub unmended : (g : ℕ) → g < n → getD (plain .buffer) g 0 ≡ 0 → (c : ℕ) → In (record { field = f; code = c }) list → ⊥
 
--- for each answered field, wherever alternatives accepts and numbers enough are lent
+-- for each answered field without a photograph, wherever alternatives accepts and numbers enough are lent; of a photographed field "its numbers for that
+-- case then have no list to agree with" (02, M-105)
 abbrev pub Agreement : Type 0
 Agreement =
-    (bytes s o o′ : List ℕ) → alternatives bytes s o .outcome .number ≡ 0 → length (bookOf bytes .counts) ≤ length o′
-    → (f : ℕ) → f < length (bookOf bytes .counts) → T (answered s f)
+    (bytes : List ℕ) (s : Sheet) (o o′ : List ℕ) → alternatives bytes s o .outcome .number ≡ 0 → length (bookOf bytes .counts) ≤ length o′
+    → (f : ℕ) → f < length (bookOf bytes .counts) → T (inDoubt s f)
     → Agrees (length (bookOf bytes .counts)) f o (filtered bytes s f o′) (alternatives bytes s o)
 
+-- every place is there
+pub record Whole (s : Sheet) : Type 0 where
+  pub answers : length (s .answers) ≡ places
+  pub photographs : length (s .photographs) ≡ places
+
 -- "Loading a stored sheet": an accepted load, stored where bytes enough are lent, gives the bytes loaded; an accepted store, loaded, gives the
--- sheet stored
+-- sheet stored, which has no photograph
 pub record StoreAndLoad : Type 0 where
   pub load-then-store : (bytes form o : List ℕ) → loaded bytes form .outcome .number ≡ 0 → length form ≤ length o
       → stored bytes (loaded bytes form .sheet) o ≡ done [] (loaded bytes form .sheet) (form ++ drop (length form) o)
-  pub store-then-load : (bytes s o : List ℕ) → length s ≡ places → stored bytes s o .outcome .number ≡ 0
+  pub store-then-load : (bytes : List ℕ) (s : Sheet) (o : List ℕ) → Whole s → stored bytes s o .outcome .number ≡ 0
       → loaded bytes (take (length (bookOf bytes .counts)) (stored bytes s o .buffer)) ≡ done [] s []
 
--- ---- Condition 3: "One claim about every list of enter, withdraw and clear calls from a fresh sheet"
+-- ---- Condition 3: "One claim about every list of enter, withdraw and clear calls from a fresh sheet", with photograph calls anywhere (02, M-105)
 
 abbrev pub numbers : List Result → List ℕ
 numbers [] = []
 numbers (r ∷ rs) = r .outcome .number ∷ numbers rs
 
--- the answered fields of the book under answers a, rising
-abbrev pub answeredFields : Book → Answers → List ℕ
-answeredFields b a = those (length (b .counts)) (λ f. given (a f))
+-- "nothing lifted, then each answered field lifted by itself"
+pub data Case : Type 0 where
+  unlifted : Case
+  lifted : ℕ → Case
 
--- S none is the largest with nothing relaxed, S (is f) with f alone relaxed
-pub record Cases (b : Book) (a : Answers) (S : Answer → Subdomain) : Type 0 where
-  pub nothing : IsLargest b (sheetOf a) (S none)
-  pub alone : (f : ℕ) → T (given (a f)) → IsLargest b (relax (sheetOf a) f) (S (is f))
+-- the answered fields of the book without a photograph under answers a, rising
+abbrev pub doubtFields : Book → Answers → List ℕ
+doubtFields b a = those (length (b .counts)) (λ f. doubtful (a f))
 
--- the sum over answered fields of that field's codes in the largest subdomain with that one answer relaxed; 0 for a field where some field is
--- empty there (document 02, M-101: "condition 3's sum and lines now count and hold the codes of this list alone")
-abbrev pub theSum : Book → Answers → (Answer → Subdomain) → ℕ
-theSum b a S = sumOver (answeredFields b a) (λ f. pick (noneEmpty b (S (is f))) (codesIn b (S (is f)) f) 0)
+-- S unlifted is the largest with nothing relaxed, S (lifted f) with f alone relaxed, where f has an answer without a photograph
+pub record Cases (b : Book) (a : Answers) (S : Case → Subdomain) : Type 0 where
+  pub nothing : IsLargest b (sheetOf a .answers) (S unlifted)
+  pub alone : (f : ℕ) → T (doubtful (a f)) → IsLargest b (relax (sheetOf a .answers) f) (S (lifted f))
 
--- what a line says: its field is an answered one of the book, has its code with that one answer relaxed, and then "no field at all is empty"
-pub record IsListed (b : Book) (a : Answers) (S : Answer → Subdomain) (l : Line) : Type 0 where
+-- the sum over the answered fields without a photograph of that field's codes in the largest subdomain with that one answer relaxed; 0 for a field
+-- where some field is empty there (document 02, M-101: "condition 3's sum and lines now count and hold the codes of this list alone")
+abbrev pub theSum : Book → Answers → (Case → Subdomain) → ℕ
+theSum b a S = sumOver (doubtFields b a) (λ f. pick (noneEmpty b (S (lifted f))) (codesIn b (S (lifted f)) f) 0)
+
+-- what a line says: its field is one of the book with an answer and no photograph, has its code with that one answer relaxed, and then "no field
+-- at all is empty"
+pub record IsListed (b : Book) (a : Answers) (S : Case → Subdomain) (l : Line) : Type 0 where
   pub known : l .field < length (b .counts)
-  pub answered : T (given (a (l .field)))
-  pub has : T (S (is (l .field)) (l .field) (l .code))
-  pub mended : NoneEmpty b (S (is (l .field)))
+  pub doubted : T (doubtful (a (l .field)))
+  pub has : T (S (lifted (l .field)) (l .field) (l .code))
+  pub mended : NoneEmpty b (S (lifted (l .field)))
 
--- the sum, over nothing relaxed and each one answer relaxed, of the codes outside
-abbrev pub theStruck : Book → Answers → (Answer → Subdomain) → ℕ
-theStruck b a S = outside b (S none) + sumOver (answeredFields b a) (λ f. outside b (S (is f)))
+-- the sum, over nothing relaxed and each one such answer relaxed, of the codes outside
+abbrev pub theStruck : Book → Answers → (Case → Subdomain) → ℕ
+theStruck b a S = outside b (S unlifted) + sumOver (doubtFields b a) (λ f. outside b (S (lifted f)))
 
 -- what alternatives answers, r, with buffer o lent, under answers a: "total, lines and struck count are what the definitions give"
-pub record Lists (b : Book) (a : Answers) (S : Answer → Subdomain) (o : List ℕ) (r : Result) : Type 0 where
+pub record Lists (b : Book) (a : Answers) (S : Case → Subdomain) (o : List ℕ) (r : Result) : Type 0 where
   pub list : List Line
   pub in-order : InOrder list
   pub exactly : (l : Line) → In l list ↔ IsListed b a S l
@@ -294,16 +323,16 @@ pub record Lists (b : Book) (a : Answers) (S : Answer → Subdomain) (o : List �
 -- "Bytes enough are 2 × the sum in condition 3, or more": what alternatives then answers behind the calls, r, with o lent
 abbrev pub ListsAfter : Book → List Call → List ℕ → Result → Type 0
 ListsAfter b calls o r =
-    (S : Answer → Subdomain) → Cases b (answersAfter b calls) S
+    (S : Case → Subdomain) → Cases b (answersAfter b calls) S
     → 2 * theSum b (answersAfter b calls) S ≤ length o
     → Lists b (answersAfter b calls) S o r
 
 pub record AfterCalls (bytes : List ℕ) (calls : List Call) (o : List ℕ) : Type 0 where
-  -- each call is accepted, or refused by 15, 16 or 17, as the answers after the calls before it say
+  -- each call is accepted, or refused by 15, 16, 17 or 22, as the answers after the calls before it say
   pub verdicts : numbers (results bytes freshSheet calls) ≡ refusalsFrom (bookOf bytes) noAnswers calls
   pub sheet : sheetAfter bytes calls ≡ sheetOf (answersAfter (bookOf bytes) calls)
   -- the open codes are those of the answers
-  pub open-are : (S : Subdomain) → IsLargest (bookOf bytes) (sheetOf (answersAfter (bookOf bytes) calls)) S
+  pub open-are : (S : Subdomain) → IsLargest (bookOf bytes) (sheetOf (answersAfter (bookOf bytes) calls) .answers) S
       → (f c : ℕ) → f < length (bookOf bytes .counts) → T (not (given (answersAfter (bookOf bytes) calls f)))
       → Shows (filtered bytes (sheetAfter bytes calls) 255 (replicate (length (bookOf bytes .counts)) 0) .buffer) f c ↔ T (S f c)
   pub alternatives-are : ListsAfter (bookOf bytes) calls o (alternatives bytes (sheetAfter bytes calls) o)
@@ -316,6 +345,6 @@ pub record SameResults (bytes bytes′ : List ℕ) (calls : List Call) (o : List
 pub record Condition3 : Type 0 where
   pub after-calls : (bytes : List ℕ) → Accepted bytes → (calls : List Call) (o : List ℕ) → AfterCalls bytes calls o
   -- the cases that it speaks of are there
-  pub cases : (b : Book) (a : Answers) → (S : Answer → Subdomain) × Cases b a S
+  pub cases : (b : Book) (a : Answers) → (S : Case → Subdomain) × Cases b a S
   pub alike : (bytes bytes′ : List ℕ) → Accepted bytes → Accepted bytes′ → Alike (bookOf bytes) (bookOf bytes′)
       → (calls : List Call) (o : List ℕ) → SameResults bytes bytes′ calls o

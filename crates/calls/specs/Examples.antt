@@ -8,6 +8,7 @@ use lib.ListN.{length, getD, replicate}
 use Rattle.format.specs.Format.{Table, Book, encode, bookOf, isIn}
 use Rattle.format.specs.Reading.{Outcome, refused, accepted, reading}
 use Rattle.format.specs.Examples.{e1}
+use Rattle.consistency.specs.Consistency.{Sheet}
 use Rattle.calls.specs.Calls.{loaded, filtered, alternatives, rowBehind}
 
 -- the rows of a table that makes two fields of two codes differ
@@ -125,7 +126,7 @@ examples =
     ∷ []
 
 -- what is asked about a row, as the call answers it
-abbrev pub rowAnswered : List ℕ → List ℕ → RowExample → RowExample
+abbrev pub rowAnswered : List ℕ → Sheet → RowExample → RowExample
 rowAnswered bytes s x = record { field = x .field; code = x .code; table = x .table; outcome = rowBehind bytes s (x .field) (x .code) (x .table) .outcome }
 
 -- the example as the calls answer it: plain filtering into numbers that were 9, alternatives into bytes that were 9
