@@ -12,7 +12,7 @@ use lib.Dec.{ltb}
 use Rattle.format.specs.Format.{Book, bookOf}
 use Rattle.format.specs.Reading.{Accepted}
 use Rattle.format.proofs.Accepted.{accepted-verdict}
-use Rattle.consistency.specs.Consistency.{places, Sheet, codes, answer, backed}
+use Rattle.consistency.specs.Consistency.{places, Sheet, sheetWith, codes, answer, backed}
 use Rattle.calls.specs.Calls.{turned, done, placeOk, faultOf, entered, withdrawn, photographed}
 use Rattle.calls.proofs.Faults.{fault-free}
 use Rattle.calls.proofs.CallLaws.{sheet-go}
@@ -36,7 +36,7 @@ module _ (bytes : List ℕ) (s : Sheet) (ok : Accepted bytes) (good : places ≤
   enter-held n p =
       sheet-go 0 bytes s [] _ (accepted-verdict bytes ok) good
       ∙ rw (lt-ltb f (length (b .counts)) known, held-code n, p)
-      (ap (λ (x : List ℕ). done [] (record { answers = x; photographs = s .photographs }) [])
+      (ap (λ (x : List ℕ). done [] (sheetWith x (s .photographs)) [])
       (same-store 255 (s .answers) f (answer (s .answers) f) refl))
 
   -- "Enter, even of the code already held, and withdraw are refused on such a field"
@@ -67,4 +67,4 @@ module _ (bytes : List ℕ) (s : Sheet) (ok : Accepted bytes) (good : places ≤
   photograph-again p =
       sheet-go 0 bytes s [] _ (accepted-verdict bytes ok) good
       ∙ rw (lt-ltb f (length (b .counts)) known, ne-eqb (answer (s .answers) f) 255 (backed-answer p))
-      (ap (λ (x : List Bool). done [] (record { answers = s .answers; photographs = x }) []) (same-store false (s .photographs) f true p))
+      (ap (λ (x : List Bool). done [] (sheetWith (s .answers) x) []) (same-store false (s .photographs) f true p))

@@ -1,28 +1,32 @@
--- Photographed answers: no call but clear changes one; and a list of calls with the new one, a sheet at fault and a store, computed. Assumes nothing.
-use Prim.Native.Nat.{ℕ, _-_}
+-- Document 02, M-105: what photographs promise. Assumes nothing.
+use Prim.Native.Nat.{ℕ, _≤_, _<_}
 use mathlib.Core.Path.{_≡_, refl, sym, ap, _∙_}
-use mathlib.Core.Logic.{_≢_}
-use mathlib.Core.Bool.{Bool, true, false}
+use mathlib.Core.Logic.{_↔_, _≢_}
+use mathlib.Core.Bool.{Bool, true, false, not, _&&_, and-true}
 use mathlib.Core.List.{List, [], _∷_}
-use native.Mathlib.Decide.{ℕ-discrete}
+use native.Mathlib.Decide.{ℕ-discrete, decLt}
 use native.Mathlib.Omega.{arith}
-use borrow.Author.Tests.{eqb-true}
-use lib.ListN.{length, replicate}
-use lib.Dec.{ltb, eqb}
-use Rattle.format.specs.Basics.{pick, All, scan, firstBad}
-use Rattle.format.specs.Format.{Book, rowsAt, tableAt, tablesAt, bookOf}
-use Rattle.format.specs.Reading.{trailerTest, listTest, rowsStep, tableStep, tablesStep, verdict}
-use Rattle.format.specs.Examples.{e1}
+use borrow.Author.Tests.{ltb-true, lt-ltb, eqb-true, eqb-false, ne-eqb}
+use lib.ListN.{length, getD, replicate, length-replicate, getD-replicate, List·getD-eq-default}
+use lib.Dec.{T, ltb, eqb, T-not}
+use Rattle.format.specs.Basics.{pick, All}
+use Rattle.format.specs.Format.{Book, bookOf}
+use Rattle.format.proofs.Accepted.{accepted-verdict, verdict-accepted}
 use Rattle.format.proofs.Picks.{pick-first, pick-second}
-use Rattle.consistency.specs.Counting.{tabulate}
-use Rattle.consistency.specs.Consistency.{places, Sheet, codes}
-use Rattle.consistency.specs.Largest.{largestDomains, rounds, start, remove, removeFrom, count, countOf, bookSupports, tableSupports, rowSupports}
-use Rattle.consistency.specs.Emptiness.{noneEmpty}
-use Rattle.consistency.specs.Counts.{total, struck, lines, outside, masks}
-use Rattle.calls.specs.Calls.{freshSheet, turned, done, entered, withdrawn, photographed, filtered, alternatives, stored}
-use Rattle.calls.specs.Histories.{Call, enter, withdraw, photograph, clear, Answer, none, is, Answers, given, isBacked, withPhotograph, put, refusalOf, after, answersFrom, results, sheetThrough, sheetAfter}
-use Rattle.calls.specs.Conditions.{numbers}
-use Rattle.calls.proofs.Sheets.{put-same, put-other}
+use Rattle.consistency.specs.Counting.{those}
+use Rattle.consistency.specs.Consistency.{places, Sheet, codes, answer, backed}
+use Rattle.consistency.specs.Counts.{answered, inDoubt, relaxable}
+use Rattle.consistency.specs.Order.{In}
+use Rattle.consistency.proofs.Booleans.{true-T, T-true, and-right, any-in}
+use Rattle.consistency.proofs.Sums.{those-ext}
+use Rattle.consistency.proofs.Lines.{relaxable-are, backed-unlisted}
+use Rattle.calls.specs.Calls.{Result, turned, done, plainSheet, freshSheet, setPhotograph, faultOf, faultThen, sheetFrom, photographed, loaded, anyBacked, stored}
+use Rattle.calls.specs.Histories.{Call, enter, withdraw, photograph, clear, Answer, none, is, Answers, given, isBacked, withPhotograph, put, refusalOf, after, answersFrom}
+use Rattle.calls.specs.Photographs.{OnField, Request105}
+use Rattle.calls.proofs.CallLaws.{pick-cases, fault-holds, book-holds, Where, sheet-where, sheet-go}
+use Rattle.calls.proofs.Faults.{fault-free, fault-none}
+use Rattle.calls.proofs.Sheets.{put-same, put-other, Within, accepted-within}
+use Rattle.calls.proofs.Held.{enter-backed, withdraw-backed, photograph-again}
 
 -- ---- "Only clear removes it"
 
@@ -56,7 +60,7 @@ module _ (b : Book) (a : Answers) (f : ℕ) (m : isBacked (a f) ≡ true) where
   photograph-twice (is c p) e = ap (is c) (sym e)
 
   -- a photographed answer stays as it is
-  pub photograph-stays : (call : Call) → call ≢ clear → after b a call f ≡ a f
+  photograph-stays : (call : Call) → call ≢ clear → after b a call f ≡ a f
   photograph-stays (enter g c) n =
       stays-pick (refusalOf b a (enter g c)) (put a g (is c (isBacked (a g)))) (λ z.
       stays-put g (is c (isBacked (a g))) (λ e.
@@ -75,7 +79,7 @@ module _ (b : Book) (a : Answers) (f : ℕ) (m : isBacked (a f) ≡ true) where
   photograph-stays clear n = absurd (n refl)
 
 -- along any list of calls without clear
-pub photographs-stay : (b : Book) (calls : List Call) → All (λ call. call ≢ clear) calls → (a : Answers) (f : ℕ) → isBacked (a f) ≡ true
+photographs-stay : (b : Book) (calls : List Call) → All (λ call. call ≢ clear) calls → (a : Answers) (f : ℕ) → isBacked (a f) ≡ true
     → answersFrom b a calls f ≡ a f
 unfolding answersFrom
 photographs-stay b [] h a f m = refl
@@ -83,53 +87,88 @@ photographs-stay b (call ∷ calls) h a f m =
     let one = photograph-stays b a f m call (h .0) in
     photographs-stay b calls (h .1) (after b a call) f (ap isBacked one ∙ m) ∙ one
 
--- ---- E1 with a photograph, by computing
+-- ---- the call, and those that refuse a photographed field
 
--- an answer, its photograph; then 22 for the held code, another code and withdraw, 16 for a code that the field lacks; the photograph again; 17, no
--- answer; 15, no such field; another field's answer
-abbrev someCalls : List Call
-someCalls =
-    enter 0 0 ∷ photograph 0 ∷ enter 0 0 ∷ enter 0 1 ∷ withdraw 0 ∷ enter 0 2 ∷ photograph 0 ∷ photograph 1 ∷ photograph 3 ∷ enter 1 1 ∷ []
+module _ (bytes : List ℕ) (s : Sheet) (f : ℕ) where
+  -- what an accepted call has passed, and what it hands back
+  set-where : photographed bytes s f .outcome .number ≡ 0
+      → OnField bytes s f × (answer (s .answers) f ≢ 255) × (photographed bytes s f ≡ done [] (setPhotograph s f) [])
+  unfolding photographed
+  set-where =
+      let b : Book = bookOf bytes in
+      let x : ℕ = answer (s .answers) f in
+      let P : Result → Type 0 = (λ r. OnField bytes s f × (x ≢ 255) × (r ≡ done [] (setPhotograph s f) [])) in
+      sheet-where P 0 bytes s [] _ (λ v w.
+      pick-cases (Where P) (ltb f (length (b .counts)))
+      (λ t.
+      pick-cases (Where P) (eqb x 255) (λ u n. absurd (omega arith)) (λ u n. (
+        record { accepted = verdict-accepted bytes v; no-fault = fault-free b s w; known = ltb-true f (length (b .counts)) t },
+        eqb-false x 255 u,
+        refl,
+      )))
+      (λ t n. absurd (omega arith)))
 
--- E1's sheet with field 0 photographed
-abbrev someSheet : Sheet
-someSheet = record { answers = 0 ∷ 1 ∷ replicate (places - 2) 255; photographs = true ∷ replicate (places - 1) false }
+  module _ (o : OnField bytes s f) where
+    -- no place is at fault
+    good : places ≤ faultOf (bookOf bytes) s
+    good = omega (arith, fault-none (bookOf bytes) s (o .no-fault))
 
-pub some-numbers : numbers (results e1 freshSheet someCalls) ≡ 0 ∷ 0 ∷ 22 ∷ 22 ∷ 22 ∷ 16 ∷ 0 ∷ 17 ∷ 15 ∷ 0 ∷ []
-unfolding results entered withdrawn photographed verdict trailerTest listTest tablesStep tableStep rowsStep firstBad scan bookOf tablesAt tableAt rowsAt
-some-numbers = refl
+    -- it is accepted where the field has an answer
+    set-go : answer (s .answers) f ≢ 255 → photographed bytes s f ≡ done [] (setPhotograph s f) []
+    unfolding photographed
+    set-go n =
+        sheet-go 0 bytes s [] _ (accepted-verdict bytes (o .accepted)) good
+        ∙ rw (lt-ltb f (length (bookOf bytes .counts)) (o .known), ne-eqb (answer (s .answers) f) 255 n)
 
--- field 1 alone has a case of its own: E1 has total 4 and struck 11 where neither is photographed
-pub some-alternatives : alternatives e1 (sheetAfter e1 someCalls) (replicate 5 7) ≡ done (2 ∷ 8 ∷ []) someSheet (1 ∷ 0 ∷ 1 ∷ 1 ∷ 7 ∷ [])
-unfolding alternatives noneEmpty total struck lines outside largestDomains rounds start remove removeFrom count countOf bookSupports tableSupports rowSupports sheetThrough entered withdrawn photographed verdict trailerTest listTest tablesStep tableStep rowsStep firstBad scan bookOf tablesAt tableAt rowsAt
-some-alternatives = refl
+    -- a sheet with a photograph is not stored
+    store-refused : (l : List ℕ) → backed s f ≡ true → stored bytes s l ≡ turned 0 s l 22 0
+    unfolding stored
+    store-refused l p =
+        let w : Within (bookOf bytes) = accepted-within bytes (o .accepted) in
+        let some : anyBacked s ≡ true = T-true (any-in places (backed s) f (omega (arith, w .few, o .known)) (true-T p)) in
+        sheet-go 0 bytes s l _ (accepted-verdict bytes (o .accepted)) good ∙ rw some
 
--- plain filtering lifts the photographed field
-pub some-filtered : filtered e1 someSheet 0 (replicate 3 9) ≡ done [] someSheet (3 ∷ 2 ∷ 6 ∷ [])
-unfolding filtered masks tabulate largestDomains rounds start remove removeFrom count countOf bookSupports tableSupports rowSupports verdict trailerTest listTest tablesStep tableStep rowsStep firstBad scan bookOf tablesAt tableAt rowsAt
-some-filtered = refl
+-- ---- sheets without photographs
 
--- it is not stored, whatever is lent; clear makes it fresh
-pub some-stored : stored e1 someSheet [] ≡ turned 0 someSheet [] 22 0
-unfolding stored verdict trailerTest listTest tablesStep tableStep rowsStep firstBad scan bookOf tablesAt tableAt rowsAt
-some-stored = refl
+unbacked : (f : ℕ) → getD (replicate places false) f false ≡ false
+unbacked f = at (decLt f places)
+  where
+    at : Dec (f < places) → getD (replicate places false) f false ≡ false
+    at (yes l) = getD-replicate places f false false l
+    at (no n) = List·getD-eq-default (replicate places false) false {n = f} (omega (arith, length-replicate places false))
 
-pub some-cleared : sheetThrough e1 someSheet (clear ∷ []) ≡ freshSheet
-unfolding sheetThrough
-some-cleared = refl
+plain-cases : (b : Book) (a : List ℕ) → relaxable b (plainSheet a) ≡ those (length (b .counts)) (answered a)
+plain-cases b a =
+    those-ext (length (b .counts)) (inDoubt (plainSheet a)) (answered a)
+    (λ f l. ap (λ (x : Bool). answered a f && not x) (unbacked f) ∙ and-true (answered a f))
 
--- 14 at the lowest place: field 2 is photographed without an answer, and so is a later place
-abbrev faultySheet : Sheet
-faultySheet = record { answers = 0 ∷ 1 ∷ replicate (places - 2) 255; photographs = true ∷ false ∷ true ∷ false ∷ true ∷ replicate (places - 5) false }
+load-plain : (bytes form : List ℕ) (f : ℕ) → backed (loaded bytes form .sheet) f ≡ false
+unfolding loaded
+load-plain bytes form f =
+    let P : Result → Type 0 = (λ r. backed (r .sheet) f ≡ false) in
+    book-holds P (turned 0 freshSheet []) bytes _ (λ number place e. unbacked f) (λ e.
+    pick-cases P (eqb (length form) (length (bookOf bytes .counts)))
+    (λ t. fault-holds P (turned 0 freshSheet []) (faultOf (bookOf bytes) (sheetFrom form)) (λ l. unbacked f) (λ l. unbacked f))
+    (λ t. unbacked f))
 
-pub some-fault : photographed e1 faultySheet 0 ≡ turned 0 faultySheet [] 14 2
-unfolding photographed verdict trailerTest listTest tablesStep tableStep rowsStep firstBad scan bookOf tablesAt tableAt rowsAt
-some-fault = refl
+-- ---- cases and lines
 
--- a later place alone
-abbrev laterSheet : Sheet
-laterSheet = record { answers = 0 ∷ 1 ∷ replicate (places - 2) 255; photographs = true ∷ false ∷ false ∷ false ∷ true ∷ replicate (places - 5) false }
+no-case : (b : Book) (s : Sheet) (f : ℕ) → backed s f ≡ true → In f (relaxable b s) → ⊥
+no-case b s f p m =
+    T-not (backed s f) (and-right (answered (s .answers) f) (not (backed s f)) (relaxable-are b s f .0 m .1)) (true-T p)
 
-pub later-fault : photographed e1 laterSheet 0 ≡ turned 0 laterSheet [] 14 4
-unfolding photographed verdict trailerTest listTest tablesStep tableStep rowsStep firstBad scan bookOf tablesAt tableAt rowsAt
-later-fault = refl
+pub request105 : Request105
+request105 =
+    record {
+      accepts-exactly = λ bytes s f. (λ e. let w = set-where bytes s f e in (w .0, w .1), λ w. ap (λ (r : Result). r .outcome .number) (set-go bytes s f (w .0) (w .1)));
+      sets = λ bytes s f e. set-where bytes s f e .2;
+      again = λ bytes s f o p. photograph-again bytes s (o .accepted) (good bytes s f o) f (o .known) p;
+      only-clear = photographs-stay;
+      enter-refused = λ bytes s f c o p l. enter-backed bytes s (o .accepted) (good bytes s f o) f (o .known) c l p;
+      withdraw-refused = λ bytes s f o p. withdraw-backed bytes s (o .accepted) (good bytes s f o) f (o .known) p;
+      no-case = no-case;
+      no-line = λ b s l p m. backed-unlisted b s l (true-T p) m;
+      plain-cases = plain-cases;
+      load-plain = load-plain;
+      store-refused = λ bytes s l f o p. store-refused bytes s f o l p;
+    }

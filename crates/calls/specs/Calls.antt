@@ -84,22 +84,21 @@ entered bytes s f c =
     (turned 0 s [] 16 0))
     (turned 0 s [] 15 0))
 
--- "Withdraw sets 255". 15; 17, the field has no answer; 22
-unfoldable pub withdrawn : List ℕ → Sheet → ℕ → Result
-withdrawn bytes s f =
+-- 1 to 14, then "15, then 17, the field has no answer", then r: the calls for a field that has an answer
+abbrev pub onAnswered : List ℕ → Sheet → ℕ → Result → Result
+onAnswered bytes s f r =
     onSheet 0 bytes s [] (λ b.
     pick (ltb f (length (b .counts)))
-    (pick (eqb (answer (s .answers) f) 255) (turned 0 s [] 17 0)
-    (pick (backed s f) (turned 0 s [] 22 0) (done [] (setAnswer s f 255) [])))
+    (pick (eqb (answer (s .answers) f) 255) (turned 0 s [] 17 0) r)
     (turned 0 s [] 15 0))
+
+-- "Withdraw sets 255"; 22 behind 17
+unfoldable pub withdrawn : List ℕ → Sheet → ℕ → Result
+withdrawn bytes s f = onAnswered bytes s f (pick (backed s f) (turned 0 s [] 22 0) (done [] (setAnswer s f 255) []))
 
 -- "A new call sets it on an answered field, and setting it again changes nothing"; it "refuses with 1 to 13, 14, 15 and 17" (02, M-105)
 unfoldable pub photographed : List ℕ → Sheet → ℕ → Result
-photographed bytes s f =
-    onSheet 0 bytes s [] (λ b.
-    pick (ltb f (length (b .counts)))
-    (pick (eqb (answer (s .answers) f) 255) (turned 0 s [] 17 0) (done [] (setPhotograph s f) []))
-    (turned 0 s [] 15 0))
+photographed bytes s f = onAnswered bytes s f (done [] (setPhotograph s f) [])
 
 -- "Clear sets all 255"; "Only clear removes it"; "Fresh and clear: none"
 abbrev pub cleared : Sheet → Result

@@ -4,3 +4,4 @@ pub mod Histories
 pub mod Conditions
 pub mod Examples
 pub mod Rows
+pub mod Photographs
