@@ -1,14 +1,14 @@
 -- Document 02, M-105: what photographs promise. Assumes nothing.
 use Prim.Native.Nat.{ℕ, _≤_, _<_}
 use mathlib.Core.Path.{_≡_, refl, sym, ap, _∙_}
-use mathlib.Core.Logic.{_↔_, _≢_}
+use mathlib.Core.Logic.{_≢_}
 use mathlib.Core.Bool.{Bool, true, false, not, _&&_, and-true}
 use mathlib.Core.List.{List, [], _∷_}
 use native.Mathlib.Decide.{ℕ-discrete, decLt}
 use native.Mathlib.Omega.{arith}
 use borrow.Author.Tests.{ltb-true, lt-ltb, eqb-true, eqb-false, ne-eqb}
 use lib.ListN.{length, getD, replicate, length-replicate, getD-replicate, List·getD-eq-default}
-use lib.Dec.{T, ltb, eqb, T-not}
+use lib.Dec.{ltb, eqb, T-not}
 use Rattle.format.specs.Basics.{pick, All}
 use Rattle.format.specs.Format.{Book, bookOf}
 use Rattle.format.proofs.Accepted.{accepted-verdict, verdict-accepted}
@@ -20,7 +20,7 @@ use Rattle.consistency.specs.Order.{In}
 use Rattle.consistency.proofs.Booleans.{true-T, T-true, and-right, any-in}
 use Rattle.consistency.proofs.Sums.{those-ext}
 use Rattle.consistency.proofs.Lines.{relaxable-are, backed-unlisted}
-use Rattle.calls.specs.Calls.{Result, turned, done, plainSheet, freshSheet, setPhotograph, faultOf, faultThen, sheetFrom, photographed, loaded, anyBacked, stored}
+use Rattle.calls.specs.Calls.{Result, turned, done, plainSheet, freshSheet, setPhotograph, faultOf, sheetFrom, photographed, loaded, anyBacked, stored}
 use Rattle.calls.specs.Histories.{Call, enter, withdraw, photograph, clear, Answer, none, is, Answers, given, isBacked, withPhotograph, put, refusalOf, after, answersFrom}
 use Rattle.calls.specs.Photographs.{OnField, Request105}
 use Rattle.calls.proofs.CallLaws.{pick-cases, fault-holds, book-holds, Where, sheet-where, sheet-go}

@@ -22,7 +22,7 @@ use Rattle.consistency.specs.Consistency.{places, codes, answer, backed}
 use Rattle.consistency.specs.Counts.{answered, inDoubt}
 use Rattle.consistency.proofs.Sums.{length-tabulate, tabulate-at}
 use Rattle.consistency.proofs.CodeCounts.{field-in}
-use Rattle.calls.specs.Calls.{freshSheet, setAnswer, setPhotograph, mayHold, placeOk, faultOf}
+use Rattle.calls.specs.Calls.{freshSheet, setAnswer, setPhotograph, mayHold, faultOf}
 use Rattle.calls.specs.Histories.{Answer, none, is, Answers, given, isBacked, doubtful, put, noAnswers, byteOf, sheetOf}
 use Rattle.calls.proofs.Faults.{fault-none}
 

@@ -1,6 +1,5 @@
 -- Request M-103 at work: the last of sixty fields is answered and listed, and a book without it finds the sheet at fault there, all computed.
 -- Assumes nothing.
-use Prim.Native.Nat.{ℕ}
 use mathlib.Core.Path.{_≡_, refl}
 use mathlib.Core.List.{[], _∷_, _++_}
 use lib.ListN.{replicate}

@@ -15,7 +15,7 @@ use Rattle.format.specs.Reading.{pass, verdict}
 use Rattle.format.proofs.Accepted.{verdict-accepted}
 use Rattle.consistency.specs.Consistency.{places, Sheet, codes, answer, backed}
 use Rattle.consistency.proofs.Booleans.{false-T, T-false, any-in}
-use Rattle.calls.specs.Calls.{Result, freshSheet, turned, done, mayHold, placeOk, faultOf, sheetFrom, anyBacked, loaded, stored}
+use Rattle.calls.specs.Calls.{Result, freshSheet, turned, done, faultOf, sheetFrom, anyBacked, loaded, stored}
 use Rattle.calls.specs.Conditions.{Whole, StoreAndLoad}
 use Rattle.calls.proofs.Faults.{fault-free}
 use Rattle.calls.proofs.CallLaws.{Where, pick-cases, book-where, sheet-where, book-go, sheet-go}

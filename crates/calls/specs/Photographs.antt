@@ -10,7 +10,7 @@ use Rattle.format.specs.Basics.{All}
 use Rattle.format.specs.Format.{Book, bookOf}
 use Rattle.format.specs.Reading.{Accepted}
 use Rattle.consistency.specs.Counting.{those}
-use Rattle.consistency.specs.Consistency.{places, Sheet, codes, answer, backed}
+use Rattle.consistency.specs.Consistency.{Sheet, codes, answer, backed}
 use Rattle.consistency.specs.Counts.{answered, relaxable, Line, lines}
 use Rattle.consistency.specs.Order.{In}
 use Rattle.calls.specs.Calls.{turned, done, plainSheet, setPhotograph, entered, withdrawn, photographed, loaded, stored}

@@ -8,7 +8,7 @@ use Rattle.format.specs.Reading.{Outcome}
 use Rattle.book.specs.declared.Refusal.the-variants as book
 use Rattle.sheet.specs.Shown.{numberOf, shown, shownListing, shownRow}
 use Rattle.sheet.specs.declared.Reason.{Reason}
-use Rattle.sheet.specs.declared.Reason.the-variants.{Book, Fault, Field, Code, NoAnswer, Room, Length, Table}
+use Rattle.sheet.specs.declared.Reason.the-variants.{Book, Fault, Field, Code, NoAnswer, Room, Length, Table, Photographed}
 use Rattle.sheet.specs.declared.Answer.{Answer}
 use Rattle.sheet.specs.declared.Answer.the-variants.{Done, Refused}
 use Rattle.sheet.specs.declared.Listing.{Listing}
@@ -16,13 +16,13 @@ use Rattle.sheet.specs.declared.Listing.the-variants.{Listed, Unlisted}
 use Rattle.sheet.specs.declared.RowAnswer.{RowAnswer}
 use Rattle.sheet.specs.declared.RowAnswer.the-variants.{Row, NoRow, Unshown}
 
--- the reason of a number from 1 to 19, and of 21
+-- the reason of a number from 1 to 19, of 21 and of 22
 reasonOf : ℕ → Reason
 reasonOf n =
     getD
     (Length ∷ Book book.Length ∷ Book book.Closing ∷ Book book.Version ∷ Book book.FieldCount ∷ Book book.TableCount
     ∷ Book book.ListPlace ∷ Book book.CodeCount ∷ Book book.Short ∷ Book book.Arity ∷ Book book.FieldNumber ∷ Book book.Code
-    ∷ Book book.RowCount ∷ Book book.LeftOver ∷ Fault ∷ Field ∷ Code ∷ NoAnswer ∷ Room ∷ Length ∷ Length ∷ Table ∷ [])
+    ∷ Book book.RowCount ∷ Book book.LeftOver ∷ Fault ∷ Field ∷ Code ∷ NoAnswer ∷ Room ∷ Length ∷ Length ∷ Table ∷ Photographed ∷ [])
     n Length
 
 -- a reason's number is not 0, and tells the reason
@@ -48,6 +48,7 @@ numbered NoAnswer = (omega arith, refl)
 numbered Room = (omega arith, refl)
 numbered Length = (omega arith, refl)
 numbered Table = (omega arith, refl)
+numbered Photographed = (omega arith, refl)
 
 -- no refusal is shown as accepted
 pub number-some : (r : Reason) → 1 ≤ numberOf r

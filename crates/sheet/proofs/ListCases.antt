@@ -8,7 +8,7 @@ use lib.ListN.{length, getD, set, drop}
 use borrow.Author.Tests.{lt-ltb, le-ltb, eq-eqb, ne-eqb}
 use Rattle.format.specs.Format.{bookOf}
 use Rattle.format.specs.Reading.{fail}
-use Rattle.consistency.specs.Consistency.{places, answer}
+use Rattle.consistency.specs.Consistency.{places, Sheet, answer}
 use Rattle.consistency.specs.Counts.{total, struck, lines, lineBytes, masks}
 use Rattle.calls.specs.Calls.{Result, turned, done, masksInto, filtered, alternatives}
 use Rattle.sheet.specs.Opened.{opening, FieldsAt}
@@ -17,7 +17,7 @@ use Rattle.consistency.proofs.Elements.{answer-at}
 
 -- ---- alternatives
 
-module _ (bytes s o : List ℕ) where
+module _ (bytes : List ℕ) (s : Sheet) (o : List ℕ) where
   -- 1 to 14
   pub alternatives-turned : (number place : ℕ) → fail number place ≡ opening bytes s → turned 2 s o number place ≡ alternatives bytes s o
   unfolding alternatives
@@ -40,7 +40,7 @@ module _ (bytes s o : List ℕ) where
 
 -- ---- plain filtering
 
-module _ (bytes s a o : List ℕ) {list fields : ℕ} (at : FieldsAt bytes list fields) where
+module _ (bytes : List ℕ) (s : Sheet) (a o : List ℕ) {list fields : ℕ} (at : FieldsAt bytes list fields) where
   -- fewer numbers lent than fields
   pub masks-18 : length o < fields → turned 0 s o 18 0 ≡ masksInto (bookOf bytes) s a o
   masks-18 h = simp (fields-count bytes list fields at, lt-ltb)
@@ -50,7 +50,7 @@ module _ (bytes s a o : List ℕ) {list fields : ℕ} (at : FieldsAt bytes list 
       → done [] s out ≡ masksInto (bookOf bytes) s a o
   masks-done h w = simp (fields-count bytes list fields at, le-ltb, w)
 
-module _ (bytes s o : List ℕ) (f : ℕ) where
+module _ (bytes : List ℕ) (s : Sheet) (o : List ℕ) (f : ℕ) where
   -- 1 to 14
   pub filtered-turned : (number place : ℕ) → fail number place ≡ opening bytes s → turned 0 s o number place ≡ filtered bytes s f o
   unfolding filtered
@@ -58,7 +58,7 @@ module _ (bytes s o : List ℕ) (f : ℕ) where
 
   module _ {list fields : ℕ} (p : IsOpen bytes s list fields) where
     -- 255 relaxes none, and skips 15 and 17
-    pub filtered-none : {r : Result} → f ≡ 255 → r ≡ masksInto (bookOf bytes) s s o → r ≡ filtered bytes s f o
+    pub filtered-none : {r : Result} → f ≡ 255 → r ≡ masksInto (bookOf bytes) s (s .answers) o → r ≡ filtered bytes s f o
     unfolding filtered
     filtered-none {r} e d = on-ready 0 bytes s o _ (p .passes) r (simp (eq-eqb f 255 e) d)
 
@@ -68,22 +68,22 @@ module _ (bytes s o : List ℕ) (f : ℕ) where
       unfolding filtered
       filtered-15 h = on-ready 0 bytes s o _ (p .passes) _ (simp (ne-eqb f 255 n, fields-count bytes list fields (p .at), le-ltb f fields h))
 
-      module _ (long : length s ≡ places) (h : f < fields) where
+      module _ (long : length (s .answers) ≡ places) (h : f < fields) where
         -- the byte at the field is its answer
-        held : getD s f 0 ≡ answer s f
-        held = answer-at s f (omega (arith, fields-few bytes list fields (p .at)))
+        held : getD (s .answers) f 0 ≡ answer (s .answers) f
+        held = answer-at (s .answers) f (omega (arith, fields-few bytes list fields (p .at)))
 
         -- the field has no answer
-        pub filtered-17 : getD s f 0 ≡ 255 → turned 0 s o 17 0 ≡ filtered bytes s f o
+        pub filtered-17 : getD (s .answers) f 0 ≡ 255 → turned 0 s o 17 0 ≡ filtered bytes s f o
         unfolding filtered
         filtered-17 k =
             on-ready 0 bytes s o _ (p .passes) _
-            (simp (ne-eqb f 255 n, fields-count bytes list fields (p .at), lt-ltb f fields h, eq-eqb (answer s f) 255 (sym held ∙ k)))
+            (simp (ne-eqb f 255 n, fields-count bytes list fields (p .at), lt-ltb f fields h, eq-eqb (answer (s .answers) f) 255 (sym held ∙ k)))
 
         -- the field alone is relaxed
-        pub filtered-relaxed : {r : Result} → (getD s f 0 ≡ 255 → ⊥) → r ≡ masksInto (bookOf bytes) s (set s f 255) o → r ≡ filtered bytes s f o
+        pub filtered-relaxed : {r : Result} → (getD (s .answers) f 0 ≡ 255 → ⊥) → r ≡ masksInto (bookOf bytes) s (set (s .answers) f 255) o → r ≡ filtered bytes s f o
         unfolding filtered
         filtered-relaxed {r} k d =
             let known : f < length (bookOf bytes .counts) = omega (arith, fields-count bytes list fields (p .at)) in
             on-ready 0 bytes s o _ (p .passes) r
-            (simp (ne-eqb f 255 n, lt-ltb f (length (bookOf bytes .counts)) known, ne-eqb (answer s f) 255 (λ e. k (held ∙ e))) d)
+            (simp (ne-eqb f 255 n, lt-ltb f (length (bookOf bytes .counts)) known, ne-eqb (answer (s .answers) f) 255 (λ e. k (held ∙ e))) d)

@@ -9,8 +9,8 @@ use borrow.Author.Tests.{lt-ltb, le-ltb, eq-eqb, ne-eqb}
 use Rattle.format.specs.Format.{bookOf}
 use Rattle.format.specs.Reading.{fail, verdict}
 use Rattle.format.proofs.Copying.{copied-whole}
-use Rattle.consistency.specs.Consistency.{places}
-use Rattle.calls.specs.Calls.{freshSheet, turned, done, faultOf, sheetFrom, loaded}
+use Rattle.consistency.specs.Consistency.{places, Sheet}
+use Rattle.calls.specs.Calls.{plainSheet, freshSheet, turned, done, faultOf, sheetFrom, loaded}
 use Rattle.sheet.specs.Opened.{FieldsAt}
 use Rattle.sheet.proofs.Openings.{fields-few, fields-count}
 
@@ -20,12 +20,13 @@ drop-replicate zero m x = rw sub-zero
 drop-replicate (suc n) zero x = rw zero-sub
 drop-replicate (suc n) (suc m) x = let d : suc m - suc n ≡ m - n = omega arith in rw d (drop-replicate n m x)
 
--- a stored form, copied over the first places of a fresh sheet
-form-over : (form : List ℕ) → length form ≤ places → take places form ++ drop (length form) freshSheet ≡ sheetFrom form
-form-over form h = copied-whole form freshSheet h ∙ ap (λ (l : List ℕ). form ++ l) (drop-replicate (length form) places 255)
+-- a stored form, copied over the first places of a sheet without answers
+form-over : (form : List ℕ) → length form ≤ places
+    → take places form ++ drop (length form) (replicate places 255) ≡ form ++ replicate (places - length form) 255
+form-over form h = copied-whole form (replicate places 255) h ∙ ap (λ (l : List ℕ). form ++ l) (drop-replicate (length form) places 255)
 
 -- a refusal that hands back a fresh sheet
-pub turned-fresh : (s : List ℕ) (number place : ℕ) → s ≡ freshSheet → turned 0 s [] number place ≡ turned 0 freshSheet [] number place
+pub turned-fresh : (s : Sheet) (number place : ℕ) → s ≡ freshSheet → turned 0 s [] number place ≡ turned 0 freshSheet [] number place
 turned-fresh s number place e = rw e
 
 module _ (bytes form : List ℕ) where
@@ -40,12 +41,12 @@ module _ (bytes form : List ℕ) where
     unfolding loaded
     loaded-19 h = simp (at .passes, fields-count bytes list fields at, ne-eqb)
 
-    -- s is the sheet made of it, and fault the first place at fault, or the number of places
-    module _ (h : length form ≡ fields) (s : List ℕ) (is : s ≡ take places form ++ drop (length form) freshSheet)
-        (fault : ℕ) (e : fault ≡ faultOf (bookOf bytes) s) where
+    -- a has the answers of the sheet made of it, and fault is the first place at fault, or the number of places
+    module _ (h : length form ≡ fields) (a : List ℕ) (is : a ≡ take places form ++ drop (length form) (replicate places 255))
+        (fault : ℕ) (e : fault ≡ faultOf (bookOf bytes) (plainSheet a)) where
       -- it is the sheet of the definition
-      made : s ≡ sheetFrom form
-      made = is ∙ form-over form (omega (arith, fields-few bytes list fields at))
+      made : plainSheet a ≡ sheetFrom form
+      made = ap plainSheet (is ∙ form-over form (omega (arith, fields-few bytes list fields at)))
 
       -- a place is at fault
       pub loaded-14 : fault < places → turned 0 freshSheet [] 14 fault ≡ loaded bytes form
@@ -53,6 +54,6 @@ module _ (bytes form : List ℕ) where
       loaded-14 k = simp (at .passes, fields-count bytes list fields at, eq-eqb, ← made, ← e, lt-ltb)
 
       -- no place is at fault
-      pub loaded-done : places ≤ fault → done [] s [] ≡ loaded bytes form
+      pub loaded-done : places ≤ fault → done [] (plainSheet a) [] ≡ loaded bytes form
       unfolding loaded
       loaded-done k = simp (at .passes, fields-count bytes list fields at, eq-eqb, ← made, ← e, le-ltb)

@@ -18,7 +18,7 @@ use Rattle.book.specs.View.{Viewed}
 use Rattle.book.specs.declared.Checked.{Checked}
 use Rattle.book.specs.declared.Checked.the-variants.{Good}
 use Rattle.book.proofs.Checks.{checks-viewed}
-use Rattle.consistency.specs.Consistency.{places, codes}
+use Rattle.consistency.specs.Consistency.{places, Sheet, codes}
 use Rattle.calls.specs.Calls.{Result, turned, faultOf, withBook, faultThen, onSheet}
 use Rattle.sheet.specs.Shown.{numberOf}
 use Rattle.sheet.specs.Opened.{faultTest, opening, openingOf, FieldsAt, Finds, Opens}
@@ -70,7 +70,7 @@ module _ (bytes : List ℕ) (list fields : ℕ) (at : FieldsAt bytes list fields
 
 -- ---- 1 to 13, then 14
 
-module _ (bytes s : List ℕ) where
+module _ (bytes : List ℕ) (s : Sheet) where
   -- the book is refused
   pub opening-book : (number place : ℕ) → fail number place ≡ verdict bytes → fail number place ≡ opening bytes s
   unfolding opening
@@ -90,7 +90,7 @@ module _ (bytes s : List ℕ) where
 -- ---- what a call answers by them
 
 -- by the book's verdict and the first place at fault
-module _ (bytes s : List ℕ) (refuse : ℕ → ℕ → Result) (go : Book → Result) where
+module _ (bytes : List ℕ) (s : Sheet) (refuse : ℕ → ℕ → Result) (go : Book → Result) where
   -- all pass
   go-on : (v : Verdict) → pass ≡ andThen v (faultTest (faultOf (bookOf bytes) s))
       → go (bookOf bytes) ≡ withBook bytes refuse v (λ b. faultThen refuse (faultOf b s) (go b))
@@ -106,7 +106,7 @@ module _ (bytes s : List ℕ) (refuse : ℕ → ℕ → Result) (go : Book → R
   stop-here (fail number′ place′) number place e = cc
 
 -- a call on sheet s that counts k things, with o lent
-module _ (k : ℕ) (bytes s o : List ℕ) (go : Book → Result) where
+module _ (k : ℕ) (bytes : List ℕ) (s : Sheet) (o : List ℕ) (go : Book → Result) where
   -- where all pass it goes on with the book
   pub on-ready : pass ≡ opening bytes s → (r : Result) → r ≡ go (bookOf bytes) → r ≡ onSheet k bytes s o go
   unfolding opening
@@ -120,11 +120,11 @@ module _ (k : ℕ) (bytes s o : List ℕ) (go : Book → Result) where
 -- ---- what the code's answer says
 
 -- book and sheet pass, and the field list is here
-pub record IsOpen (bytes s : List ℕ) (list fields : ℕ) : Type 0 where
+pub record IsOpen (bytes : List ℕ) (s : Sheet) (list fields : ℕ) : Type 0 where
   pub passes : pass ≡ opening bytes s
   pub at : FieldsAt bytes list fields
 
-module _ (bytes s : List ℕ) (r : Opened) (o : Opens bytes s r) where
+module _ (bytes : List ℕ) (s : Sheet) (r : Opened) (o : Opens bytes s r) where
   module _ (list fields tables rows : ℕ) (e : r ≡ Ready list fields tables rows) where
     -- it is ready: the numbers are those of a view
     pub opens-viewed : Viewed bytes list fields tables rows

@@ -8,19 +8,19 @@ use lib.ListN.{length, getD}
 use Rattle.format.specs.Basics.{firstBad}
 use Rattle.format.specs.Format.{Book}
 use Rattle.format.proofs.Scans.{bad-ext}
-use Rattle.consistency.specs.Consistency.{places, codes}
+use Rattle.consistency.specs.Consistency.{places, Sheet, codes, backed}
 use Rattle.consistency.proofs.Elements.{answer-at}
 use Rattle.consistency.proofs.Sums.{tabulate-at}
 use Rattle.calls.specs.Calls.{mayHold, placeOk, faultOf}
 use Rattle.sheet.specs.Opened.{codeCounts, heldOk}
 
-module _ (s : List ℕ) (long : length s ≡ places) (b : Book) (counts : List ℕ) (are : counts ≡ codeCounts b) where
+module _ (s : Sheet) (long : length (s .answers) ≡ places) (b : Book) (counts : List ℕ) (are : counts ≡ codeCounts b) where
   -- the test by the number of codes is the test of the place
   place-test : (p : ℕ) → p < places → heldOk counts s p ≡ placeOk b s p
   place-test p h =
       let c : getD counts p 0 ≡ codes b p =
       ap (λ (l : List ℕ). getD l p 0) are ∙ tabulate-at (codes b) places 0 p 0 h ∙ ap (codes b) (zero-add p) in
-      ap₂ mayHold (answer-at s p (omega arith)) c
+      ap₂ (λ (x k : ℕ). mayHold x (backed s p) k) (answer-at (s .answers) p (omega arith)) c
 
   -- so is the first place that fails it
   pub fault-is : firstBad (heldOk counts s) 0 places ≡ faultOf b s

@@ -3,6 +3,7 @@ use Prim.Native.Nat.{ℕ}
 use mathlib.Core.Path.{_≡_, refl, sym, subst, ap, ap₂, _∙_}
 use mathlib.Core.List.{List, [], _∷_, map}
 use Rattle.format.specs.Format.{bookOf}
+use Rattle.consistency.specs.Consistency.{Sheet}
 use Rattle.calls.specs.Calls.{Result, freshSheet, alternatives}
 use Rattle.calls.specs.Histories.{Call, results, sheetThrough, sheetAfter}
 use Rattle.calls.specs.Conditions.{ListsAfter}
@@ -21,7 +22,7 @@ replayed bytes calls o r e =
     }
 
 -- a run from any sheet
-run-from : {bytes s t : List ℕ} {calls : List Call} {rs : List Handed} → Run bytes s calls rs t
+run-from : {bytes : List ℕ} {s t : Sheet} {calls : List Call} {rs : List Handed} → Run bytes s calls rs t
     → (map (λ (r : Handed). resultOf r []) rs ≡ results bytes s calls) × (t ≡ sheetThrough bytes s calls)
 unfolding results sheetThrough
 run-from ends = (refl, refl)
@@ -31,10 +32,10 @@ run-from {bytes = bytes} {calls = _ ∷ calls} (goes-on e w) =
       i .1 ∙ ap (λ (x : Result). sheetThrough bytes (x .sheet) calls) e,
     )
 
-pub run-is : {bytes t : List ℕ} {calls : List Call} {rs : List Handed} → Run bytes freshSheet calls rs t → RunIs bytes calls rs t
+pub run-is : {bytes : List ℕ} {t : Sheet} {calls : List Call} {rs : List Handed} → Run bytes freshSheet calls rs t → RunIs bytes calls rs t
 run-is w = let i = run-from w in record { answers = i .0; sheet = i .1 }
 
 -- so alternatives on the sheet that a run reached is what condition 3 says
-pub run-lists : {bytes t : List ℕ} {calls : List Call} {rs : List Handed} → Run bytes freshSheet calls rs t
+pub run-lists : {bytes : List ℕ} {t : Sheet} {calls : List Call} {rs : List Handed} → Run bytes freshSheet calls rs t
     → (o : List ℕ) (r : Result) → r ≡ alternatives bytes t o → Replayed bytes calls o r
-run-lists {bytes} {t} {calls} w o r e = replayed bytes calls o r (e ∙ ap (λ (s : List ℕ). alternatives bytes s o) (run-is w .sheet))
+run-lists {bytes} {t} {calls} w o r e = replayed bytes calls o r (e ∙ ap (λ (s : Sheet). alternatives bytes s o) (run-is w .sheet))

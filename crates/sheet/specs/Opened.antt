@@ -10,7 +10,7 @@ use Rattle.format.specs.Format.{Book, listPlace, fieldCount, bookOf}
 use Rattle.format.specs.Reading.{Verdict, pass, fail, andThen, verdict}
 use Rattle.book.specs.View.{Viewed}
 use Rattle.consistency.specs.Counting.{tabulate}
-use Rattle.consistency.specs.Consistency.{places, codes}
+use Rattle.consistency.specs.Consistency.{places, Sheet, codes, backed}
 use Rattle.calls.specs.Calls.{mayHold, faultOf}
 use Rattle.sheet.specs.Shown.{numberOf}
 use Rattle.sheet.specs.declared.opened.Opened.{Opened}
@@ -23,15 +23,15 @@ abbrev pub codeCounts : Book → List ℕ
 codeCounts b = tabulate (codes b) places 0
 
 -- place p of the sheet s may hold what it holds, by these numbers of codes
-abbrev pub heldOk : List ℕ → List ℕ → ℕ → Bool
-heldOk counts s p = mayHold (getD s p 0) (getD counts p 0)
+abbrev pub heldOk : List ℕ → Sheet → ℕ → Bool
+heldOk counts s p = mayHold (getD (s .answers) p 0) (backed s p) (getD counts p 0)
 
 -- where fault is the first place at fault, or the number of places
 abbrev pub faultTest : ℕ → Verdict
 faultTest fault = pick (ltb fault places) (fail 14 fault) pass
 
 -- 1 to 13 of the book's bytes, then 14 of the sheet s
-unfoldable pub opening : List ℕ → List ℕ → Verdict
+unfoldable pub opening : List ℕ → Sheet → Verdict
 opening bytes s = andThen (verdict bytes) (faultTest (faultOf (bookOf bytes) s))
 
 -- the code's answer as a verdict
@@ -51,6 +51,6 @@ Finds bytes (Ready list fields tables rows) = Viewed bytes list fields tables ro
 Finds bytes (Turned reason place) = Unit {0}
 
 -- what the code answers for a book and a sheet
-pub record Opens (bytes s : List ℕ) (r : Opened) : Type 0 where
+pub record Opens (bytes : List ℕ) (s : Sheet) (r : Opened) : Type 0 where
   pub answers : openingOf r ≡ opening bytes s
   pub finds : Finds bytes r

@@ -2,12 +2,14 @@
 use Prim.Native.Nat.{ℕ}
 use mathlib.Core.List.{List, [], _∷_}
 use Rattle.format.specs.Reading.{Outcome, accepted, refused}
+use Rattle.consistency.specs.Consistency as consistency
 use Rattle.calls.specs.Calls.{Result}
 use Rattle.book.specs.Shown as book
 use Rattle.filter.specs.declared.Supporting.{Supporting}
 use Rattle.filter.specs.declared.Supporting.the-variants as filter
 use Rattle.sheet.specs.declared.Reason.{Reason}
-use Rattle.sheet.specs.declared.Reason.the-variants.{Book, Fault, Field, Code, NoAnswer, Room, Length, Table}
+use Rattle.sheet.specs.declared.Reason.the-variants.{Book, Fault, Field, Code, NoAnswer, Room, Length, Table, Photographed}
+use Rattle.sheet.specs.declared.Sheet.{Sheet}
 use Rattle.sheet.specs.declared.Answer.{Answer}
 use Rattle.sheet.specs.declared.Answer.the-variants.{Done, Refused}
 use Rattle.sheet.specs.declared.Listing.{Listing}
@@ -28,6 +30,11 @@ numberOf NoAnswer = 17
 numberOf Room = 18
 numberOf Length = 19
 numberOf Table = 21
+numberOf Photographed = 22
+
+-- what a sheet holds: its answers and its photographs
+abbrev pub heldBy : Sheet → consistency.Sheet
+heldBy s = consistency.sheetWith (s .answers) (s .photographed)
 
 -- the answer of a call that counts nothing
 abbrev pub shown : Answer → Outcome
@@ -53,10 +60,10 @@ rowAnswerOf filter.NoColumn = Unshown Table 0
 
 -- what a call left behind: its answer, the sheet handed back, and the contents of the buffer lent
 abbrev pub resultOf : Handed → List ℕ → Result
-resultOf r o = record { outcome = shown (r .answer); sheet = r .sheet .places; buffer = o }
+resultOf r o = record { outcome = shown (r .answer); sheet = heldBy (r .sheet); buffer = o }
 
 abbrev pub listResultOf : HandedList → List ℕ → Result
-listResultOf r o = record { outcome = shownListing (r .answer); sheet = r .sheet .places; buffer = o }
+listResultOf r o = record { outcome = shownListing (r .answer); sheet = heldBy (r .sheet); buffer = o }
 
 abbrev pub rowResultOf : HandedRow → Result
-rowResultOf r = record { outcome = shownRow (r .answer); sheet = r .sheet .places; buffer = [] }
+rowResultOf r = record { outcome = shownRow (r .answer); sheet = heldBy (r .sheet); buffer = [] }

@@ -2,11 +2,12 @@
 ghost use mathlib.Core.Path.{_≡_};
 ghost use mathlib.Core.List.{[]};
 ghost use Rattle.calls.specs.Histories.{addCall, callsIn, sheetThrough, sheetAfter};
+ghost use Rattle.sheet.specs.Shown.{heldBy};
 use super::Sheet;
 
-// The sheet that one call hands back, accepted or refused. Kind 0 enters, 1 withdraws, 2 clears; any other is no call.
+// The sheet that one call hands back, accepted or refused. Kind 0 enters, 1 withdraws, 2 clears, 3 photographs; any other is no call.
 fn called(sheet: Sheet, book: &[u8], kind: u8, field: u8, code: u8) -> Sheet
-    ensures { λ r. ⌜ r .places ≡ sheetThrough (now (book .entry)) (sheet .places) (addCall kind field code []) ⌝ }
+    ensures { λ r. ⌜ heldBy r ≡ sheetThrough (now (book .entry)) (heldBy sheet) (addCall kind field code []) ⌝ }
 {
     if kind == 0 {
         let entered = sheet.enter(book, field as usize, code as usize);
@@ -20,12 +21,16 @@ fn called(sheet: Sheet, book: &[u8], kind: u8, field: u8, code: u8) -> Sheet
         let cleared = sheet.clear();
         return cleared.sheet;
     }
+    if kind == 3 {
+        let photographed = sheet.photograph(book, field as usize);
+        return photographed.sheet;
+    }
     sheet
 }
 
 // The sheet after all calls, from a fresh one. Bytes behind the last whole call are none.
 pub(crate) fn after(book: &[u8], calls: &[u8]) -> Sheet
-    ensures { λ r. ⌜ r .places ≡ sheetAfter (now (book .entry)) (callsIn (now (calls .entry))) ⌝ }
+    ensures { λ r. ⌜ heldBy r ≡ sheetAfter (now (book .entry)) (callsIn (now (calls .entry))) ⌝ }
 {
     let mut sheet = Sheet::fresh();
     let mut at = 0;

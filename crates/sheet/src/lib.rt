@@ -1,10 +1,14 @@
-// The sheet and its calls. Document 01, "The sheet and its one pass" and "When a call is turned down"; document 02, M-104.
+// The sheet and its calls. Document 01, "The sheet and its one pass" and "When a call is turned down"; document 02, M-104 and M-105.
 ghost use mathlib.Core.Path.{_≡_};
+ghost use mathlib.Core.Bool.{false};
 ghost use mathlib.Core.List.{List, []};
 ghost use Prim.Native.Nat.{ℕ};
-ghost use Rattle.calls.specs.Calls.{freshSheet, turned, entered, withdrawn, cleared, filtered, alternatives, stored, loaded, rowBehind};
+ghost use lib.ListN.{getD};
+ghost use Rattle.consistency.specs.Counting.{anyBelow};
+ghost use Rattle.consistency.specs.Consistency.{places, sheetWith};
+ghost use Rattle.calls.specs.Calls.{freshSheet, turned, done, entered, withdrawn, photographed, cleared, filtered, alternatives, stored, loaded, rowBehind};
 ghost use Rattle.calls.specs.Histories.{callsIn, sheetAfter};
-ghost use Rattle.sheet.specs.Shown.{numberOf, resultOf, listResultOf, rowAnswerOf, rowResultOf};
+ghost use Rattle.sheet.specs.Shown.{numberOf, heldBy, resultOf, listResultOf, rowAnswerOf, rowResultOf};
 ghost use Rattle.sheet.specs.Replayed.{Replayed};
 use book::Checked;
 use book::PLACES;
@@ -18,12 +22,13 @@ mod lists;
 mod masks;
 mod opened;
 
-// One byte for each place: the answered code, or 255 for no answer.
+// For each place the answered code, or 255 for no answer, and whether a photograph backs the answer.
 pub struct Sheet {
-    pub places: [u8; PLACES],
+    pub answers: [u8; PLACES],
+    pub photographed: [bool; PLACES],
 }
 
-// Why a call is turned down: the reader's refusal of the book, 14 to 19, or 21. numberOf (specs) gives each the papers' number.
+// Why a call is turned down: the reader's refusal of the book, 14 to 19, 21, or 22. numberOf (specs) gives each the papers' number.
 pub enum Reason {
     Book(Refusal),
     Fault,
@@ -33,6 +38,7 @@ pub enum Reason {
     Room,
     Length,
     Table,
+    Photographed,
 }
 
 // The papers' number of a reason.
@@ -48,6 +54,7 @@ pub fn number(reason: Reason) -> u64
         Reason::Room => 18,
         Reason::Length => 19,
         Reason::Table => 21,
+        Reason::Photographed => 22,
     }
 }
 
@@ -88,9 +95,22 @@ pub struct HandedRow {
     pub sheet: Sheet,
 }
 
+// The sheet of an accepted call.
+fn hand(answers: [u8; PLACES], photographed: [bool; PLACES]) -> Handed
+    ensures { λ r. ⌜ resultOf r [] ≡ done [] (sheetWith answers photographed) [] ⌝ }
+{
+    Handed {
+        answer: Answer::Done,
+        sheet: Sheet {
+            answers: answers,
+            photographed: photographed,
+        },
+    }
+}
+
 // A refusal: the sheet comes back as given, and so does whatever is lent.
 fn refuse(sheet: Sheet, reason: Reason, place: usize) -> Handed
-    ensures { λ r. ⌜ ((o : List ℕ) → resultOf r o ≡ turned 0 (sheet .places) o (numberOf reason) place) ⌝ }
+    ensures { λ r. ⌜ ((o : List ℕ) → resultOf r o ≡ turned 0 (heldBy sheet) o (numberOf reason) place) ⌝ }
 {
     Handed {
         answer: Answer::Refused(reason, place),
@@ -100,7 +120,7 @@ fn refuse(sheet: Sheet, reason: Reason, place: usize) -> Handed
 
 // A refusal of alternatives.
 fn refuse_list(sheet: Sheet, reason: Reason, place: usize) -> HandedList
-    ensures { λ r. ⌜ ((o : List ℕ) → listResultOf r o ≡ turned 2 (sheet .places) o (numberOf reason) place) ⌝ }
+    ensures { λ r. ⌜ ((o : List ℕ) → listResultOf r o ≡ turned 2 (heldBy sheet) o (numberOf reason) place) ⌝ }
 {
     HandedList {
         answer: Listing::Unlisted(reason, place),
@@ -110,12 +130,24 @@ fn refuse_list(sheet: Sheet, reason: Reason, place: usize) -> HandedList
 
 // A refusal of row.
 fn refuse_row(sheet: Sheet, reason: Reason, place: usize) -> HandedRow
-    ensures { λ r. ⌜ rowResultOf r ≡ turned 2 (sheet .places) [] (numberOf reason) place ⌝ }
+    ensures { λ r. ⌜ rowResultOf r ≡ turned 2 (heldBy sheet) [] (numberOf reason) place ⌝ }
 {
     HandedRow {
         answer: RowAnswer::Unshown(reason, place),
         sheet: sheet,
     }
+}
+
+// Whether some place has a photograph.
+fn any_photographed(photographed: [bool; PLACES]) -> bool
+    ensures { λ r. ⌜ r ≡ anyBelow places (λ p. getD photographed p false) ⌝ }
+{
+    for p in 0..PLACES {
+        if photographed[p] {
+            return true;
+        }
+    }
+    false
 }
 
 // What the filter found, as the answer of row: 21 where the table has no column for the field.
@@ -130,18 +162,19 @@ fn row_answer(found: Supporting) -> RowAnswer
 }
 
 impl Sheet {
-    // A sheet without answers.
+    // A sheet without answers, and so without photographs.
     pub fn fresh() -> Sheet
-        ensures { λ r. ⌜ r .places ≡ freshSheet ⌝ }
+        ensures { λ r. ⌜ heldBy r ≡ freshSheet ⌝ }
     {
         Sheet {
-            places: [255; PLACES],
+            answers: [255; PLACES],
+            photographed: [false; PLACES],
         }
     }
 
-    // Takes all answers away. It reads no book: a sheet at fault becomes fresh.
+    // Takes all answers away, and their photographs. It reads no book: a sheet at fault becomes fresh.
     pub fn clear(self) -> Handed
-        ensures { λ r. ⌜ resultOf r [] ≡ cleared (self .places) ⌝ }
+        ensures { λ r. ⌜ resultOf r [] ≡ cleared (heldBy self) ⌝ }
     {
         Handed {
             answer: Answer::Done,
@@ -151,10 +184,11 @@ impl Sheet {
 
     // Answers a field, replacing an older answer.
     pub fn enter(self, book: &[u8], field: usize, code: usize) -> Handed
-        ensures { λ r. ⌜ resultOf r [] ≡ entered (now (book .entry)) (self .places) field code ⌝ }
+        ensures { λ r. ⌜ resultOf r [] ≡ entered (now (book .entry)) (heldBy self) field code ⌝ }
     {
-        let places = self.places;
-        let opened = opened::open(book, places);
+        let answers = self.answers;
+        let photographed = self.photographed;
+        let opened = opened::open(book, answers, photographed);
         match opened {
             Opened::Turned(reason, place) => refuse(self, reason, place),
             Opened::Ready {
@@ -169,22 +203,23 @@ impl Sheet {
                 if lists::wide(book[list + field]) <= code {
                     return refuse(self, Reason::Code, 0);
                 }
-                let mut next = places;
-                next[field] = code as u8;
-                Handed {
-                    answer: Answer::Done,
-                    sheet: Sheet { places: next },
+                if photographed[field] {
+                    return refuse(self, Reason::Photographed, 0);
                 }
+                let mut next = answers;
+                next[field] = code as u8;
+                hand(next, photographed)
             }
         }
     }
 
     // Takes the answer of a field away.
     pub fn withdraw(self, book: &[u8], field: usize) -> Handed
-        ensures { λ r. ⌜ resultOf r [] ≡ withdrawn (now (book .entry)) (self .places) field ⌝ }
+        ensures { λ r. ⌜ resultOf r [] ≡ withdrawn (now (book .entry)) (heldBy self) field ⌝ }
     {
-        let places = self.places;
-        let opened = opened::open(book, places);
+        let answers = self.answers;
+        let photographed = self.photographed;
+        let opened = opened::open(book, answers, photographed);
         match opened {
             Opened::Turned(reason, place) => refuse(self, reason, place),
             Opened::Ready {
@@ -196,25 +231,54 @@ impl Sheet {
                 if fields <= field {
                     return refuse(self, Reason::Field, 0);
                 }
-                if places[field] == 255 {
+                if answers[field] == 255 {
                     return refuse(self, Reason::NoAnswer, 0);
                 }
-                let mut rest = places;
-                rest[field] = 255;
-                Handed {
-                    answer: Answer::Done,
-                    sheet: Sheet { places: rest },
+                if photographed[field] {
+                    return refuse(self, Reason::Photographed, 0);
                 }
+                let mut rest = answers;
+                rest[field] = 255;
+                hand(rest, photographed)
+            }
+        }
+    }
+
+    // Backs the answer of a field by a photograph. Only clear takes it away again.
+    pub fn photograph(self, book: &[u8], field: usize) -> Handed
+        ensures { λ r. ⌜ resultOf r [] ≡ photographed (now (book .entry)) (heldBy self) field ⌝ }
+    {
+        let answers = self.answers;
+        let photographed = self.photographed;
+        let opened = opened::open(book, answers, photographed);
+        match opened {
+            Opened::Turned(reason, place) => refuse(self, reason, place),
+            Opened::Ready {
+                list: _,
+                fields,
+                tables: _,
+                rows: _,
+            } => {
+                if fields <= field {
+                    return refuse(self, Reason::Field, 0);
+                }
+                if answers[field] == 255 {
+                    return refuse(self, Reason::NoAnswer, 0);
+                }
+                let mut backed = photographed;
+                backed[field] = true;
+                hand(answers, backed)
             }
         }
     }
 
     // Plain filtering: a number for each field, bit c of it for code c. One field may be relaxed; 255 relaxes none.
     pub fn filtered(self, book: &[u8], relaxed: usize, out: &mut [u32]) -> Handed
-        ensures { λ r. ⌜ resultOf r (now (out .exit)) ≡ filtered (now (book .entry)) (self .places) relaxed (now (out .entry)) ⌝ }
+        ensures { λ r. ⌜ resultOf r (now (out .exit)) ≡ filtered (now (book .entry)) (heldBy self) relaxed (now (out .entry)) ⌝ }
     {
-        let places = self.places;
-        let opened = opened::open(book, places);
+        let answers = self.answers;
+        let photographed = self.photographed;
+        let opened = opened::open(book, answers, photographed);
         match opened {
             Opened::Turned(reason, place) => refuse(self, reason, place),
             Opened::Ready {
@@ -224,27 +288,28 @@ impl Sheet {
                 rows,
             } => {
                 if relaxed == 255 {
-                    return masks::write_masks(self, book, list, fields, tables, rows, places, out);
+                    return masks::write_masks(self, book, list, fields, tables, rows, answers, out);
                 }
                 if fields <= relaxed {
                     return refuse(self, Reason::Field, 0);
                 }
-                if places[relaxed] == 255 {
+                if answers[relaxed] == 255 {
                     return refuse(self, Reason::NoAnswer, 0);
                 }
-                let mut answers = places;
-                answers[relaxed] = 255;
-                masks::write_masks(self, book, list, fields, tables, rows, answers, out)
+                let mut rest = answers;
+                rest[relaxed] = 255;
+                masks::write_masks(self, book, list, fields, tables, rows, rest, out)
             }
         }
     }
 
-    // The alternatives of all answered fields in one pass: their number and the number struck, and their lines.
+    // The alternatives of all answered fields without a photograph in one pass: their number and the number struck, and their lines.
     pub fn alternatives(self, book: &[u8], out: &mut [u8]) -> HandedList
-        ensures { λ r. ⌜ listResultOf r (now (out .exit)) ≡ alternatives (now (book .entry)) (self .places) (now (out .entry)) ⌝ }
+        ensures { λ r. ⌜ listResultOf r (now (out .exit)) ≡ alternatives (now (book .entry)) (heldBy self) (now (out .entry)) ⌝ }
     {
-        let places = self.places;
-        let opened = opened::open(book, places);
+        let answers = self.answers;
+        let photographed = self.photographed;
+        let opened = opened::open(book, answers, photographed);
         match opened {
             Opened::Turned(reason, place) => refuse_list(self, reason, place),
             Opened::Ready {
@@ -260,15 +325,16 @@ impl Sheet {
                     fields,
                     tables,
                     rows,
-                    &places,
+                    &answers,
+                    &photographed,
                     &mut marks,
                 );
                 let empty = filter::empty_cases(&marks, fields);
-                let total = lists::count_lines(book, places, &marks, empty, list, fields);
+                let total = lists::count_lines(book, answers, photographed, &marks, empty, list, fields);
                 if out.len() < 2 * total {
                     return refuse_list(self, Reason::Room, 0);
                 }
-                lists::write_lines(book, places, &marks, empty, list, fields, out);
+                lists::write_lines(book, answers, photographed, &marks, empty, list, fields, out);
                 HandedList {
                     answer: Listing::Listed {
                         total: total,
@@ -282,10 +348,11 @@ impl Sheet {
 
     // The row behind a code: the first row of a table that has the code in the field's column and only standing codes beside it, or none.
     pub fn row(self, book: &[u8], field: usize, code: usize, table: usize) -> HandedRow
-        ensures { λ r. ⌜ rowResultOf r ≡ rowBehind (now (book .entry)) (self .places) field code table ⌝ }
+        ensures { λ r. ⌜ rowResultOf r ≡ rowBehind (now (book .entry)) (heldBy self) field code table ⌝ }
     {
-        let places = self.places;
-        let opened = opened::open(book, places);
+        let answers = self.answers;
+        let photographed = self.photographed;
+        let opened = opened::open(book, answers, photographed);
         match opened {
             Opened::Turned(reason, place) => refuse_row(self, reason, place),
             Opened::Ready {
@@ -306,7 +373,7 @@ impl Sheet {
                     list,
                     fields,
                     tables,
-                    &places,
+                    &answers,
                     field,
                     code,
                     table,
@@ -322,10 +389,11 @@ impl Sheet {
 
     // Writes the stored form: the byte of each field.
     pub fn store(self, book: &[u8], out: &mut [u8]) -> Handed
-        ensures { λ r. ⌜ resultOf r (now (out .exit)) ≡ stored (now (book .entry)) (self .places) (now (out .entry)) ⌝ }
+        ensures { λ r. ⌜ resultOf r (now (out .exit)) ≡ stored (now (book .entry)) (heldBy self) (now (out .entry)) ⌝ }
     {
-        let places = self.places;
-        let opened = opened::open(book, places);
+        let answers = self.answers;
+        let photographed = self.photographed;
+        let opened = opened::open(book, answers, photographed);
         match opened {
             Opened::Turned(reason, place) => refuse(self, reason, place),
             Opened::Ready {
@@ -334,10 +402,13 @@ impl Sheet {
                 tables: _,
                 rows: _,
             } => {
+                if any_photographed(photographed) {
+                    return refuse(self, Reason::Photographed, 0);
+                }
                 if out.len() < fields {
                     return refuse(self, Reason::Room, 0);
                 }
-                book::copy(&places[..fields], out);
+                book::copy(&answers[..fields], out);
                 Handed {
                     answer: Answer::Done,
                     sheet: self,
@@ -363,16 +434,14 @@ pub fn load(book: &[u8], form: &[u8]) -> Handed
             if form.len() != fields {
                 return refuse(Sheet::fresh(), Reason::Length, 0);
             }
-            let mut places = [255; PLACES];
-            book::copy(form, &mut places);
-            let fault = opened::first_fault(book, list, fields, places);
+            let mut answers = [255; PLACES];
+            book::copy(form, &mut answers);
+            let photographed = [false; PLACES];
+            let fault = opened::first_fault(book, list, fields, answers, photographed);
             if fault < PLACES {
                 return refuse(Sheet::fresh(), Reason::Fault, fault);
             }
-            Handed {
-                answer: Answer::Done,
-                sheet: Sheet { places: places },
-            }
+            hand(answers, photographed)
         }
     }
 }

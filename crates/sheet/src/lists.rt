@@ -6,20 +6,30 @@ ghost use lib.ListN.{length, drop};
 ghost use lib.Seq.{sets};
 ghost use Rattle.format.specs.Format.{codeLimit, bookOf};
 ghost use Rattle.consistency.specs.Counting.{howMany};
-ghost use Rattle.consistency.specs.Consistency.{places};
+ghost use Rattle.consistency.specs.Consistency.{places, sheetWith};
 ghost use Rattle.consistency.specs.Counts.{total, lines, lineBytes};
-ghost use Rattle.sheet.specs.Lists.{stands, linesBelow, InMarks, Room, Passed};
+ghost use Rattle.sheet.specs.Lists.{doubted, stands, linesBelow, InMarks, Room, Passed};
 use book::CODES;
 use book::PLACES;
 use filter::WORDS;
 
-// The own case of the first answered field, behind the case with nothing relaxed.
+// The own case of the first field in doubt, behind the case with nothing relaxed.
 const FIRST_OWN: u64 = 1;
 
 pub(crate) fn wide(x: u8) -> usize
     ensures { λ r. ⌜ r ≡ x ⌝ }
 {
     x as usize
+}
+
+// Whether an answer may be put in doubt: there is one, and no photograph backs it.
+fn in_doubt(answer: u8, photographed: bool) -> bool
+    ensures { λ r. ⌜ r ≡ doubted answer photographed ⌝ }
+{
+    if answer == 255 {
+        return false;
+    }
+    !photographed
 }
 
 // How many of the codes below n of field f stand in case k.
@@ -56,23 +66,24 @@ fn write_field(marks: &[u64; WORDS], k: u64, f: usize, n: usize, out: &mut [u8],
     next
 }
 
-// The number of alternatives of the answered fields: of those whose own case is not one of the cases `empty`.
+// The number of alternatives of the answered fields without a photograph: of those whose own case is not one of the cases `empty`.
 pub(crate) fn count_lines(
     book: &[u8],
     answers: [u8; PLACES],
+    photographed: [bool; PLACES],
     marks: &[u64; WORDS],
     empty: u64,
     list: usize,
     fields: usize,
 ) -> usize
-    requires { ⌜ Passed (now book) answers (now marks) empty list fields ⌝ }
-    ensures { λ r. ⌜ (r ≡ total (bookOf (now (book .entry))) answers) × (r ≤ places * codeLimit) ⌝ }
+    requires { ⌜ Passed (now book) (sheetWith answers photographed) (now marks) empty list fields ⌝ }
+    ensures { λ r. ⌜ (r ≡ total (bookOf (now (book .entry))) (sheetWith answers photographed)) × (r ≤ places * codeLimit) ⌝ }
 {
     let mut sum = 0;
     let mut k = FIRST_OWN;
     let mut f = 0;
     while f < fields {
-        if answers[f] == 255 {
+        if !in_doubt(answers[f], photographed[f]) {
             f += 1;
         } else if (empty >> k) % 2 == 1 {
             k += 1;
@@ -91,20 +102,21 @@ pub(crate) fn count_lines(
 pub(crate) fn write_lines(
     book: &[u8],
     answers: [u8; PLACES],
+    photographed: [bool; PLACES],
     marks: &[u64; WORDS],
     empty: u64,
     list: usize,
     fields: usize,
     out: &mut [u8],
 )
-    requires { ⌜ Passed (now book) answers (now marks) empty list fields × (2 * total (bookOf (now book)) answers ≤ length (now out)) ⌝ }
-    ensures { λ r. ⌜ now (out .exit) ≡ lineBytes (lines (bookOf (now (book .entry))) answers) ++ drop (2 * total (bookOf (now (book .entry))) answers) (now (out .entry)) ⌝ }
+    requires { ⌜ Passed (now book) (sheetWith answers photographed) (now marks) empty list fields × (2 * total (bookOf (now book)) (sheetWith answers photographed) ≤ length (now out)) ⌝ }
+    ensures { λ r. ⌜ now (out .exit) ≡ lineBytes (lines (bookOf (now (book .entry))) (sheetWith answers photographed)) ++ drop (2 * total (bookOf (now (book .entry))) (sheetWith answers photographed)) (now (out .entry)) ⌝ }
 {
     let mut next = 0;
     let mut k = FIRST_OWN;
     let mut f = 0;
     while f < fields {
-        if answers[f] == 255 {
+        if !in_doubt(answers[f], photographed[f]) {
             f += 1;
         } else if (empty >> k) % 2 == 1 {
             k += 1;

@@ -7,7 +7,7 @@ ghost use Rattle.format.specs.Format.{bookOf};
 ghost use Rattle.book.specs.View.{Viewed};
 ghost use Rattle.consistency.specs.Consistency.{places};
 ghost use Rattle.calls.specs.Calls.{masksInto};
-ghost use Rattle.sheet.specs.Shown.{resultOf};
+ghost use Rattle.sheet.specs.Shown.{heldBy, resultOf};
 use super::Answer;
 use super::Handed;
 use super::Reason;
@@ -39,7 +39,7 @@ pub(crate) fn write_masks(
     out: &mut [u32],
 ) -> Handed
     requires { ⌜ Viewed (now book) list fields tables rows ⌝ }
-    ensures { λ r. ⌜ resultOf r (now (out .exit)) ≡ masksInto (bookOf (now (book .entry))) (sheet .places) answers (now (out .entry)) ⌝ }
+    ensures { λ r. ⌜ resultOf r (now (out .exit)) ≡ masksInto (bookOf (now (book .entry))) (heldBy sheet) answers (now (out .entry)) ⌝ }
 {
     if out.len() < fields {
         return refuse(sheet, Reason::Room, 0);

@@ -1,6 +1,7 @@
 // The refusals with which every call on a sheet and a book begins: 1 to 13 of the book, then 14 of the sheet.
 ghost use mathlib.Core.Path.{_≡_};
 ghost use Rattle.format.specs.Format.{bookOf};
+ghost use Rattle.consistency.specs.Consistency.{sheetWith};
 ghost use Rattle.calls.specs.Calls.{mayHold, faultOf};
 ghost use Rattle.sheet.specs.Opened.{codeCounts, FieldsAt, Opens};
 use super::Reason;
@@ -18,12 +19,12 @@ pub(crate) enum Opened {
     Turned(Reason, usize),
 }
 
-// Whether a place may hold this byte: 255, or a code of its field, which has so many.
-fn may_hold(byte: u8, count: u8) -> bool
-    ensures { λ r. ⌜ r ≡ mayHold byte count ⌝ }
+// Whether a place may hold this byte: 255 without a photograph, or a code of its field, which has so many.
+fn may_hold(byte: u8, photographed: bool, count: u8) -> bool
+    ensures { λ r. ⌜ r ≡ mayHold byte photographed count ⌝ }
 {
     if byte == 255 {
-        return true;
+        return !photographed;
     }
     byte < count
 }
@@ -40,16 +41,22 @@ fn code_counts(book: &[u8], list: usize, fields: usize) -> [u8; PLACES]
     counts
 }
 
-// The first place that holds neither 255 nor a code of its field, or the number of places. The book is not looked at in the loop, so that
-// several places are tested at a time.
-pub(crate) fn first_fault(book: &[u8], list: usize, fields: usize, held: [u8; PLACES]) -> usize
+// The first place that holds neither 255 nor a code of its field, or has a photograph and no answer; or the number of places. The book is
+// not looked at in the loop, so that several places are tested at a time.
+pub(crate) fn first_fault(
+    book: &[u8],
+    list: usize,
+    fields: usize,
+    answers: [u8; PLACES],
+    photographed: [bool; PLACES],
+) -> usize
     requires { ⌜ FieldsAt (now book) list fields ⌝ }
-    ensures { λ r. ⌜ r ≡ faultOf (bookOf (now (book .entry))) held ⌝ }
+    ensures { λ r. ⌜ r ≡ faultOf (bookOf (now (book .entry))) (sheetWith answers photographed) ⌝ }
 {
     let counts = code_counts(book, list, fields);
     let mut p = 0;
     while p < PLACES {
-        if !may_hold(held[p], counts[p]) {
+        if !may_hold(answers[p], photographed[p], counts[p]) {
             return p;
         }
         p += 1;
@@ -58,8 +65,8 @@ pub(crate) fn first_fault(book: &[u8], list: usize, fields: usize, held: [u8; PL
 }
 
 // 1 to 13, then 14.
-pub(crate) fn open(book: &[u8], held: [u8; PLACES]) -> Opened
-    ensures { λ r. ⌜ Opens (now (book .entry)) held r ⌝ }
+pub(crate) fn open(book: &[u8], answers: [u8; PLACES], photographed: [bool; PLACES]) -> Opened
+    ensures { λ r. ⌜ Opens (now (book .entry)) (sheetWith answers photographed) r ⌝ }
 {
     let checked = book::check(book);
     match checked {
@@ -70,7 +77,7 @@ pub(crate) fn open(book: &[u8], held: [u8; PLACES]) -> Opened
             tables,
             rows,
         } => {
-            let fault = first_fault(book, list, fields, held);
+            let fault = first_fault(book, list, fields, answers, photographed);
             if fault < PLACES {
                 return Opened::Turned(Reason::Fault, fault);
             }

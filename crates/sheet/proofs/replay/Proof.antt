@@ -2,6 +2,7 @@
 use mathlib.Core.Path.{ap, _∙_}
 use mathlib.Core.List.{List}
 use Prim.Native.Nat.{ℕ}
+use Rattle.consistency.specs.Consistency.{Sheet}
 use Rattle.calls.specs.Calls.{alternatives}
 use Rattle.calls.specs.Histories.{callsIn}
 use Rattle.sheet.proofs.Replayed.{replayed}
@@ -22,7 +23,7 @@ returns : tie.Need-returns
 returns c =
     let book : List ℕ = c .before .before .before .before .before .before .before .before .args .book .now in
     let o : List ℕ = c .before .before .before .before .before .before .before .before .args .out .now in
-    let e = c .before .before .alternatives .ensures ∙ ap (λ (s : List ℕ). alternatives book s o) (c .before .before .before .before .after .ensures) in
+    let e = c .before .before .alternatives .ensures ∙ ap (λ (s : Sheet). alternatives book s o) (c .before .before .before .before .after .ensures) in
     (e, replayed book (callsIn (c .before .before .before .before .before .before .before .before .args .calls .now)) o _ e)
 
 pub replay-spec : {M : Type 1} → statement M
