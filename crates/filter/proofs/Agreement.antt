@@ -17,9 +17,9 @@ use Rattle.format.specs.Format.{Book, codeLimit, bookOf}
 use Rattle.format.specs.Promise.{Promise}
 use Rattle.format.proofs.Views.{counts-count}
 use Rattle.consistency.specs.Counting.{howMany, those, sumBelow}
-use Rattle.consistency.specs.Consistency.{Subdomain, places, codes, relax}
+use Rattle.consistency.specs.Consistency.{Subdomain, Sheet, places, codes, relax}
 use Rattle.consistency.specs.Largest.{largest}
-use Rattle.consistency.specs.Counts.{bit, outside, answered, relaxable, mask, struck}
+use Rattle.consistency.specs.Counts.{bit, outside, inDoubt, relaxable, mask, struck}
 use Rattle.consistency.proofs.Booleans.{T-true, T-false, below-suc}
 use Rattle.consistency.proofs.Sums.{sum-ext, length-those, length-tabulate, tabulate-at}
 use Rattle.consistency.proofs.CodeCounts.{field-in, outside-ext}
@@ -56,22 +56,23 @@ those-at (suc n) p f l t = last (below-suc l) (λ m. those-at n p f m t)
         )
 
 -- a word has a bit for each own case
-pub own-few : (a : List ℕ) (f : ℕ) → f < places → ownCase a f < 64
-own-few a f l = omega (arith, many-few f (answered a))
+pub own-few : (s : Sheet) (f : ℕ) → f < places → ownCase s f < 64
+own-few s f l = omega (arith, many-few f (inDoubt s))
 
-module _ (b : Book) (a : List ℕ) (f : ℕ) (l : f < length (b .counts)) (t : T (answered a f)) where
-  -- f's place among the answered fields
-  rank : (howMany f (answered a) < length (relaxable b a)) × (getD (relaxable b a) (howMany f (answered a)) 0 ≡ f)
-  rank = those-at (length (b .counts)) (answered a) f l t
+module _ (b : Book) (s : Sheet) (f : ℕ) (l : f < length (b .counts)) (t : T (inDoubt s f)) where
+  -- f's place among the answered fields without a photograph
+  rank : (howMany f (inDoubt s) < length (relaxable b s)) × (getD (relaxable b s) (howMany f (inDoubt s)) 0 ≡ f)
+  rank = those-at (length (b .counts)) (inDoubt s) f l t
 
   -- its own case is one of the cases, with the answers without f's
-  pub case-in : ownCase a f < length (casesOf b a)
-  case-in = omega (arith, rank .0, length-map (relaxable b a) (relax a))
+  pub case-in : ownCase s f < length (casesOf b s)
+  case-in = omega (arith, rank .0, length-map (relaxable b s) (relax (s .answers)))
 
-  pub case-relaxes : getD (casesOf b a) (ownCase a f) [] ≡ relax a f
+  pub case-relaxes : getD (casesOf b s) (ownCase s f) [] ≡ relax (s .answers) f
   case-relaxes =
-      any-default (map (relax a) (relaxable b a)) (howMany f (answered a)) [] (relax a 0) (omega (arith, rank .0, length-map (relaxable b a) (relax a)))
-      ∙ List·getD-map (relax a) (relaxable b a) (howMany f (answered a)) 0 ∙ ap (relax a) (rank .1)
+      any-default (map (relax (s .answers)) (relaxable b s)) (howMany f (inDoubt s)) [] (relax (s .answers) 0)
+      (omega (arith, rank .0, length-map (relaxable b s) (relax (s .answers))))
+      ∙ List·getD-map (relax (s .answers)) (relaxable b s) (howMany f (inDoubt s)) 0 ∙ ap (relax (s .answers)) (rank .1)
 
 -- ---- plain filtering
 
@@ -130,24 +131,25 @@ module _ (s : List ℕ) (p : Promise s) where
     pub marks-agree : (f c : ℕ) → domainOf (marksOf (bookOf s) cs) k f c ≡ plainDomain (bookOf s) (getD cs k []) f c
     marks-agree f c = marks-domain f c ∙ sym (plain-largest (getD cs k []) f c)
 
-  -- with nothing lifted, and with an answered field lifted
-  pub agrees-unrelaxed : (a : List ℕ) (g c : ℕ) → domainOf (marksOf (bookOf s) (casesOf (bookOf s) a)) 0 g c ≡ plainDomain (bookOf s) a g c
-  agrees-unrelaxed a = marks-agree (casesOf (bookOf s) a) 0 (omega arith)
+  -- with nothing lifted, and with an answered field without a photograph lifted
+  pub agrees-unrelaxed : (h : Sheet) (g c : ℕ)
+      → domainOf (marksOf (bookOf s) (casesOf (bookOf s) h)) 0 g c ≡ plainDomain (bookOf s) (h .answers) g c
+  agrees-unrelaxed h = marks-agree (casesOf (bookOf s) h) 0 (omega arith)
 
-  pub agrees-relaxed : (a : List ℕ) (f : ℕ) → f < length (bookOf s .counts) → T (answered a f) → (g c : ℕ)
-      → domainOf (marksOf (bookOf s) (casesOf (bookOf s) a)) (ownCase a f) g c ≡ plainDomain (bookOf s) (relax a f) g c
-  agrees-relaxed a f l t g c =
-      marks-agree (casesOf (bookOf s) a) (ownCase a f) (case-in (bookOf s) a f l t) g c
-      ∙ ap (λ (e : List ℕ). plainDomain (bookOf s) e g c) (case-relaxes (bookOf s) a f l t)
+  pub agrees-relaxed : (h : Sheet) (f : ℕ) → f < length (bookOf s .counts) → T (inDoubt h f) → (g c : ℕ)
+      → domainOf (marksOf (bookOf s) (casesOf (bookOf s) h)) (ownCase h f) g c ≡ plainDomain (bookOf s) (relax (h .answers) f) g c
+  agrees-relaxed h f l t g c =
+      marks-agree (casesOf (bookOf s) h) (ownCase h f) (case-in (bookOf s) h f l t) g c
+      ∙ ap (λ (e : List ℕ). plainDomain (bookOf s) e g c) (case-relaxes (bookOf s) h f l t)
 
   -- the codes outside the n + 1 plain filterings are the number struck
-  pub plain-struck : (a : List ℕ)
-      → sumBelow (length (casesOf (bookOf s) a)) (λ k. outside (bookOf s) (plainDomain (bookOf s) (getD (casesOf (bookOf s) a) k [])))
-      ≡ struck (bookOf s) a
-  plain-struck a =
-      let cs : List (List ℕ) = casesOf (bookOf s) a in
+  pub plain-struck : (h : Sheet)
+      → sumBelow (length (casesOf (bookOf s) h)) (λ k. outside (bookOf s) (plainDomain (bookOf s) (getD (casesOf (bookOf s) h) k [])))
+      ≡ struck (bookOf s) h
+  plain-struck h =
+      let cs : List (List ℕ) = casesOf (bookOf s) h in
       sum-ext (length cs) (λ k. outside (bookOf s) (plainDomain (bookOf s) (getD cs k []))) (λ k. outside (bookOf s) (domainOf (marksOf (bookOf s) cs) k))
       (λ k l.
       outside-ext (bookOf s) (plainDomain (bookOf s) (getD cs k [])) (domainOf (marksOf (bookOf s) cs) k)
       (λ f c m. sym (marks-agree cs k l f c)))
-      ∙ outside-cases (bookOf s) (marksOf (bookOf s) cs) cs (λ k f c l. marks-domain cs k l f c) ∙ outside-struck (bookOf s) a
+      ∙ outside-cases (bookOf s) (marksOf (bookOf s) cs) cs (λ k f c l. marks-domain cs k l f c) ∙ outside-struck (bookOf s) h

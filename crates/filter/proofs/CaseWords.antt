@@ -1,7 +1,7 @@
--- The words of the cases: one case with nothing relaxed, then one more for each answered field. Assumes nothing.
-use mathlib.Core.Path.{_≡_, refl, sym, ap, _∙_, subst, subst₂}
+-- The words of the cases: one case with nothing relaxed, then one more for each answered field without a photograph. Assumes nothing.
+use mathlib.Core.Path.{_≡_, refl, sym, ap, ap₂, _∙_, subst, subst₂}
 use mathlib.Core.Logic.{_⊎_, inl, inr}
-use mathlib.Core.Bool.{Bool, true, false, not}
+use mathlib.Core.Bool.{Bool, true, false, not, _&&_, and-false}
 use mathlib.Core.List.{List, [], _∷_, _++_, map, map-append, append-nil}
 use Prim.Native.Nat.{ℕ, zero, suc, _+_, _^_, _≤_, _<_}
 use native.Mathlib.Nat.{pow-suc}
@@ -15,8 +15,8 @@ use lib.Pow.{pow-pos, pow-mono}
 use lib.Dec.{T, eqb, ltb, eqb→eq}
 use Rattle.format.specs.Basics.{pick}
 use Rattle.consistency.specs.Counting.{those}
-use Rattle.consistency.specs.Consistency.{places, answer, relax}
-use Rattle.consistency.specs.Counts.{bit, answered}
+use Rattle.consistency.specs.Consistency.{Sheet, places, answer, backed, relax}
+use Rattle.consistency.specs.Counts.{bit, answered, inDoubt}
 use Rattle.consistency.proofs.Booleans.{true-T, false-T, T-false, below-suc}
 use Rattle.consistency.proofs.Masks.{zero-bit}
 use Rattle.filter.specs.Start.{CasesAre, casesBelow}
@@ -127,70 +127,79 @@ module _ (a own : List ℕ) (all : ℕ) (cs : List (List ℕ)) (f : ℕ) (x : Ca
         answers = λ k g l m. answers′ k g m (below-suc (let h : k < suc (length cs) = omega (arith, length′) in h));
       }
 
--- ---- the answered fields, one after another
+-- ---- the fields, one after another
 
 -- the fields below f have their cases, the others none
-pub record CasesBelow (a own : List ℕ) (all f : ℕ) : Type 0 where
-  pub sheet : length a ≡ places
+pub record CasesBelow (s : Sheet) (own : List ℕ) (all f : ℕ) : Type 0 where
+  pub sheet : length (s .answers) ≡ places
   pub size : length own ≡ places
   pub later : (g : ℕ) → f ≤ g → getD own g 0 ≡ 0
-  pub few : length (casesBelow f a) ≤ f + 1
-  pub are : CasesAre a own all (casesBelow f a)
+  pub few : length (casesBelow f s) ≤ f + 1
+  pub are : CasesAre (s .answers) own all (casesBelow f s)
 
 -- no field yet
-pub cases-none : (a own : List ℕ) → length a ≡ places → length own ≡ places → ((f : ℕ) → getD own f 0 ≡ 0) → CasesBelow a own 1 0
-cases-none a own l m z = record { sheet = l; size = m; later = λ g h. z g; few = omega arith; are = one-case a own z }
+pub cases-none : (s : Sheet) (own : List ℕ) → length (s .answers) ≡ places → length own ≡ places → ((f : ℕ) → getD own f 0 ≡ 0)
+    → CasesBelow s own 1 0
+cases-none s own l m z = record { sheet = l; size = m; later = λ g h. z g; few = omega arith; are = one-case (s .answers) own z }
 
 -- by other names
-pub cases-same : {a own own′ : List ℕ} {all all′ f : ℕ} → own′ ≡ own → all′ ≡ all → CasesBelow a own all f → CasesBelow a own′ all′ f
-cases-same {a} {f = f} e d x = subst₂ (λ (o : List ℕ) (n : ℕ). CasesBelow a o n f) (sym e) (sym d) x
+pub cases-same : {s : Sheet} {own own′ : List ℕ} {all all′ f : ℕ} → own′ ≡ own → all′ ≡ all → CasesBelow s own all f → CasesBelow s own′ all′ f
+cases-same {s} {f = f} e d x = subst₂ (λ (o : List ℕ) (n : ℕ). CasesBelow s o n f) (sym e) (sym d) x
 
-module _ (a own : List ℕ) (all f : ℕ) (x : CasesBelow a own all f) (l : f < places) where
+module _ (s : Sheet) (own : List ℕ) (all f : ℕ) (x : CasesBelow s own all f) (l : f < places) where
   -- the cases' words have room for one more
   pub own-fits : all + (all + 1) < 2 ^ 64
   own-fits =
-      let p : 2 ^ length (casesBelow f a) ≤ 2 ^ (places + 1) = pow-mono (let q : length (casesBelow f a) ≤ places + 1 = omega (arith, x .few) in q) in
+      let p : 2 ^ length (casesBelow f s) ≤ 2 ^ (places + 1) = pow-mono (let q : length (casesBelow f s) ≤ places + 1 = omega (arith, x .few) in q) in
       omega (arith, x .are .all-is)
 
   -- the cases of one field more
-  next-cases : (t : Bool) → answered a f ≡ t → casesBelow (f + 1) a ≡ casesBelow f a ++ map (relax a) (pick t (f ∷ []) [])
+  next-cases : (t : Bool) → inDoubt s f ≡ t → casesBelow (f + 1) s ≡ casesBelow f s ++ map (relax (s .answers)) (pick t (f ∷ []) [])
   next-cases t e =
-      ap (λ (z : ℕ). casesBelow z a) (add-one f)
-      ∙ ap (λ (t : Bool). a ∷ map (relax a) (those f (answered a) ++ pick t (f ∷ []) [])) e
-      ∙ ap (λ (z : List (List ℕ)). a ∷ z) (map-append (relax a) (those f (answered a)) (pick t (f ∷ []) []))
+      ap (λ (z : ℕ). casesBelow z s) (add-one f)
+      ∙ ap (λ (t : Bool). s .answers ∷ map (relax (s .answers)) (those f (inDoubt s) ++ pick t (f ∷ []) [])) e
+      ∙ ap (λ (z : List (List ℕ)). s .answers ∷ z) (map-append (relax (s .answers)) (those f (inDoubt s)) (pick t (f ∷ []) []))
 
   -- whether f has an answer, as its byte says
-  answered-is : (e : getD a f 0 ≡ 255 → ⊥) → answered a f ≡ true
-  answered-is e = ap not (ne-eqb (answer a f) 255 (λ z. e (answer-at a f (omega (arith, x .sheet)) ∙ z)))
+  answered-is : (getD (s .answers) f 0 ≡ 255 → ⊥) → answered (s .answers) f ≡ true
+  answered-is e = ap not (ne-eqb (answer (s .answers) f) 255 (λ z. e (answer-at (s .answers) f (omega (arith, x .sheet)) ∙ z)))
 
-  open-is : getD a f 0 ≡ 255 → answered a f ≡ false
-  open-is e = ap not (eq-eqb (answer a f) 255 (sym (answer-at a f (omega (arith, x .sheet))) ∙ e))
+  open-is : getD (s .answers) f 0 ≡ 255 → answered (s .answers) f ≡ false
+  open-is e = ap not (eq-eqb (answer (s .answers) f) 255 (sym (answer-at (s .answers) f (omega (arith, x .sheet))) ∙ e))
 
-  -- a field with an answer has a case, a field without one has none
-  pub cases-answered : (getD a f 0 ≡ 255 → ⊥) → CasesBelow a (set own f (all + 1)) (all + (all + 1)) (f + 1)
-  cases-answered e =
-      let n : casesBelow (f + 1) a ≡ casesBelow f a ++ (relax a f ∷ []) = next-cases true (answered-is e) in
+  -- a field with an answer and no photograph has a case
+  pub cases-doubted : (getD (s .answers) f 0 ≡ 255 → ⊥) → not (backed s f) ≡ true → CasesBelow s (set own f (all + 1)) (all + (all + 1)) (f + 1)
+  cases-doubted e u =
+      let n : casesBelow (f + 1) s ≡ casesBelow f s ++ (relax (s .answers) f ∷ []) = next-cases true (ap₂ _&&_ (answered-is e) u) in
       record {
         sheet = x .sheet;
         size = length-set own f (all + 1) ∙ x .size;
         later = λ g h. getD-set-other own f g (all + 1) 0 (λ (z : g ≡ f). omega arith) ∙ x .later g (omega arith);
-        few = omega (arith, ap length n, length-append (casesBelow f a) (relax a f ∷ []), x .few);
+        few = omega (arith, ap length n, length-append (casesBelow f s) (relax (s .answers) f ∷ []), x .few);
         are =
-            subst (λ (z : List (List ℕ)). CasesAre a (set own f (all + 1)) (all + (all + 1)) z) (sym n)
-            (one-more a own all (casesBelow f a) f (x .are) (omega (arith, x .sheet)) (omega (arith, x .size)) (x .later f (omega arith)) (omega (arith, x .few)));
+            subst (λ (z : List (List ℕ)). CasesAre (s .answers) (set own f (all + 1)) (all + (all + 1)) z) (sym n)
+            (one-more (s .answers) own all (casesBelow f s) f (x .are) (omega (arith, x .sheet)) (omega (arith, x .size)) (x .later f (omega arith)) (omega (arith, x .few)));
       }
 
-  pub cases-open : getD a f 0 ≡ 255 → CasesBelow a own all (f + 1)
-  cases-open e =
-      let n : casesBelow (f + 1) a ≡ casesBelow f a = next-cases false (open-is e) ∙ append-nil (casesBelow f a) in
+  -- a field without an answer, or with a photograph, has none
+  cases-still : inDoubt s f ≡ false → CasesBelow s own all (f + 1)
+  cases-still e =
+      let n : casesBelow (f + 1) s ≡ casesBelow f s = next-cases false e ∙ append-nil (casesBelow f s) in
       record {
         sheet = x .sheet;
         size = x .size;
         later = λ g h. x .later g (omega arith);
         few = omega (arith, ap length n, x .few);
-        are = subst (λ (z : List (List ℕ)). CasesAre a own all z) (sym n) (x .are);
+        are = subst (λ (z : List (List ℕ)). CasesAre (s .answers) own all z) (sym n) (x .are);
       }
 
+  pub cases-open : getD (s .answers) f 0 ≡ 255 → CasesBelow s own all (f + 1)
+  cases-open e = cases-still (ap (_&& not (backed s f)) (open-is e))
+
+  pub cases-backed : not (backed s f) ≡ false → CasesBelow s own all (f + 1)
+  cases-backed u = cases-still (ap (answered (s .answers) f &&_) u ∙ and-false (answered (s .answers) f))
+
 -- all fields
-pub cases-done : (a own : List ℕ) (all f fields : ℕ) → CasesBelow a own all f → f ≡ fields → CasesAre a own all (casesBelow fields a)
-cases-done a own all f fields x e = subst (λ (n : ℕ). CasesAre a own all (casesBelow n a)) e (x .are)
+pub cases-done : (s : Sheet) (own : List ℕ) (all f fields : ℕ) → CasesBelow s own all f → f ≡ fields
+    → CasesAre (s .answers) own all (casesBelow fields s)
+cases-done s own all f fields x e = subst (λ (n : ℕ). CasesAre (s .answers) own all (casesBelow n s)) e (x .are)

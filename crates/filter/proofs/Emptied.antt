@@ -14,10 +14,10 @@ use Rattle.format.specs.Format.{codeLimit, fieldCount, bookOf}
 use Rattle.format.specs.Promise.{Promise}
 use Rattle.format.proofs.Views.{counts-count}
 use Rattle.consistency.specs.Counting.{allBelow, anyBelow}
-use Rattle.consistency.specs.Consistency.{Subdomain, places, codes, relax}
+use Rattle.consistency.specs.Consistency.{Subdomain, Sheet, places, codes, relax}
 use Rattle.consistency.specs.Largest.{largest}
 use Rattle.consistency.specs.Emptiness.{someEmpty}
-use Rattle.consistency.specs.Counts.{bit, answered, mask}
+use Rattle.consistency.specs.Counts.{bit, inDoubt, mask}
 use Rattle.consistency.proofs.Booleans.{T-ext, and-left, any-in, any-out, any-not, any-ext}
 use Rattle.consistency.proofs.Masks.{mask-bit, zero-bit}
 use Rattle.consistency.proofs.Largest.{largest-is}
@@ -123,11 +123,11 @@ module _ (s : List ℕ) (p : Promise s) where
           ∙ any-ext codeLimit (domainOf M k f) (S f) (λ c h. marks-domain s p cs k l f c)
           ∙ any-below codeLimit (codes (bookOf s) f) (S f) (codes-few s p f) (λ c t. largest-is (bookOf s) (getD cs k []) .fits .of-book f c t)
 
-  -- in the own case of an answered field: with it lifted
-  pub relaxed-empty : (a : List ℕ) (f : ℕ) → f < fieldCount s → T (answered a f)
-      → bit (emptyCases (marksOf (bookOf s) (casesOf (bookOf s) a)) (fieldCount s)) (ownCase a f)
-      ≡ someEmpty (bookOf s) (largest (bookOf s) (relax a f))
-  relaxed-empty a f l t =
+  -- in the own case of an answered field without a photograph: with it lifted
+  pub relaxed-empty : (h : Sheet) (f : ℕ) → f < fieldCount s → T (inDoubt h f)
+      → bit (emptyCases (marksOf (bookOf s) (casesOf (bookOf s) h)) (fieldCount s)) (ownCase h f)
+      ≡ someEmpty (bookOf s) (largest (bookOf s) (relax (h .answers) f))
+  relaxed-empty h f l t =
       let known : f < length (bookOf s .counts) = omega (arith, counts-count s (p .whole)) in
-      case-empty (casesOf (bookOf s) a) (ownCase a f) (own-few a f (omega (arith, fields-few s p))) (case-in (bookOf s) a f known t)
-      ∙ ap (λ (e : List ℕ). someEmpty (bookOf s) (largest (bookOf s) e)) (case-relaxes (bookOf s) a f known t)
+      case-empty (casesOf (bookOf s) h) (ownCase h f) (own-few h f (omega (arith, fields-few s p))) (case-in (bookOf s) h f known t)
+      ∙ ap (λ (e : List ℕ). someEmpty (bookOf s) (largest (bookOf s) e)) (case-relaxes (bookOf s) h f known t)

@@ -16,7 +16,7 @@ use lib.Dec.{ltb}
 use Rattle.format.specs.Format.{Book, codeLimit, bookOf}
 use Rattle.format.specs.Promise.{Promise}
 use Rattle.consistency.specs.Counting.{sumOver}
-use Rattle.consistency.specs.Consistency.{places, relax}
+use Rattle.consistency.specs.Consistency.{Sheet, places, relax}
 use Rattle.consistency.specs.Largest.{largest}
 use Rattle.consistency.specs.Counts.{bit, outside, relaxable, struck}
 use Rattle.consistency.proofs.Booleans.{T-false}
@@ -103,6 +103,6 @@ outside-relaxed b a [] = refl
 outside-relaxed b a (f ∷ fs) = ap (outside b (largest b (relax a f)) +_) (outside-relaxed b a fs)
 
 -- the codes outside over "n+1 cases" are the number struck
-pub outside-struck : (b : Book) (a : List ℕ) → outsideOver b (casesOf b a) ≡ struck b a
+pub outside-struck : (b : Book) (s : Sheet) → outsideOver b (casesOf b s) ≡ struck b s
 unfolding struck
-outside-struck b a = ap (outside b (largest b a) +_) (outside-relaxed b a (relaxable b a))
+outside-struck b s = ap (outside b (largest b (s .answers)) +_) (outside-relaxed b (s .answers) (relaxable b s))

@@ -15,7 +15,7 @@ use Rattle.format.specs.Format.{codeLimit, tableLimit, tableCount, bookOf}
 use Rattle.format.proofs.Views.{counts-count}
 use Rattle.book.specs.View.{Numbered}
 use Rattle.consistency.specs.Counting.{sumBelow, tabulate}
-use Rattle.consistency.specs.Consistency.{places, codes}
+use Rattle.consistency.specs.Consistency.{Sheet, places, codes}
 use Rattle.consistency.specs.Largest.{largest}
 use Rattle.consistency.specs.Counts.{bit, mask, struck}
 use Rattle.consistency.proofs.Largest.{largest-is}
@@ -92,16 +92,16 @@ module _ (s : List ℕ) (list fields tables : ℕ) (a own : List ℕ) (all : ℕ
 
 -- ---- the one pass
 
-module _ (s : List ℕ) (list fields tables : ℕ) (a own : List ℕ) (all : ℕ) (h : Numbered s list fields tables)
-    (x : CasesAre a own all (casesBelow fields a)) where
-  pub all-cases-given : RunGiven s list fields tables a own all
+module _ (s : List ℕ) (list fields tables : ℕ) (a : Sheet) (own : List ℕ) (all : ℕ) (h : Numbered s list fields tables)
+    (x : CasesAre (a .answers) own all (casesBelow fields a)) where
+  pub all-cases-given : RunGiven s list fields tables (a .answers) own all
   all-cases-given = record { numbers = h; cases = casesBelow fields a; are = x }
 
   -- the book's number of fields is the trailer's
-  are-cases : CasesAre a own all (casesOf (bookOf s) a)
-  are-cases = subst (λ (n : ℕ). CasesAre a own all (casesBelow n a)) (h .fields-is ∙ sym (counts-count s (h .promise .whole))) x
+  are-cases : CasesAre (a .answers) own all (casesOf (bookOf s) a)
+  are-cases = subst (λ (n : ℕ). CasesAre (a .answers) own all (casesBelow n a)) (h .fields-is ∙ sym (counts-count s (h .promise .whole))) x
 
-  pub all-cases-done : (N : List ℕ) (r : ℕ) → Ran (bookOf s) a own all N r
+  pub all-cases-done : (N : List ℕ) (r : ℕ) → Ran (bookOf s) (a .answers) own all N r
       → (N ≡ marksOf (bookOf s) (casesOf (bookOf s) a)) × (r ≡ struck (bookOf s) a)
   all-cases-done N r y = (
     y .marks (casesOf (bookOf s) a) are-cases,

@@ -1,20 +1,22 @@
--- Document 01, "The sheet and its one pass": the cases of a pass, and what the marks and the count say at its end. Assumes nothing.
+-- Document 01, "The sheet and its one pass", with document 02's M-105: the cases of a pass, and what the marks and the count say at its end.
+-- Assumes nothing.
 use Prim.Native.Nat.{ℕ, suc, _+_, _*_, _/_, _%_}
 use mathlib.Core.List.{List, [], _∷_, map}
 use lib.ListN.{length, getD}
 use Rattle.format.specs.Format.{Book, codeLimit}
 use Rattle.consistency.specs.Counting.{howMany, tabulate}
-use Rattle.consistency.specs.Consistency.{places, relax}
+use Rattle.consistency.specs.Consistency.{Sheet, places, relax}
 use Rattle.consistency.specs.Largest.{largest}
-use Rattle.consistency.specs.Counts.{outside, answered, relaxable, mask}
+use Rattle.consistency.specs.Counts.{outside, inDoubt, relaxable, mask}
 
--- "n+1 cases .. nothing lifted, then each answered field lifted by itself", as the answers of each case
-abbrev pub casesOf : Book → List ℕ → List (List ℕ)
-casesOf b a = a ∷ map (relax a) (relaxable b a)
+-- "n+1 cases .. nothing lifted, then each answered field lifted by itself", as the answers of each case. Each answered field without a
+-- photograph: with one it "gets no case of its own in the one pass" (02, M-105)
+abbrev pub casesOf : Book → Sheet → List (List ℕ)
+casesOf b s = s .answers ∷ map (relax (s .answers)) (relaxable b s)
 
--- the case in which the answered field f is lifted: one for each answered field in turn, behind the case with nothing lifted
-abbrev pub ownCase : List ℕ → ℕ → ℕ
-ownCase a f = suc (howMany f (answered a))
+-- the case in which f, answered without a photograph, is lifted: one for each such field in turn, behind the case with nothing lifted
+abbrev pub ownCase : Sheet → ℕ → ℕ
+ownCase s f = suc (howMany f (inDoubt s))
 
 -- the word of field f and code c: bit k says whether c is in f's part of the largest subdomain of case k
 abbrev pub caseWord : Book → List (List ℕ) → ℕ → ℕ → ℕ

@@ -11,8 +11,8 @@ use Rattle.format.specs.Format.{Book, codeLimit, fieldCount, listPlace}
 use Rattle.format.specs.Promise.{Promise}
 use Rattle.book.specs.View.{Numbered}
 use Rattle.consistency.specs.Counting.{howMany, those, sumBelow}
-use Rattle.consistency.specs.Consistency.{places, codes, answer, relax}
-use Rattle.consistency.specs.Counts.{bit, answered}
+use Rattle.consistency.specs.Consistency.{Sheet, places, codes, answer, relax}
+use Rattle.consistency.specs.Counts.{bit, inDoubt}
 use Rattle.filter.specs.Words.{wordAt, standing}
 use Rattle.filter.specs.Cases.{marksOf, outsideOver}
 
@@ -26,9 +26,9 @@ pub record CasesAre (a own : List ℕ) (all : ℕ) (cs : List (List ℕ)) : Type
   pub within : (f k : ℕ) → T (bit (getD own f 0) k) → k < length cs
   pub answers : (k f : ℕ) → k < length cs → f < places → answer (getD cs k []) f ≡ pick (bit (getD own f 0) k) 255 (answer a f)
 
--- nothing relaxed, then each answered field below n by itself: with n the book's number of fields these are `casesOf`
-abbrev pub casesBelow : ℕ → List ℕ → List (List ℕ)
-casesBelow n a = a ∷ map (relax a) (those n (answered a))
+-- nothing relaxed, then each answered field below n without a photograph by itself: with n the book's number of fields these are `casesOf`
+abbrev pub casesBelow : ℕ → Sheet → List (List ℕ)
+casesBelow n s = s .answers ∷ map (relax (s .answers)) (those n (inDoubt s))
 
 -- ---- the start
 

@@ -3,6 +3,7 @@
 ghost use mathlib.Core.Path.{_≡_};
 ghost use Rattle.format.specs.Format.{bookOf};
 ghost use Rattle.book.specs.View.{Viewed};
+ghost use Rattle.consistency.specs.Consistency.{sheetWith};
 ghost use Rattle.consistency.specs.Counts.{struck};
 ghost use Rattle.filter.specs.Cases.{casesOf, marksOf, plainOf};
 ghost use Rattle.filter.specs.Summaries.{emptyCases};
@@ -36,10 +37,15 @@ pub enum Supporting {
 }
 
 // The one pass over a view of an accepted book: the marks of all cases, and the number struck.
-fn one_pass_over<'a>(book: Book<'a>, answers: &[u8; PLACES], marks: &mut [u64; WORDS]) -> u32
+fn one_pass_over<'a>(
+    book: Book<'a>,
+    answers: &[u8; PLACES],
+    photographed: &[bool; PLACES],
+    marks: &mut [u64; WORDS],
+) -> u32
     requires { ⌜ Viewed (now (book .bytes)) (book .list) (book .fields) (book .tables) (book .rows) ⌝ }
-    ensures marks { λ r. ⌜ now (marks .exit) ≡ marksOf (bookOf (now (book .entry .bytes))) (casesOf (bookOf (now (book .entry .bytes))) (now (answers .entry))) ⌝ }
-    ensures count { λ r. ⌜ r ≡ struck (bookOf (now (book .entry .bytes))) (now (answers .entry)) ⌝ }
+    ensures marks { λ r. ⌜ now (marks .exit) ≡ marksOf (bookOf (now (book .entry .bytes))) (casesOf (bookOf (now (book .entry .bytes))) (sheetWith (now (answers .entry)) (now (photographed .entry)))) ⌝ }
+    ensures count { λ r. ⌜ r ≡ struck (bookOf (now (book .entry .bytes))) (sheetWith (now (answers .entry)) (now (photographed .entry))) ⌝ }
 {
     pass::all_cases(
         book.bytes,
@@ -47,6 +53,7 @@ fn one_pass_over<'a>(book: Book<'a>, answers: &[u8; PLACES], marks: &mut [u64; W
         book.fields,
         book.tables,
         answers,
+        photographed,
         marks,
     )
 }
@@ -67,15 +74,17 @@ pub fn one_pass(
     tables: usize,
     rows: usize,
     answers: &[u8; PLACES],
+    photographed: &[bool; PLACES],
     marks: &mut [u64; WORDS],
 ) -> u32
     requires { ⌜ Viewed (now bytes) list fields tables rows ⌝ }
-    ensures marks { λ r. ⌜ now (marks .exit) ≡ marksOf (bookOf (now (bytes .entry))) (casesOf (bookOf (now (bytes .entry))) (now (answers .entry))) ⌝ }
-    ensures count { λ r. ⌜ r ≡ struck (bookOf (now (bytes .entry))) (now (answers .entry)) ⌝ }
+    ensures marks { λ r. ⌜ now (marks .exit) ≡ marksOf (bookOf (now (bytes .entry))) (casesOf (bookOf (now (bytes .entry))) (sheetWith (now (answers .entry)) (now (photographed .entry)))) ⌝ }
+    ensures count { λ r. ⌜ r ≡ struck (bookOf (now (bytes .entry))) (sheetWith (now (answers .entry)) (now (photographed .entry))) ⌝ }
 {
     one_pass_over(
         book::view(bytes, list, fields, tables, rows),
         answers,
+        photographed,
         marks,
     )
 }

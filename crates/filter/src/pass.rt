@@ -3,6 +3,7 @@ ghost use mathlib.Core.Path.{_≡_};
 ghost use mathlib.Core.List.{[], _∷_};
 ghost use Rattle.format.specs.Format.{bookOf};
 ghost use Rattle.book.specs.View.{Numbered};
+ghost use Rattle.consistency.specs.Consistency.{sheetWith};
 ghost use Rattle.consistency.specs.Counts.{struck};
 ghost use Rattle.filter.specs.Words.{noMarks};
 ghost use Rattle.filter.specs.Cases.{casesOf, marksOf, plainOf};
@@ -41,21 +42,23 @@ fn run(
     propagate(bytes, marks, &watch, &places, list, begun, queue)
 }
 
-// The one pass: "nothing lifted, then each answered field lifted by itself". The marks of all cases, and the number struck.
+// The one pass: "nothing lifted, then each answered field lifted by itself", those with a photograph left out. The marks of all cases, and
+// the number struck.
 pub(crate) fn all_cases(
     bytes: &[u8],
     list: usize,
     fields: usize,
     tables: usize,
     answers: &[u8; PLACES],
+    photographed: &[bool; PLACES],
     marks: &mut [u64; WORDS],
 ) -> u32
     requires { ⌜ Numbered (now bytes) list fields tables ⌝ }
-    ensures marks { λ r. ⌜ now (marks .exit) ≡ marksOf (bookOf (now (bytes .entry))) (casesOf (bookOf (now (bytes .entry))) (now (answers .entry))) ⌝ }
-    ensures count { λ r. ⌜ r ≡ struck (bookOf (now (bytes .entry))) (now (answers .entry)) ⌝ }
+    ensures marks { λ r. ⌜ now (marks .exit) ≡ marksOf (bookOf (now (bytes .entry))) (casesOf (bookOf (now (bytes .entry))) (sheetWith (now (answers .entry)) (now (photographed .entry)))) ⌝ }
+    ensures count { λ r. ⌜ r ≡ struck (bookOf (now (bytes .entry))) (sheetWith (now (answers .entry)) (now (photographed .entry))) ⌝ }
 {
     clear(marks);
-    let cases = own_cases(*answers, fields);
+    let cases = own_cases(*answers, *photographed, fields);
     let own = cases.words;
     run(bytes, list, fields, tables, answers, &own, cases.all, marks)
 }

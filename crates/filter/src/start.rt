@@ -2,7 +2,7 @@
 ghost use mathlib.Core.Path.{_≡_};
 ghost use Prim.Native.Nat.{_≤_};
 ghost use Rattle.format.specs.Format.{bookOf};
-ghost use Rattle.consistency.specs.Consistency.{places};
+ghost use Rattle.consistency.specs.Consistency.{places, sheetWith};
 ghost use Rattle.filter.specs.Words.{noMarks};
 ghost use Rattle.filter.specs.Start.{CasesAre, casesBelow, startWord, StartsField, FieldStarted, Starts, Started};
 use super::WORDS;
@@ -16,16 +16,20 @@ pub(crate) struct OwnCases {
     pub(crate) all: u64,
 }
 
-// Nothing relaxed, then each answered field by itself, in their order.
-pub(crate) fn own_cases(answers: [u8; PLACES], fields: usize) -> OwnCases
+// Nothing relaxed, then each answered field without a photograph by itself, in their order.
+pub(crate) fn own_cases(
+    answers: [u8; PLACES],
+    photographed: [bool; PLACES],
+    fields: usize,
+) -> OwnCases
     requires { ⌜ fields ≤ places ⌝ }
-    ensures { λ r. ⌜ CasesAre answers (r .words) (r .all) (casesBelow fields answers) ⌝ }
+    ensures { λ r. ⌜ CasesAre answers (r .words) (r .all) (casesBelow fields (sheetWith answers photographed)) ⌝ }
 {
     let mut words = [0u64; PLACES];
     let mut all: u64 = 1;
     let mut f = 0;
     while f < fields {
-        if answers[f] != 255 {
+        if answers[f] != 255 && !photographed[f] {
             let own = all + 1;
             words[f] = own;
             all = all + own;
