@@ -1,12 +1,13 @@
 -- Each way through the calls on a sheet: the tests passed so far and the one that fails give the refusal, all passed give the result. A law's name has the refusal's number. Assumes nothing.
 use mathlib.Core.Path.{_≡_, sym, ap, _∙_}
-use mathlib.Core.Bool.{true, false}
+use mathlib.Core.Bool.{Bool, true, false}
 use mathlib.Core.List.{List, [], _++_}
 use Prim.Native.Nat.{ℕ, _+_, _≤_, _<_}
 use native.Mathlib.Omega.{arith}
 use lib.ListN.{length, getD, take, drop}
 use lib.Seq.{length-take-le}
 use borrow.Author.Tests.{lt-ltb, le-ltb, eq-eqb, ne-eqb}
+use Rattle.format.specs.Basics.{pick}
 use Rattle.format.specs.Format.{byte}
 use Rattle.format.specs.Reading.{fail}
 use Rattle.format.proofs.Copying.{copied-whole}
@@ -115,15 +116,18 @@ module _ (bytes : List ℕ) (s : Sheet) (f : ℕ) where
       photographed-17 = answered-17 bytes s f _ list fields o long h
 
       module _ (k : getD (s .answers) f 0 ≡ 255 → ⊥) where
-        -- the field is photographed
-        pub withdrawn-22 : backed s f ≡ true → turned 0 s [] 22 0 ≡ withdrawn bytes s f
+        -- by whether the field is photographed
+        withdrawn-go : {t : Bool} → backed s f ≡ t → pick t (turned 0 s [] 22 0) (done [] (setAnswer s f 255) []) ≡ withdrawn bytes s f
         unfolding withdrawn
-        withdrawn-22 p = rw p at (answered-go bytes s f _ list fields o long h k)
+        withdrawn-go p = rw (← p) (answered-go bytes s f (pick (backed s f) (turned 0 s [] 22 0) (done [] (setAnswer s f 255) [])) list fields o long h k)
 
-        -- the field has no answer any more
+        -- it is
+        pub withdrawn-22 : backed s f ≡ true → turned 0 s [] 22 0 ≡ withdrawn bytes s f
+        withdrawn-22 = withdrawn-go
+
+        -- it is not, and has no answer any more
         pub withdrawn-done : backed s f ≡ false → done [] (setAnswer s f 255) [] ≡ withdrawn bytes s f
-        unfolding withdrawn
-        withdrawn-done p = rw p at (answered-go bytes s f _ list fields o long h k)
+        withdrawn-done = withdrawn-go
 
         -- its answer has a photograph
         pub photographed-done : done [] (setPhotograph s f) [] ≡ photographed bytes s f

@@ -25,7 +25,7 @@ use Rattle.sheet.specs.Lists.{doubted, stands, linesBelow, InMarks, Room
 use Rattle.sheet.proofs.Openings.{fields-end, fields-few, fields-count, codes-at}
 use Rattle.consistency.proofs.Elements.{answer-at}
 use Rattle.sheet.proofs.Upward.{many-more, many-same}
-use Rattle.sheet.proofs.Fields.{alternativesOf, fieldLines, totalBelow, bytesBelow, lifted, total-is, lines-are-below, length-bytes, SameBelow, total-more, bytes-more, open-same, unmended-same, total-rises}
+use Rattle.sheet.proofs.Fields.{alternativesOf, fieldLines, totalBelow, bytesBelow, lifted, total-is, lines-are-below, length-bytes, SameBelow, total-more, bytes-more, other-same, unmended-same, total-rises}
 
 module _ {bytes : List ℕ} {s : Sheet} {M : List ℕ} {empty list fields : ℕ} (x : Passed bytes s M empty list fields) where
   -- an accepted book has few alternatives
@@ -70,8 +70,8 @@ module _ {bytes : List ℕ} {s : Sheet} {M : List ℕ} {empty list fields : ℕ}
     case-few d = omega (arith, own-few s f (omega (arith, fields-few bytes list fields (x .at))))
 
     -- another field adds no line
-    pub open-lineless : inDoubt s f ≡ false → SameBelow (bookOf bytes) s f
-    open-lineless = open-same (bookOf bytes) s f
+    pub other-lineless : inDoubt s f ≡ false → SameBelow (bookOf bytes) s f
+    other-lineless = other-same (bookOf bytes) s f
 
     module _ {k : ℕ} (case-is : k ≡ ownCase s f) (e : inDoubt s f ≡ true) where
       -- whether that leaves no field empty stands in the word

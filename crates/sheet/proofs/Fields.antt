@@ -74,8 +74,8 @@ module _ (b : Book) (s : Sheet) where
         ∙ line-bytes-append (joinOver (those f (inDoubt s)) fieldLines) (fieldLines f)
 
     -- one field more adds nothing where it is no such field
-    pub open-same : inDoubt s f ≡ false → SameBelow f
-    open-same e =
+    pub other-same : inDoubt s f ≡ false → SameBelow f
+    other-same e =
         record {
           total = ap (λ (fs : List ℕ). sumOver fs alternativesOf) (those-same (inDoubt s) f e);
           bytes = ap (λ (fs : List ℕ). lineBytes (joinOver fs fieldLines)) (those-same (inDoubt s) f e);

@@ -1,4 +1,4 @@
--- Counts, sums, lists and lines over the numbers of which a test holds, one number more at a time. Assumes nothing.
+-- Tests, counts, sums, lists and lines over the numbers of which a test holds, one number more at a time. Assumes nothing.
 use mathlib.Core.Path.{_≡_, refl, sym, ap, _∙_}
 use mathlib.Core.Bool.{Bool, true, false}
 use mathlib.Core.List.{List, [], _∷_, _++_, map, map-append, append-nil, append-assoc}
@@ -11,8 +11,9 @@ use lib.ListN.{length, set, length-map}
 use lib.Seq.{sets, length-sets}
 use Rattle.format.specs.Basics.{pick}
 use Rattle.format.proofs.Storing.{sets-append}
-use Rattle.consistency.specs.Counting.{howMany, those, sumOver, joinOver}
+use Rattle.consistency.specs.Counting.{anyBelow, howMany, those, sumOver, joinOver}
 use Rattle.consistency.specs.Counts.{Line, lineBytes}
+use Rattle.consistency.proofs.Booleans.{true-T, T-true, any-in}
 use Rattle.consistency.proofs.Sums.{length-those}
 use Rattle.consistency.proofs.Lines.{length-line-bytes}
 use Rattle.sheet.specs.Lists.{linesBelow}
@@ -31,6 +32,14 @@ module _ (p : ℕ → Bool) (n : ℕ) where
 
   pub those-same : p n ≡ false → those (n + 1) p ≡ those n p
   those-same e = rw (add-one, e) (append-nil (those n p))
+
+  -- it holds of none below n, and not of n
+  pub none-more : anyBelow n p ≡ false → p n ≡ false → anyBelow (n + 1) p ≡ false
+  none-more e d = rw (add-one n, e, d)
+
+-- it holds of a number below m
+pub one-found : (p : ℕ → Bool) (m n : ℕ) → n < m → p n ≡ true → true ≡ anyBelow m p
+one-found p m n l e = sym (T-true (any-in m p n l (true-T e)))
 
 -- what does not fall from a number to the next does not fall at all
 pub rises : (g : ℕ → ℕ) → ((n : ℕ) → g n ≤ g (suc n)) → (m n : ℕ) → m ≤ n → g m ≤ g n

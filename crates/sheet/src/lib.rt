@@ -330,11 +330,28 @@ impl Sheet {
                     &mut marks,
                 );
                 let empty = filter::empty_cases(&marks, fields);
-                let total = lists::count_lines(book, answers, photographed, &marks, empty, list, fields);
+                let total = lists::count_lines(
+                    book,
+                    answers,
+                    photographed,
+                    &marks,
+                    empty,
+                    list,
+                    fields,
+                );
                 if out.len() < 2 * total {
                     return refuse_list(self, Reason::Room, 0);
                 }
-                lists::write_lines(book, answers, photographed, &marks, empty, list, fields, out);
+                lists::write_lines(
+                    book,
+                    answers,
+                    photographed,
+                    &marks,
+                    empty,
+                    list,
+                    fields,
+                    out,
+                );
                 HandedList {
                     answer: Listing::Listed {
                         total: total,

@@ -3,6 +3,7 @@ use mathlib.Core.Path.{_≡_, ap}
 use Prim.Native.Nat.{_≤_, _-_}
 use lib.ListN.{length, drop}
 use Rattle.calls.specs.Histories.{callsIn, sheetThrough, sheetAfter}
+use Rattle.sheet.specs.Shown.{heldBy}
 use Rattle.sheet.proofs.Replays.{called-on, called-all}
 use borrow.Author.Needs.{needs}
 use native.Mathlib.Omega.{arith}
@@ -10,7 +11,7 @@ use Rattle.sheet.proofs.history.after.Statement.{statement}
 use Rattle.sheet.proofs.history.after.Tie as tie
 
 abbrev Inv-loop : tie.InvT-loop
-Inv-loop book calls sheet₀ at₀ sheet at = (at ≤ length calls) × (sheetThrough book (sheet .places) (callsIn (drop at calls)) ≡ sheetAfter book (callsIn calls))
+Inv-loop book calls sheet₀ at₀ sheet at = (at ≤ length calls) × (sheetThrough book (heldBy sheet) (callsIn (drop at calls)) ≡ sheetAfter book (callsIn calls))
 
 abbrev μ-loop : tie.MeasureT-loop
 μ-loop book calls sheet₀ at₀ sheet at = length calls - at
@@ -49,7 +50,7 @@ loop-less : tie.Need-loop-less Inv-loop μ-loop
 loop-less c = search needs
 
 loop-again : tie.Need-loop-again Inv-loop μ-loop
-loop-again c = (omega arith, called-on (c .before .before .before .before .before .before .before .before .before .args .book .now) (c .before .before .before .before .before .before .before .before .before .args .calls .now) (c .before .before .before .before .before .loop .sheet .places) (c .before .before .before .before .before .loop .at) (c .before .before .before .before .before .loop .inv .0) (c .before .before .before .before .loop-test .taken) (c .called .ensures) (c .before .before .before .before .before .loop .inv .1))
+loop-again c = (omega arith, called-on (c .before .before .before .before .before .before .before .before .before .args .book .now) (c .before .before .before .before .before .before .before .before .before .args .calls .now) (heldBy (c .before .before .before .before .before .loop .sheet)) (c .before .before .before .before .before .loop .at) (c .before .before .before .before .before .loop .inv .0) (c .before .before .before .before .loop-test .taken) (c .called .ensures) (c .before .before .before .before .before .loop .inv .1))
 
 returns : tie.Need-returns Inv-loop μ-loop
 returns c = called-all (c .before .before .before .before .before .args .book .now) (c .before .before .before .before .before .args .calls .now) (c .before .loop .at) (c .loop-test .left) (c .before .loop .inv .1)

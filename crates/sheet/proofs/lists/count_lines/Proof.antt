@@ -1,109 +1,139 @@
--- `count_lines` meets its contract. The loop's invariant: the alternatives of the answered fields passed are counted, and k is the
--- own case of the next answered field. Assumes nothing.
-use mathlib.Core.Path.{_≡_, refl}
+-- `count_lines` meets its contract. The loop's invariant: the alternatives of the fields in doubt that are passed are counted, and k is the
+-- own case of the next field in doubt. Assumes nothing.
+use mathlib.Core.Path.{_≡_, refl, _∙_}
 use Prim.Native.Nat.{_≤_, _-_}
+use native.Mathlib.Omega.{arith}
 use lib.ListN.{length}
-use borrow.Author.Tests.{eq-eqb, ne-eqb}
+use borrow.Author.Tests.{eq-eqb, ne-eqb, not-true, not-false}
 use Rattle.format.specs.Format.{bookOf}
 use Rattle.format.proofs.Verdict.{verdict-promise}
-use Rattle.consistency.specs.Consistency.{places}
+use Rattle.consistency.specs.Consistency.{places, sheetWith}
 use Rattle.filter.specs.Cases.{ownCase}
 use Rattle.sheet.proofs.Openings.{fields-few}
 use Rattle.sheet.proofs.Fields.{totalBelow}
-use Rattle.sheet.proofs.FieldTurns.{few-below, counted-all, field-byte, answered-here, open-here, next-case, same-case, case-few, open-lineless, unmended-lineless, total-without, in-marks, total-with}
+use Rattle.sheet.proofs.FieldTurns.{few-below, counted-all, field-byte, doubt-here, next-case, same-case, case-few, other-lineless, unmended-lineless, total-without, in-marks, total-with}
 use borrow.Author.Needs.{needs}
-use native.Mathlib.Omega.{arith}
 use Rattle.sheet.proofs.lists.count_lines.Statement.{statement}
 use Rattle.sheet.proofs.lists.count_lines.Tie as tie
+use Rattle.sheet.proofs.lists.count_lines.Reads as reads
+use Rattle.sheet.proofs.lists.count_lines.Lts as lts
+use Rattle.sheet.proofs.lists.count_codes.Reads as count-codes-reads
+use Rattle.sheet.proofs.lists.in_doubt.Reads as in-doubt-reads
+use Rattle.sheet.proofs.lists.wide.Reads as wide-reads
 
 abbrev Inv-loop : tie.InvT-loop
-Inv-loop book marks empty list fields answers sum₀ k₀ f₀ sum k f = (f ≤ fields) × (k ≡ ownCase answers f) × (sum ≡ totalBelow (bookOf book) answers f)
+Inv-loop book marks empty list fields answers photographed sum₀ k₀ f₀ sum k f = (f ≤ fields) × (k ≡ ownCase (sheetWith answers photographed) f) × (sum ≡ totalBelow (bookOf book) (sheetWith answers photographed) f)
 
 abbrev μ-loop : tie.MeasureT-loop
-μ-loop book marks empty list fields answers sum₀ k₀ f₀ sum k f = fields - f
+μ-loop book marks empty list fields answers photographed sum₀ k₀ f₀ sum k f = fields - f
 
+-- src/lists.rt:85:5
 loop-holds : tie.Need-loop-holds Inv-loop μ-loop
 loop-holds c = (omega arith, refl, refl)
 
-array-read-if1 : tie.Need-array-read-if1 Inv-loop μ-loop
-array-read-if1 c = omega (arith, fields-few _ _ _ (c .before .before .before .pre .at))
+-- src/lists.rt:86:22
+array-read-in-doubt : tie.Need-array-read-in-doubt Inv-loop μ-loop
+array-read-in-doubt c = omega (arith, fields-few _ _ _ (c .before .before .before .pre .at))
 
+-- src/lists.rt:86:34
+array-read-in-doubt-2 : tie.Need-array-read-in-doubt-2 Inv-loop μ-loop
+array-read-in-doubt-2 c = omega (arith, fields-few _ _ _ (c .before .before .before .pre .at))
+
+-- src/lists.rt:86:13
+in-doubt-requires : tie.Need-in-doubt-requires Inv-loop μ-loop
+in-doubt-requires c κs = search needs
+
+-- src/lists.rt:87:13
 add-f : tie.Need-add-f Inv-loop μ-loop
 add-f c = search needs
 
+-- src/lists.rt:85:5
 loop-less : tie.Need-loop-less Inv-loop μ-loop
 loop-less c = search needs
 
+-- src/lists.rt:85:5
 loop-again : tie.Need-loop-again Inv-loop μ-loop
-loop-again c =
-    let x = (c .before .before .before .before .pre) in
-    let l = c .before .loop-test .taken in
-    let long : length (c .before .before .before .before .args .t2) ≡ places = search needs in
-    let e = open-here x l long (c .if1 .taken) in
-    (omega arith, same-case x l e (c .before .before .loop .inv .1), total-without x l (open-lineless x l e) (c .before .before .loop .inv .2))
+loop-again c = let x = (c .before .before .before .before .before .pre) in
+    let l = c .before .before .loop-test .taken in
+    let long : length (c .before .before .before .before .before .args .t2) ≡ places = search needs in
+    let e = doubt-here x l long (c .before .in-doubt .ensures) ∙ not-true _ (c .if1 .taken) in
+    (omega arith, same-case x l e (c .before .before .before .loop .inv .1), total-without x l (other-lineless x l e) (c .before .before .before .loop .inv .2))
 
+-- src/lists.rt:88:20
 shr-if2 : tie.Need-shr-if2 Inv-loop μ-loop
-shr-if2 c = case-few (c .before .before .before .before .pre) (c .before .loop-test .taken) (c .before .before .loop .inv .1)
+shr-if2 c = case-few ((c .before .before .before .before .before .pre)) (c .before .before .loop-test .taken) (c .before .before .before .loop .inv .1)
 
+-- src/lists.rt:89:13
 add-k : tie.Need-add-k Inv-loop μ-loop
-add-k c = omega (arith, case-few (c .before .before .before .before .before .pre) (c .before .before .loop-test .taken) (c .before .before .before .loop .inv .1))
+add-k c = omega (arith, case-few ((c .before .before .before .before .before .before .pre)) (c .before .before .before .loop-test .taken) (c .before .before .before .before .loop .inv .1))
 
+-- src/lists.rt:90:13
 add-f-2 : tie.Need-add-f-2 Inv-loop μ-loop
 add-f-2 c = search needs
 
+-- src/lists.rt:85:5
 loop-less-2 : tie.Need-loop-less-2 Inv-loop μ-loop
 loop-less-2 c = search needs
 
+-- src/lists.rt:85:5
 loop-again-2 : tie.Need-loop-again-2 Inv-loop μ-loop
-loop-again-2 c =
-    let x = (c .before .before .before .before .before .pre) in
-    let l = c .before .before .loop-test .taken in
-    let long : length (c .before .before .before .before .before .args .t2) ≡ places = search needs in
-    let e = answered-here x l long (c .before .if1 .left) in (
+loop-again-2 c = let x = (c .before .before .before .before .before .before .pre) in
+    let l = c .before .before .before .loop-test .taken in
+    let long : length (c .before .before .before .before .before .before .args .t2) ≡ places = search needs in
+    let e = doubt-here x l long (c .before .before .in-doubt .ensures) ∙ not-false _ (c .before .if1 .left) in (
       omega arith,
-      next-case x l e (c .before .before .before .loop .inv .1),
-      total-without x l (unmended-lineless x l (c .before .before .before .loop .inv .1) e (eq-eqb _ _ (c .if2 .taken))) (c .before .before .before .loop .inv .2),
+      next-case x l e (c .before .before .before .before .loop .inv .1),
+      total-without x l (unmended-lineless x l (c .before .before .before .before .loop .inv .1) e (eq-eqb _ _ (c .if2 .taken))) (c .before .before .before .before .loop .inv .2),
     )
 
+-- src/lists.rt:92:31
 add-wide : tie.Need-add-wide Inv-loop μ-loop
-add-wide c = omega (arith, field-byte (c .before .before .before .before .before .pre) (c .before .before .loop-test .taken), verdict-promise _ (c .before .before .before .before .before .pre .at .passes) .short)
+add-wide c = omega (arith, field-byte ((c .before .before .before .before .before .before .pre)) (c .before .before .before .loop-test .taken), verdict-promise _ (c .before .before .before .before .before .before .pre .at .passes) .short)
 
+-- src/lists.rt:92:26
 shared-slice-read-wide : tie.Need-shared-slice-read-wide Inv-loop μ-loop
-shared-slice-read-wide c = field-byte (c .before .before .before .before .before .before .pre) (c .before .before .before .loop-test .taken)
+shared-slice-read-wide c = field-byte ((c .before .before .before .before .before .before .before .pre)) (c .before .before .before .before .loop-test .taken)
 
+-- src/lists.rt:92:17
 wide-requires : tie.Need-wide-requires Inv-loop μ-loop
 wide-requires c κs = search needs
 
+-- src/lists.rt:93:20
 count-codes-requires : tie.Need-count-codes-requires Inv-loop μ-loop
-count-codes-requires c κs = in-marks (c .before .before .before .before .before .before .before .pre) (c .before .before .before .before .loop-test .taken) (c .before .before .before .before .before .loop .inv .1) (c .wide .ensures)
+count-codes-requires c κs = in-marks ((c .before .before .before .before .before .before .before .before .pre)) (c .before .before .before .before .before .loop-test .taken) (c .before .before .before .before .before .before .loop .inv .1) (c .wide .ensures)
 
+-- src/lists.rt:93:13
 add-sum : tie.Need-add-sum Inv-loop μ-loop
-add-sum c = omega (arith, few-below (c .before .before .before .before .before .before .before .before .pre) (c .before .before .before .before .before .before .loop .f), c .before .before .before .before .before .before .loop .inv .2, fields-few _ _ _ (c .before .before .before .before .before .before .before .before .pre .at), in-marks (c .before .before .before .before .before .before .before .before .pre) (c .before .before .before .before .before .loop-test .taken) (c .before .before .before .before .before .before .loop .inv .1) (c .before .wide .ensures) .codes-in, c .count-codes .ensures .1)
+add-sum c = omega (arith, few-below ((c .before .before .before .before .before .before .before .before .before .pre)) (c .before .before .before .before .before .before .before .loop .f), c .before .before .before .before .before .before .before .loop .inv .2, fields-few _ _ _ (c .before .before .before .before .before .before .before .before .before .pre .at), in-marks ((c .before .before .before .before .before .before .before .before .before .pre)) (c .before .before .before .before .before .before .loop-test .taken) (c .before .before .before .before .before .before .before .loop .inv .1) (c .before .wide .ensures) .codes-in, c .count-codes .ensures .1)
 
+-- src/lists.rt:94:13
 add-k-2 : tie.Need-add-k-2 Inv-loop μ-loop
-add-k-2 c = omega (arith, case-few (c .before .before .before .before .before .before .before .before .pre) (c .before .before .before .before .before .loop-test .taken) (c .before .before .before .before .before .before .loop .inv .1))
+add-k-2 c = omega (arith, case-few ((c .before .before .before .before .before .before .before .before .before .pre)) (c .before .before .before .before .before .before .loop-test .taken) (c .before .before .before .before .before .before .before .loop .inv .1))
 
+-- src/lists.rt:95:13
 add-f-3 : tie.Need-add-f-3 Inv-loop μ-loop
 add-f-3 c = search needs
 
+-- src/lists.rt:85:5
 loop-less-3 : tie.Need-loop-less-3 Inv-loop μ-loop
 loop-less-3 c = search needs
 
+-- src/lists.rt:85:5
 loop-again-3 : tie.Need-loop-again-3 Inv-loop μ-loop
-loop-again-3 c =
-    let x = (c .before .before .before .before .before .before .before .before .pre) in
-    let l = c .before .before .before .before .before .loop-test .taken in
-    let long : length (c .before .before .before .before .before .before .before .before .args .t2) ≡ places = search needs in
-    let e = answered-here x l long (c .before .before .before .before .if1 .left) in (
+loop-again-3 c = let x = (c .before .before .before .before .before .before .before .before .before .pre) in
+    let l = c .before .before .before .before .before .before .loop-test .taken in
+    let long : length (c .before .before .before .before .before .before .before .before .before .args .t2) ≡ places = search needs in
+    let e = doubt-here x l long (c .before .before .before .before .before .in-doubt .ensures) ∙ not-false _ (c .before .before .before .before .if1 .left) in (
       omega arith,
-      next-case x l e (c .before .before .before .before .before .before .loop .inv .1),
-      total-with x l (c .before .before .before .before .before .before .loop .inv .1) (c .before .wide .ensures) e (ne-eqb _ _ (c .before .before .before .if2 .left)) (c .before .before .before .before .before .before .loop .inv .2) (c .count-codes .ensures .0),
+      next-case x l e (c .before .before .before .before .before .before .before .loop .inv .1),
+      total-with x l (c .before .before .before .before .before .before .before .loop .inv .1) (c .before .wide .ensures) e (ne-eqb _ _ (c .before .before .before .if2 .left)) (c .before .before .before .before .before .before .before .loop .inv .2) (c .count-codes .ensures .0),
     )
 
+-- src/lists.rt:70:1
 returns : tie.Need-returns Inv-loop μ-loop
 returns c = (
-  counted-all (c .before .before .before .pre) (c .loop-test .left) (c .before .loop .inv .0) (c .before .loop .inv .2),
-  omega (arith, few-below (c .before .before .before .pre) (c .before .loop .f), c .before .loop .inv .2, fields-few _ _ _ (c .before .before .before .pre .at)),
+  counted-all ((c .before .before .before .pre)) (c .loop-test .left) (c .before .loop .inv .0) (c .before .loop .inv .2),
+  omega (arith, few-below ((c .before .before .before .pre)) (c .before .loop .f), c .before .loop .inv .2, fields-few _ _ _ (c .before .before .before .pre .at)),
 )
 
 pub count-lines-spec : {M : Type 1} → statement M
@@ -113,7 +143,9 @@ count-lines-spec =
     Inv-loop
     μ-loop
     loop-holds
-    array-read-if1
+    array-read-in-doubt
+    array-read-in-doubt-2
+    in-doubt-requires
     add-f
     loop-less
     loop-again
