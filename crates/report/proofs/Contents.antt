@@ -71,24 +71,24 @@ not-T : (x : Bool) → (T x → ⊥) → x ≡ false
 not-T true n = absurd (n tt)
 not-T false n = refl
 
-module _ (b : Book) (w : Within b) (s rest : List ℕ) where
+module _ (b : Book) (w : Within b) (a rest : List ℕ) where
   -- bit c of field f's number
-  bit-is : (f : ℕ) → f < length (b .counts) → (c : ℕ) → bit (getD (masks b s ++ rest) f 0) c ≡ largest b s f c
+  bit-is : (f : ℕ) → f < length (b .counts) → (c : ℕ) → bit (getD (masks b a ++ rest) f 0) c ≡ largest b a f c
   bit-is f l c =
-      ap (λ (m : ℕ). bit m c) (List·getD-append (masks b s) rest 0 f (omega (arith, length-masks b s))) ∙ masks-bit b s f c
+      ap (λ (m : ℕ). bit m c) (List·getD-append (masks b a) rest 0 f (omega (arith, length-masks b a))) ∙ masks-bit b a f c
 
   -- the lines of field f
-  field-is : (f : ℕ) → f < length (b .counts) → maskLines f (getD (masks b s ++ rest) f 0) codeLimit ≡ linesOf b (largest b s f) f
+  field-is : (f : ℕ) → f < length (b .counts) → maskLines f (getD (masks b a ++ rest) f 0) codeLimit ≡ linesOf b (largest b a f) f
   field-is f l =
-      let p : ℕ → Bool = bit (getD (masks b s ++ rest) f 0) in
+      let p : ℕ → Bool = bit (getD (masks b a ++ rest) f 0) in
       ap (map (λ (c : ℕ). record { field = f; code = c }))
       (those-wider p (codes b f) codeLimit (w .small f)
-      (λ c h. bit-is f l c ∙ not-T (largest b s f c) (λ t. omega (arith, largest-is b s .fits .of-book f c t)))
-      ∙ those-ext (codes b f) p (largest b s f) (λ c h. bit-is f l c))
+      (λ c h. bit-is f l c ∙ not-T (largest b a f c) (λ t. omega (arith, largest-is b a .fits .of-book f c t)))
+      ∙ those-ext (codes b f) p (largest b a f) (λ c h. bit-is f l c))
 
   -- the masks of the unanswered fields are the open lines
-  pub masks-are : openIn (masks b s ++ rest) s (length (b .counts)) ≡ openLines b s
+  pub masks-are : openIn (masks b a ++ rest) a (length (b .counts)) ≡ openLines b a
   unfolding openLines
   masks-are =
-      join-ext (those (length (b .counts)) (λ f. not (answered s f))) _ (λ f. linesOf b (largest b s f) f)
-      (λ f m. field-is f (in-those (length (b .counts)) (λ f. not (answered s f)) m .0))
+      join-ext (those (length (b .counts)) (λ f. not (answered a f))) _ (λ f. linesOf b (largest b a f) f)
+      (λ f m. field-is f (in-those (length (b .counts)) (λ f. not (answered a f)) m .0))

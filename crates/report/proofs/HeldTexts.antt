@@ -8,7 +8,7 @@ use lib.ListN.{length, getD, drop, replicate, length-append, length-drop, length
 use Rattle.format.specs.Format.{Book, codeLimit, bookOf}
 use Rattle.format.specs.Reading.{Outcome, accepted}
 use Rattle.format.proofs.Accepted.{verdict-accepted}
-use Rattle.consistency.specs.Consistency.{places}
+use Rattle.consistency.specs.Consistency.{places, Sheet}
 use Rattle.consistency.specs.Counts.{total, struck, lines, lineBytes, masks}
 use Rattle.consistency.proofs.Lines.{length-lines, length-line-bytes}
 use Rattle.consistency.proofs.Masks.{length-masks}
@@ -42,7 +42,7 @@ pairs-lent = length-replicate {A = ℕ} (2 * (places * codeLimit)) 0
 masks-lent : length noMasks ≡ places
 masks-lent = length-replicate {A = ℕ} places 0
 
-module _ (bytes s : List ℕ) (fields : ℕ) (st : Stands bytes s fields) where
+module _ (bytes : List ℕ) (s : Sheet) (fields : ℕ) (st : Stands bytes s fields) where
   -- the book that the bytes hold
   abbrev book : Book
   book = bookOf bytes
@@ -58,7 +58,7 @@ module _ (bytes s : List ℕ) (fields : ℕ) (st : Stands bytes s fields) where
       (omega (arith, total-few book (within .small) (within .few) s, pairs-lent))
 
   -- the masks are written: room for 60 numbers is enough
-  masked : filtered bytes s 255 noMasks ≡ done [] s (masks book s ++ drop (length (book .counts)) noMasks)
+  masked : filtered bytes s 255 noMasks ≡ done [] s (masks book (s .answers) ++ drop (length (book .counts)) noMasks)
   unfolding filtered
   masked =
       let few : length (book .counts) ≤ length noMasks = omega (arith, within .few, masks-lent) in
@@ -90,7 +90,7 @@ module _ (bytes s : List ℕ) (fields : ℕ) (st : Stands bytes s fields) where
       struck-is = ap (λ (o : Outcome). getD (o .counts) 1 0) counts
 
       -- the masks that plain filtering wrote
-      masks-is : ms ≡ masks book s ++ drop (length (book .counts)) noMasks
+      masks-is : ms ≡ masks book (s .answers) ++ drop (length (book .counts)) noMasks
       masks-is = ap (λ (x : Result). x .buffer) (left′ ∙ masked)
 
       -- so the buffers hold the lines of the text
@@ -98,31 +98,31 @@ module _ (bytes s : List ℕ) (fields : ℕ) (st : Stands bytes s fields) where
       alts-is =
           ap₂ pairLines pairs-is (total-is ∙ sym (length-lines book s)) ∙ pairs-are (lines book s) (drop (2 * total book s) noPairs)
 
-      opens-is : openIn ms s fields ≡ openLines book s
+      opens-is : openIn ms (s .answers) fields ≡ openLines book (s .answers)
       opens-is =
-          ap₂ (λ (m : List ℕ) (n : ℕ). openIn m s n) masks-is (st .fields-are)
-          ∙ masks-are book within s (drop (length (book .counts)) noMasks)
+          ap₂ (λ (m : List ℕ) (n : ℕ). openIn m (s .answers) n) masks-is (st .fields-are)
+          ∙ masks-are book within (s .answers) (drop (length (book .counts)) noMasks)
 
-      part-is : sheetPart s fields pairs t k ms ≡ sheetText s book
+      part-is : sheetPart (s .answers) fields pairs t k ms ≡ sheetText s book
       part-is = rw (alts-is, opens-is, st .fields-are, total-is, struck-is)
 
       -- and are long enough for them
-      pub lists-fit : length s ≡ places → ListsFit s fields pairs t ms
+      pub lists-fit : length (s .answers) ≡ places → ListsFit (s .answers) fields pairs t ms
       lists-fit long =
           let pairs-long : length pairs ≡ 2 * (places * codeLimit) =
           ap length pairs-is ∙ simp (length-append, length-drop, pairs-lent, length-line-bytes, length-lines) (omega (arith, total-few book (within .small) (within .few) s)) in
           let masks-long : length ms ≡ places =
           ap length masks-is ∙ simp (length-append, length-drop, masks-lent, length-masks) (omega (arith, within .few)) in
           record {
-            in-places = omega (arith, st .fields-are, within .few);
+            in-answers = omega (arith, st .fields-are, within .few);
             in-pairs = omega (arith, total-few book (within .small) (within .few) s, total-is);
             in-masks = omega (arith, st .fields-are, within .few);
           }
 
       -- the room for the text, and the text once it is written
       module _ (o : List ℕ) (at : ℕ) where
-        pub part-room : Room o at (sheetText s book) → Room o at (sheetPart s fields pairs t k ms)
+        pub part-room : Room o at (sheetText s book) → Room o at (sheetPart (s .answers) fields pairs t k ms)
         part-room = subst (Room o at) (sym part-is)
 
-        pub part-puts : {o′ : List ℕ} {r : ℕ} → Puts o at (sheetPart s fields pairs t k ms) o′ r → Puts o at (sheetText s book) o′ r
+        pub part-puts : {o′ : List ℕ} {r : ℕ} → Puts o at (sheetPart (s .answers) fields pairs t k ms) o′ r → Puts o at (sheetText s book) o′ r
         part-puts {o′} {r} = subst (λ (x : List ℕ). Puts o at x o′ r) part-is

@@ -100,44 +100,44 @@ module _ (w : List ℕ) (f m : ℕ) {o : List ℕ} {at : ℕ} (c : ℕ) {o′ : 
 
 -- the text of field f, where it has no answer
 abbrev fieldPiece : List ℕ → List ℕ → List ℕ → ℕ → List ℕ
-fieldPiece w masks s f = pick (not (answered s f)) (linesText w (maskLines f (getD masks f 0) codeLimit)) []
+fieldPiece w masks a f = pick (not (answered a f)) (linesText w (maskLines f (getD masks f 0) codeLimit)) []
 
 -- one field more
-open-more : (w masks s : List ℕ) (f : ℕ) → linesText w (openIn masks s (suc f)) ≡ linesText w (openIn masks s f) ++ fieldPiece w masks s f
-open-more w masks s f =
-    ap (linesText w) (join-append (those f p) (pick (p f) (f ∷ []) []) g) ∙ lines-append w (openIn masks s f) _
-    ∙ ap (λ (t : List ℕ). linesText w (openIn masks s f) ++ t) (last (p f))
+open-more : (w masks a : List ℕ) (f : ℕ) → linesText w (openIn masks a (suc f)) ≡ linesText w (openIn masks a f) ++ fieldPiece w masks a f
+open-more w masks a f =
+    ap (linesText w) (join-append (those f p) (pick (p f) (f ∷ []) []) g) ∙ lines-append w (openIn masks a f) _
+    ∙ ap (λ (t : List ℕ). linesText w (openIn masks a f) ++ t) (last (p f))
   where
     g : ℕ → List Line
     g k = maskLines k (getD masks k 0) codeLimit
 
     p : ℕ → Bool
-    p k = not (answered s k)
+    p k = not (answered a k)
 
     last : (x : Bool) → linesText w (joinOver (pick x (f ∷ []) []) g) ≡ pick x (linesText w (g f)) []
     last true = ap (linesText w) (append-nil (g f))
     last false = refl
 
 -- a loop that has written the fields below f: room for field f, and the text with it
-module _ (w masks s : List ℕ) {o : List ℕ} {at : ℕ} (f : ℕ) {o′ : List ℕ} {r : ℕ}
-    (p : Puts o at (linesText w (openIn masks s f)) o′ r) (l : f < length s) where
+module _ (w masks a : List ℕ) {o : List ℕ} {at : ℕ} (f : ℕ) {o′ : List ℕ} {r : ℕ}
+    (p : Puts o at (linesText w (openIn masks a f)) o′ r) (l : f < length a) where
   -- it has no answer
-  module _ (e : getD s f 0 ≡ 255) where
-    unanswered : fieldPiece w masks s f ≡ linesText w (maskLines f (getD masks f 0) codeLimit)
-    unanswered = rw (eq-eqb (getD s f 255) 255 (sym (answer-at s f l) ∙ e))
+  module _ (e : getD a f 0 ≡ 255) where
+    unanswered : fieldPiece w masks a f ≡ linesText w (maskLines f (getD masks f 0) codeLimit)
+    unanswered = rw (eq-eqb (getD a f 255) 255 (sym (answer-at a f l) ∙ e))
 
-    pub field-room : (n : ℕ) → f < n → Room o at (linesText w (openIn masks s n)) → Room o′ r (linesText w (maskLines f (getD masks f 0) codeLimit))
+    pub field-room : (n : ℕ) → f < n → Room o at (linesText w (openIn masks a n)) → Room o′ r (linesText w (maskLines f (getD masks f 0) codeLimit))
     field-room n k h =
-        subst (Room o′ r) unanswered (piece-room (λ k. linesText w (openIn masks s k)) (fieldPiece w masks s) (open-more w masks s) f p n k h)
+        subst (Room o′ r) unanswered (piece-room (λ k. linesText w (openIn masks a k)) (fieldPiece w masks a) (open-more w masks a) f p n k h)
 
     pub field-on : {o″ : List ℕ} {r′ : ℕ} → Puts o′ r (linesText w (maskLines f (getD masks f 0) codeLimit)) o″ r′
-        → Puts o at (linesText w (openIn masks s (f + 1))) o″ r′
+        → Puts o at (linesText w (openIn masks a (f + 1))) o″ r′
     field-on {o″} {r′} q =
-        piece-on (λ k. linesText w (openIn masks s k)) (fieldPiece w masks s) (open-more w masks s) f p
+        piece-on (λ k. linesText w (openIn masks a k)) (fieldPiece w masks a) (open-more w masks a) f p
         (subst (λ (t : List ℕ). Puts o′ r t o″ r′) (sym unanswered) q)
 
   -- it has an answer
-  pub field-none : (getD s f 0 ≡ 255 → ⊥) → Puts o at (linesText w (openIn masks s (f + 1))) o′ r
+  pub field-none : (getD a f 0 ≡ 255 → ⊥) → Puts o at (linesText w (openIn masks a (f + 1))) o′ r
   field-none n =
-      piece-none (λ k. linesText w (openIn masks s k)) (fieldPiece w masks s) (open-more w masks s) f p
-      (rw (ne-eqb (getD s f 255) 255 (λ q. n (answer-at s f l ∙ q))))
+      piece-none (λ k. linesText w (openIn masks a k)) (fieldPiece w masks a) (open-more w masks a) f p
+      (rw (ne-eqb (getD a f 255) 255 (λ q. n (answer-at a f l ∙ q))))

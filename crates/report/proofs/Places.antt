@@ -12,16 +12,16 @@ use Rattle.consistency.specs.Counts.{answered}
 use Rattle.consistency.proofs.Elements.{answer-at}
 use Rattle.sheet.proofs.Upward.{many-more, many-same}
 
-module _ (s : List ℕ) (f count : ℕ) (l : f < length s) (e : count ≡ howMany f (answered s)) where
+module _ (a : List ℕ) (f count : ℕ) (l : f < length a) (e : count ≡ howMany f (answered a)) where
   -- field f has no answer
-  pub count-same : getD s f 0 ≡ 255 → count ≡ howMany (f + 1) (answered s)
-  count-same h = e ∙ sym (many-same (answered s) f (ap not (eq-eqb (answer s f) 255 (sym (answer-at s f l) ∙ h))))
+  pub count-same : getD a f 0 ≡ 255 → count ≡ howMany (f + 1) (answered a)
+  count-same h = e ∙ sym (many-same (answered a) f (ap not (eq-eqb (answer a f) 255 (sym (answer-at a f l) ∙ h))))
 
   -- field f has one
-  pub count-more : (getD s f 0 ≡ 255 → ⊥) → count + 1 ≡ howMany (f + 1) (answered s)
+  pub count-more : (getD a f 0 ≡ 255 → ⊥) → count + 1 ≡ howMany (f + 1) (answered a)
   count-more h =
-      ap (_+ 1) e ∙ sym (many-more (answered s) f (ap not (ne-eqb (answer s f) 255 (λ q. h (answer-at s f l ∙ q)))))
+      ap (_+ 1) e ∙ sym (many-more (answered a) f (ap not (ne-eqb (answer a f) 255 (λ q. h (answer-at a f l ∙ q)))))
 
 -- no field is left
-pub count-end : (s : List ℕ) (f n count : ℕ) → f ≤ n → n ≤ f → count ≡ howMany f (answered s) → count ≡ howMany n (answered s)
-count-end s f n count l h e = let same : f ≡ n = omega arith in e ∙ ap (λ (k : ℕ). howMany k (answered s)) same
+pub count-end : (a : List ℕ) (f n count : ℕ) → f ≤ n → n ≤ f → count ≡ howMany f (answered a) → count ≡ howMany n (answered a)
+count-end a f n count l h e = let same : f ≡ n = omega arith in e ∙ ap (λ (k : ℕ). howMany k (answered a)) same

@@ -8,7 +8,7 @@ use Rattle.report.specs.Text.{spaced, sheetWord, altWord, openWord, line
 use Rattle.report.specs.Writes.{Room, Puts, pairLines, openIn, sheetPart}
 use Rattle.report.proofs.Writing.{puts-then, room-first, room-then}
 
-module _ (s : List ℕ) (fields : ℕ) (pairs : List ℕ) (total struck : ℕ) (masks o : List ℕ) (at n : ℕ) (e : n ≡ howMany fields (answered s)) where
+module _ (a : List ℕ) (fields : ℕ) (pairs : List ℕ) (total struck : ℕ) (masks o : List ℕ) (at n : ℕ) (e : n ≡ howMany fields (answered a)) where
   -- the sheet's line, with the number of answered fields as counted
   abbrev line : List ℕ
   line = sheetWord ++ spaced (n ∷ total ∷ struck ∷ [])
@@ -19,13 +19,13 @@ module _ (s : List ℕ) (fields : ℕ) (pairs : List ℕ) (total struck : ℕ) (
 
   -- the open lines
   abbrev opens : List ℕ
-  opens = linesText openWord (openIn masks s fields)
+  opens = linesText openWord (openIn masks a fields)
 
   -- together they are the part
-  counted : line ++ (alts ++ opens) ≡ sheetPart s fields pairs total struck masks
+  counted : line ++ (alts ++ opens) ≡ sheetPart a fields pairs total struck masks
   counted = rw e
 
-  module _ (m : Room o at (sheetPart s fields pairs total struck masks)) where
+  module _ (m : Room o at (sheetPart a fields pairs total struck masks)) where
     -- each has room behind the one before it, and all three are the part
     whole : Room o at (line ++ (alts ++ opens))
     whole = subst (Room o at) (sym counted) m
@@ -44,5 +44,5 @@ module _ (s : List ℕ) (fields : ℕ) (pairs : List ℕ) (total struck : ℕ) (
         pub opens-room : Room o₂ r₂ opens
         opens-room = room-then q opens lists-room
 
-        pub sheet-puts : {o₃ : List ℕ} {r₃ : ℕ} → Puts o₂ r₂ opens o₃ r₃ → Puts o at (sheetPart s fields pairs total struck masks) o₃ r₃
+        pub sheet-puts : {o₃ : List ℕ} {r₃ : ℕ} → Puts o₂ r₂ opens o₃ r₃ → Puts o at (sheetPart a fields pairs total struck masks) o₃ r₃
         sheet-puts {o₃} {r₃} u = subst (λ (t : List ℕ). Puts o at t o₃ r₃) counted (puts-then p (puts-then q u))

@@ -16,7 +16,7 @@ use Rattle.format.proofs.Accepted.{verdict-accepted, accepted-promise}
 use Rattle.format.proofs.Views.{tables-count}
 use Rattle.consistency.specs.Counting.{howMany}
 use Rattle.consistency.specs.Largest.{largest}
-use Rattle.consistency.specs.Consistency.{codes}
+use Rattle.consistency.specs.Consistency.{Sheet, codes}
 use Rattle.consistency.specs.Counts.{answered, Line, lines, total, struck}
 use Rattle.consistency.specs.Order.{In}
 use Rattle.consistency.proofs.CodeCounts.{field-in}
@@ -86,7 +86,7 @@ lines-short word (l ∷ ls) h =
 
 -- ---- the text of an accepted book and sheet
 
-module _ (b : Book) (w : Within b) (s : List ℕ) where
+module _ (b : Book) (w : Within b) (s : Sheet) where
   -- a code of the book is a small line
   small : (l : Line) → l .code < codes b (l .field) → Small l
   small l h = (omega (arith, field-in b (l .field) (l .code) h, w .few), omega (arith, w .small (l .field)))
@@ -94,12 +94,13 @@ module _ (b : Book) (w : Within b) (s : List ℕ) where
   -- the lines of alternatives are
   alt-small : (l : Line) → In l (lines b s) → Small l
   alt-small l m =
-      small l (listed-known b s (l .field) (l .code) (lines-are b s l .0 m .1))
+      small l (listed-known b (s .answers) (l .field) (l .code) (lines-are b s l .0 m .1))
 
   -- and so are the open lines
-  open-small : (l : Line) → In l (openLines b s) → Small l
+  open-small : (l : Line) → In l (openLines b (s .answers)) → Small l
   open-small l m =
-      small l (largest-is b s .fits .of-book (l .field) (l .code) (open-are b s (largest b s) (largest-is b s) l .0 m .1 .1))
+      let a : List ℕ = s .answers in
+      small l (largest-is b a .fits .of-book (l .field) (l .code) (open-are b a (largest b a) (largest-is b a) l .0 m .1 .1))
 
   module _ (tables-few : length (b .tables) ≤ tableLimit) (rows-few : rowTotal (b .tables) ≤ rowLimit) where
     -- "book 60 64 4096 4096"
@@ -117,10 +118,10 @@ module _ (b : Book) (w : Within b) (s : List ℕ) where
         )
 
     -- "sheet 60 1920 117120"
-    sheet-line-short : length (sheetWord ++ spaced (howMany (length (b .counts)) (answered s) ∷ total b s ∷ struck b s ∷ [])) ≤ 21
+    sheet-line-short : length (sheetWord ++ spaced (howMany (length (b .counts)) (answered (s .answers)) ∷ total b s ∷ struck b s ∷ [])) ≤ 21
     sheet-line-short =
-        line-short sheetWord (howMany (length (b .counts)) (answered s) ∷ total b s ∷ struck b s ∷ []) (2 ∷ 4 ∷ 6 ∷ []) (
-          short 1 (howMany (length (b .counts)) (answered s)) (omega (arith, many-few (length (b .counts)) (answered s), w .few)),
+        line-short sheetWord (howMany (length (b .counts)) (answered (s .answers)) ∷ total b s ∷ struck b s ∷ []) (2 ∷ 4 ∷ 6 ∷ []) (
+          short 1 (howMany (length (b .counts)) (answered (s .answers))) (omega (arith, many-few (length (b .counts)) (answered (s .answers)), w .few)),
           (
             short 3 (total b s) (omega (arith, total-few b (w .small) (w .few) s)),
             (short 5 (struck b s) (omega (arith, struck-few b (w .small) (w .few) s)), tt),
@@ -132,9 +133,9 @@ module _ (b : Book) (w : Within b) (s : List ℕ) where
     unfolding acceptedText
     accepted-short =
         let front : List ℕ = bookWord ++ spaced (bookCounts b) in
-        let second : List ℕ = sheetWord ++ spaced (howMany (length (b .counts)) (answered s) ∷ total b s ∷ struck b s ∷ []) in
+        let second : List ℕ = sheetWord ++ spaced (howMany (length (b .counts)) (answered (s .answers)) ∷ total b s ∷ struck b s ∷ []) in
         let alts : List ℕ = linesText altWord (lines b s) in
-        let opens : List ℕ = linesText openWord (openLines b s) in
+        let opens : List ℕ = linesText openWord (openLines b (s .answers)) in
         omega (
           arith,
           length-append front (second ++ (alts ++ opens)),
@@ -143,7 +144,7 @@ module _ (b : Book) (w : Within b) (s : List ℕ) where
           book-line-short,
           sheet-line-short,
           lines-short altWord (lines b s) alt-small,
-          lines-short openWord (openLines b s) open-small,
+          lines-short openWord (openLines b (s .answers)) open-small,
           lines-few b w s,
         )
 

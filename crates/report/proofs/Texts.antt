@@ -8,7 +8,7 @@ use lib.ListN.{length, getD}
 use Rattle.format.specs.Format.{bookOf, bookCounts}
 use Rattle.format.specs.Reading.{Outcome, refused, accepted, Verdict, pass, fail, outcome, verdict, reading}
 use Rattle.format.proofs.Refusals.{reading-pass}
-use Rattle.consistency.specs.Consistency.{places}
+use Rattle.consistency.specs.Consistency.{places, Sheet}
 use Rattle.calls.specs.Calls.{Result, faultOf, loaded}
 use Rattle.calls.proofs.Stored.{load-accepted}
 use Rattle.book.specs.Shown as book
@@ -16,7 +16,7 @@ use Rattle.book.specs.declared.Refusal.{Refusal}
 use Rattle.book.specs.declared.Reading.{Reading}
 use Rattle.book.specs.declared.Reading.the-variants.{Accepted, Refused}
 use Rattle.book.proofs.Injective as reader
-use Rattle.sheet.specs.Shown.{numberOf, shown, resultOf}
+use Rattle.sheet.specs.Shown.{numberOf, heldBy, shown, resultOf}
 use Rattle.sheet.specs.declared.Reason.{Reason}
 use Rattle.sheet.specs.declared.Handed.{Handed}
 use Rattle.sheet.specs.declared.Answer.the-variants as answer
@@ -83,8 +83,8 @@ module _ (bytes form : List ℕ) where
   module _ (r : Reading) (h : book.shown r ≡ reading bytes) (r′ : Handed) (h′ : resultOf r′ [] ≡ loaded bytes form)
       (fields tables rows different : ℕ) (e : r ≡ Accepted fields tables rows different) (e′ : r′ .answer ≡ answer.Done) where
     -- the sheet handed back
-    abbrev s : List ℕ
-    s = r′ .sheet .places
+    abbrev s : Sheet
+    s = heldBy (r′ .sheet)
 
     -- what the reader and the load answered
     counted : accepted (fields ∷ tables ∷ rows ∷ different ∷ []) ≡ reading bytes
@@ -117,7 +117,7 @@ module _ (bytes form : List ℕ) where
         record {
           passes = k .passes;
           no-fault =
-              subst (λ (x : List ℕ). places ≤ faultOf (bookOf bytes) x) (sym (held ∙ ap (λ (r : Result). r .sheet) (k .result))) (k .no-fault);
+              subst (λ (x : Sheet). places ≤ faultOf (bookOf bytes) x) (sym (held ∙ ap (λ (r : Result). r .sheet) (k .result))) (k .no-fault);
           fields-are = ap (λ (x : Outcome). getD (x .counts) 0 0) (counted ∙ sym (reading-pass bytes (sym (k .passes))));
         }
 

@@ -8,6 +8,7 @@ use Rattle.format.specs.Basics.{pick}
 use Rattle.format.specs.Format.{Book, bookOf}
 use Rattle.format.specs.Reading.{reading}
 use Rattle.consistency.specs.Counting.{howMany, those, joinOver}
+use Rattle.consistency.specs.Consistency.{Sheet}
 use Rattle.consistency.specs.Largest.{largest}
 use Rattle.consistency.specs.Counts.{answered, Line, linesOf, lines, total, struck}
 use Rattle.calls.specs.Calls.{loaded}
@@ -44,7 +45,7 @@ refusedWord = 114 ∷ 101 ∷ 102 ∷ 117 ∷ 115 ∷ 101 ∷ 100 ∷ []
 
 -- "Each open: unanswered field and standing code, by field then code"
 unfoldable pub openLines : Book → List ℕ → List Line
-openLines b s = joinOver (those (length (b .counts)) (λ f. not (answered s f))) (λ f. linesOf b (largest b s f) f)
+openLines b a = joinOver (those (length (b .counts)) (λ f. not (answered a f))) (λ f. linesOf b (largest b a f) f)
 
 -- "Each alt: field, code"
 abbrev pub linesText : List ℕ → List Line → List ℕ
@@ -52,13 +53,13 @@ linesText word [] = []
 linesText word (l ∷ ls) = (word ++ spaced (l .field ∷ l .code ∷ [])) ++ linesText word ls
 
 -- "Sheet: answered fields, total, struck", then the lines
-abbrev pub sheetText : List ℕ → Book → List ℕ
+abbrev pub sheetText : Sheet → Book → List ℕ
 sheetText s b =
-    (sheetWord ++ spaced (howMany (length (b .counts)) (answered s) ∷ total b s ∷ struck b s ∷ []))
-    ++ (linesText altWord (lines b s) ++ linesText openWord (openLines b s))
+    (sheetWord ++ spaced (howMany (length (b .counts)) (answered (s .answers)) ∷ total b s ∷ struck b s ∷ []))
+    ++ (linesText altWord (lines b s) ++ linesText openWord (openLines b (s .answers)))
 
 -- "Book: fields, tables, rows written, different rows"
-unfoldable pub acceptedText : List ℕ → List ℕ → Book → List ℕ
+unfoldable pub acceptedText : List ℕ → Sheet → Book → List ℕ
 acceptedText counts s b = (bookWord ++ spaced counts) ++ sheetText s b
 
 -- "A refusal prints only refused, number, place"

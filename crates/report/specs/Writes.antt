@@ -33,16 +33,16 @@ maskLines f m n = map (λ (c : ℕ). record { field = f; code = c }) (those n (b
 
 -- the lines of the unanswered fields below n, by their masks, of which each has 32 bits
 abbrev pub openIn : List ℕ → List ℕ → ℕ → List Line
-openIn masks s n = joinOver (those n (λ f. not (answered s f))) (λ f. maskLines f (getD masks f 0) codeLimit)
+openIn masks a n = joinOver (those n (λ f. not (answered a f))) (λ f. maskLines f (getD masks f 0) codeLimit)
 
--- as many places and masks as fields, and as many pairs as lines
-pub record ListsFit (s : List ℕ) (fields : ℕ) (pairs : List ℕ) (lines : ℕ) (masks : List ℕ) : Type 0 where
-  pub in-places : fields ≤ length s
+-- as many answers and masks as fields, and as many pairs as lines
+pub record ListsFit (a : List ℕ) (fields : ℕ) (pairs : List ℕ) (lines : ℕ) (masks : List ℕ) : Type 0 where
+  pub in-answers : fields ≤ length a
   pub in-pairs : 2 * lines ≤ length pairs
   pub in-masks : fields ≤ length masks
 
 -- the sheet's line, the lines of alternatives and the open lines, by what buffers hold
 abbrev pub sheetPart : List ℕ → ℕ → List ℕ → ℕ → ℕ → List ℕ → List ℕ
-sheetPart s fields pairs total struck masks =
-    (sheetWord ++ spaced (howMany fields (answered s) ∷ total ∷ struck ∷ []))
-    ++ (linesText altWord (pairLines pairs total) ++ linesText openWord (openIn masks s fields))
+sheetPart a fields pairs total struck masks =
+    (sheetWord ++ spaced (howMany fields (answered a) ∷ total ∷ struck ∷ []))
+    ++ (linesText altWord (pairLines pairs total) ++ linesText openWord (openIn masks a fields))

@@ -4,6 +4,7 @@ ghost use Prim.Native.Nat.{_≤_};
 ghost use lib.ListN.{length};
 ghost use Rattle.format.specs.Format.{bookOf};
 ghost use Rattle.format.specs.Writing.{into};
+ghost use Rattle.sheet.specs.Shown.{heldBy};
 ghost use Rattle.report.specs.Text.{sheetText, reportText};
 ghost use Rattle.report.specs.Report.{textLimit, shown};
 ghost use Rattle.report.specs.Writes.{Room, Puts};
@@ -35,14 +36,14 @@ pub enum Printed {
 
 // The sheet's line, the lines of alternatives and the open lines, of a book and a sheet that pass.
 fn put_held(out: &mut [u8], at: usize, book: &[u8], held: Sheet, fields: usize) -> usize
-    requires { ⌜ Stands (now book) (held .places) fields × Room (now out) at (sheetText (held .places) (bookOf (now book))) ⌝ }
-    ensures { λ r. ⌜ Puts (now (out .entry)) at (sheetText (held .places) (bookOf (now (book .entry)))) (now (out .exit)) r ⌝ }
+    requires { ⌜ Stands (now book) (heldBy held) fields × Room (now out) at (sheetText (heldBy held) (bookOf (now book))) ⌝ }
+    ensures { λ r. ⌜ Puts (now (out .entry)) at (sheetText (heldBy held) (bookOf (now (book .entry)))) (now (out .exit)) r ⌝ }
 {
     let mut pairs = [0; PAIR_BYTES];
     let mut masks = [0; PLACES];
     let listed = held.alternatives(book, &mut pairs);
     held.filtered(book, NONE_RELAXED, &mut masks);
-    let places = held.places;
+    let answers = held.answers;
     let listing = listed.answer;
     match listing {
         // never: the book and the sheet pass, and there is room for all pairs
@@ -50,7 +51,7 @@ fn put_held(out: &mut [u8], at: usize, book: &[u8], held: Sheet, fields: usize) 
         Listing::Listed { total, struck } => parts::put_sheet(
             out,
             at,
-            &places,
+            &answers,
             fields,
             &pairs,
             total,

@@ -60,16 +60,16 @@ pub(crate) fn put_open(
     at: usize,
     word: &[u8],
     masks: &[u32],
-    places: &[u8],
+    answers: &[u8],
     fields: usize,
 ) -> usize
-    requires { ⌜ (fields ≤ length (now masks)) × ((fields ≤ length (now places)) × Room (now out) at (linesText (now word) (openIn (now masks) (now places) fields))) ⌝ }
-    ensures { λ r. ⌜ Puts (now (out .entry)) at (linesText (now (word .entry)) (openIn (now (masks .entry)) (now (places .entry)) fields)) (now (out .exit)) r ⌝ }
+    requires { ⌜ (fields ≤ length (now masks)) × ((fields ≤ length (now answers)) × Room (now out) at (linesText (now word) (openIn (now masks) (now answers) fields))) ⌝ }
+    ensures { λ r. ⌜ Puts (now (out .entry)) at (linesText (now (word .entry)) (openIn (now (masks .entry)) (now (answers .entry)) fields)) (now (out .exit)) r ⌝ }
 {
     let mut place = at;
     let mut field = 0;
     while field < fields {
-        if places[field] == NO_ANSWER {
+        if answers[field] == NO_ANSWER {
             place = put_masked(out, place, word, field, masks[field]);
             field += 1;
         } else {

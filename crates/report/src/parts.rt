@@ -37,14 +37,14 @@ pub(crate) fn put_book(
 }
 
 // The number of fields that have an answer.
-fn count_answered(places: &[u8], fields: usize) -> usize
-    requires { ⌜ fields ≤ length (now places) ⌝ }
-    ensures { λ r. ⌜ r ≡ howMany fields (answered (now (places .entry))) ⌝ }
+fn count_answered(answers: &[u8], fields: usize) -> usize
+    requires { ⌜ fields ≤ length (now answers) ⌝ }
+    ensures { λ r. ⌜ r ≡ howMany fields (answered (now (answers .entry))) ⌝ }
 {
     let mut count = 0;
     let mut field = 0;
     while field < fields {
-        if places[field] == NO_ANSWER {
+        if answers[field] == NO_ANSWER {
             field += 1;
         } else {
             count += 1;
@@ -58,18 +58,18 @@ fn count_answered(places: &[u8], fields: usize) -> usize
 pub(crate) fn put_sheet(
     out: &mut [u8],
     at: usize,
-    places: &[u8],
+    answers: &[u8],
     fields: usize,
     pairs: &[u8],
     total: usize,
     struck: usize,
     masks: &[u32],
 ) -> usize
-    requires { ⌜ ListsFit (now places) fields (now pairs) total (now masks) × Room (now out) at (sheetPart (now places) fields (now pairs) total struck (now masks)) ⌝ }
-    ensures { λ r. ⌜ Puts (now (out .entry)) at (sheetPart (now (places .entry)) fields (now (pairs .entry)) total struck (now (masks .entry))) (now (out .exit)) r ⌝ }
+    requires { ⌜ ListsFit (now answers) fields (now pairs) total (now masks) × Room (now out) at (sheetPart (now answers) fields (now pairs) total struck (now masks)) ⌝ }
+    ensures { λ r. ⌜ Puts (now (out .entry)) at (sheetPart (now (answers .entry)) fields (now (pairs .entry)) total struck (now (masks .entry))) (now (out .exit)) r ⌝ }
 {
-    let numbers = [count_answered(places, fields), total, struck];
+    let numbers = [count_answered(answers, fields), total, struck];
     let alts = put_line(out, at, b"sheet", &numbers);
     let opens = put_pairs(out, alts, b"alt", pairs, total);
-    put_open(out, opens, b"open", masks, places, fields)
+    put_open(out, opens, b"open", masks, answers, fields)
 }

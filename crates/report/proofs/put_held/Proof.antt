@@ -1,9 +1,8 @@
 -- `report::put_held` meets its contract: alternatives accepts, and what it and plain filtering write gives the sheet's text. Assumes nothing.
-use mathlib.Core.Path.{_≡_}
-use lib.ListN.{length}
+use mathlib.Core.Path.{sym}
 use Rattle.consistency.specs.Consistency.{places}
 use Rattle.report.proofs.HeldTexts.{lists-accept, lists-fit, part-room, part-puts}
-use borrow.Author.Needs.{needs}
+use borrow.Author.Needs.{needs, length-unmapped}
 use Rattle.report.proofs.put_held.Statement.{statement}
 use Rattle.report.proofs.put_held.Tie as tie
 
@@ -25,8 +24,10 @@ enum-told c = search needs
 enum-known-listing : tie.Need-enum-known-listing
 enum-known-listing c = search needs
 
+-- the sheet's answers are an array, so they have their length: it stands in what is known of the sheet
 slice-aggregate-put-sheet : tie.Need-slice-aggregate-put-sheet
-slice-aggregate-put-sheet c = search needs
+slice-aggregate-put-sheet c = let start = c .before .before .before .before .before .before .before .before .before .before .before .before .before .before in
+    sym (length-unmapped _ (start .args .held .answers) places (start .good .1 .1 .1 .0 .1 .1 .0 .1 .0 .1))
 
 slice-aggregate-put-sheet-2 : tie.Need-slice-aggregate-put-sheet-2
 slice-aggregate-put-sheet-2 c = search needs
@@ -38,13 +39,13 @@ slice-aggregate-put-sheet-3 : tie.Need-slice-aggregate-put-sheet-3
 slice-aggregate-put-sheet-3 c = search needs
 
 put-sheet-requires : tie.Need-put-sheet-requires
-put-sheet-requires c κs = let long : length (c .before .before .before .before .before .before .before .before .before .before .before .before .before .before .before .before .args .held .places) ≡ places = search needs in
-    let start = (c .before .before .before .before .before .before .before .before .before .before .before .before .before .before .before .before .pre) in
+put-sheet-requires c κs = let start = c .before .before .before .before .before .before .before .before .before .before .before .before .before .before .before .before in
+    let long = length-unmapped _ (start .args .held .answers) places (start .good .1 .1 .1 .0 .1 .1 .0 .1 .0 .1) in
     let l = (c .before .before .before .before .before .before .before .before .before .before .before .before .alternatives) in
     let f = (c .before .before .before .before .before .before .before .before .before .filtered) in
     let told = c .before .before .before .before .before .listing .given .1 in (
-      lists-fit _ _ _ (start .0) (l .result) _ (l .ensures) _ _ told (f .result) _ (f .ensures) long,
-      part-room _ _ _ (start .0) (l .result) _ (l .ensures) _ _ told (f .result) _ (f .ensures) (c .before .before .before .before .before .before .before .before .before .before .before .before .before .before .before .before .args .out .now) _ (start .1),
+      lists-fit _ _ _ (start .pre .0) (l .result) _ (l .ensures) _ _ told (f .result) _ (f .ensures) long,
+      part-room _ _ _ (start .pre .0) (l .result) _ (l .ensures) _ _ told (f .result) _ (f .ensures) (start .args .out .now) _ (start .pre .1),
     )
 
 returns : tie.Need-returns

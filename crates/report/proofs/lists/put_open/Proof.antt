@@ -11,10 +11,10 @@ use Rattle.report.proofs.lists.put_open.Statement.{statement}
 use Rattle.report.proofs.lists.put_open.Tie as tie
 
 abbrev Inv-loop : tie.InvT-loop
-Inv-loop out₀ at word masks places fields place₀ field₀ out place field = (field ≤ fields) × Puts out₀ at (linesText word (openIn masks places field)) out place
+Inv-loop out₀ at word masks answers fields place₀ field₀ out place field = (field ≤ fields) × Puts out₀ at (linesText word (openIn masks answers field)) out place
 
 abbrev μ-loop : tie.MeasureT-loop
-μ-loop out₀ at word masks places fields place₀ field₀ out place field = fields - field
+μ-loop out₀ at word masks answers fields place₀ field₀ out place field = fields - field
 
 loop-holds : tie.Need-loop-holds Inv-loop μ-loop
 loop-holds c = (search needs, puts-none _ _)
@@ -29,7 +29,7 @@ shared-slice-read-put-masked : tie.Need-shared-slice-read-put-masked Inv-loop μ
 shared-slice-read-put-masked c = search needs
 
 put-masked-requires : tie.Need-put-masked-requires Inv-loop μ-loop
-put-masked-requires c κs = field-room (c .before .before .before .before .before .before .before .before .before .before .args .word .now) (c .before .before .before .before .before .before .before .before .before .before .args .masks .now) (c .before .before .before .before .before .before .before .before .before .before .args .places .now) _ (c .before .before .before .before .before .loop .inv .1) (omega arith) (c .before .before .if1 .taken) _ (c .before .before .before .before .loop-test .taken) (c .before .before .before .before .before .before .before .before .before .before .pre .1 .1)
+put-masked-requires c κs = field-room (c .before .before .before .before .before .before .before .before .before .before .args .word .now) (c .before .before .before .before .before .before .before .before .before .before .args .masks .now) (c .before .before .before .before .before .before .before .before .before .before .args .answers .now) _ (c .before .before .before .before .before .loop .inv .1) (omega arith) (c .before .before .if1 .taken) _ (c .before .before .before .before .loop-test .taken) (c .before .before .before .before .before .before .before .before .before .before .pre .1 .1)
 
 add-field : tie.Need-add-field Inv-loop μ-loop
 add-field c = search needs
@@ -38,7 +38,7 @@ loop-less : tie.Need-loop-less Inv-loop μ-loop
 loop-less c = search needs
 
 loop-again : tie.Need-loop-again Inv-loop μ-loop
-loop-again c = (search needs, field-on (c .before .before .before .before .before .before .before .before .before .before .before .before .before .args .word .now) (c .before .before .before .before .before .before .before .before .before .before .before .before .before .args .masks .now) (c .before .before .before .before .before .before .before .before .before .before .before .before .before .args .places .now) _ (c .before .before .before .before .before .before .before .before .loop .inv .1) (omega arith) (c .before .before .before .before .before .if1 .taken) (c .before .before .put-masked .ensures))
+loop-again c = (search needs, field-on (c .before .before .before .before .before .before .before .before .before .before .before .before .before .args .word .now) (c .before .before .before .before .before .before .before .before .before .before .before .before .before .args .masks .now) (c .before .before .before .before .before .before .before .before .before .before .before .before .before .args .answers .now) _ (c .before .before .before .before .before .before .before .before .loop .inv .1) (omega arith) (c .before .before .before .before .before .if1 .taken) (c .before .before .put-masked .ensures))
 
 add-field-2 : tie.Need-add-field-2 Inv-loop μ-loop
 add-field-2 c = search needs
@@ -47,13 +47,13 @@ loop-less-2 : tie.Need-loop-less-2 Inv-loop μ-loop
 loop-less-2 c = search needs
 
 loop-again-2 : tie.Need-loop-again-2 Inv-loop μ-loop
-loop-again-2 c = (search needs, field-none (c .before .before .before .before .before .before .before .before .args .word .now) (c .before .before .before .before .before .before .before .before .args .masks .now) (c .before .before .before .before .before .before .before .before .args .places .now) _ (c .before .before .before .loop .inv .1) (omega arith) (c .if1 .left))
+loop-again-2 c = (search needs, field-none (c .before .before .before .before .before .before .before .before .args .word .now) (c .before .before .before .before .before .before .before .before .args .masks .now) (c .before .before .before .before .before .before .before .before .args .answers .now) _ (c .before .before .before .loop .inv .1) (omega arith) (c .if1 .left))
 
 same-length : tie.Need-same-length Inv-loop μ-loop
 same-length c = puts-length (c .before .loop .inv .1)
 
 returns : tie.Need-returns Inv-loop μ-loop
-returns c = all-pieces (λ f. linesText (c .before .before .before .before .before .before .args .word .now) (openIn (c .before .before .before .before .before .before .args .masks .now) (c .before .before .before .before .before .before .args .places .now) f)) _ _ (c .before .loop .inv .0) (c .loop-test .left) (c .before .loop .inv .1)
+returns c = all-pieces (λ f. linesText (c .before .before .before .before .before .before .args .word .now) (openIn (c .before .before .before .before .before .before .args .masks .now) (c .before .before .before .before .before .before .args .answers .now) f)) _ _ (c .before .loop .inv .0) (c .loop-test .left) (c .before .loop .inv .1)
 
 pub put-open-spec : {M : Type 1} → statement M
 put-open-spec =

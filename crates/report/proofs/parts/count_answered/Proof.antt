@@ -10,10 +10,10 @@ use Rattle.report.proofs.parts.count_answered.Statement.{statement}
 use Rattle.report.proofs.parts.count_answered.Tie as tie
 
 abbrev Inv-loop : tie.InvT-loop
-Inv-loop places fields count₀ field₀ count field = (field ≤ fields) × (count ≤ field) × (count ≡ howMany field (answered places))
+Inv-loop answers fields count₀ field₀ count field = (field ≤ fields) × (count ≤ field) × (count ≡ howMany field (answered answers))
 
 abbrev μ-loop : tie.MeasureT-loop
-μ-loop places fields count₀ field₀ count field = fields - field
+μ-loop answers fields count₀ field₀ count field = fields - field
 
 loop-holds : tie.Need-loop-holds Inv-loop μ-loop
 loop-holds c = (search needs, search needs, refl)
@@ -28,7 +28,7 @@ loop-less : tie.Need-loop-less Inv-loop μ-loop
 loop-less c = search needs
 
 loop-again : tie.Need-loop-again Inv-loop μ-loop
-loop-again c = (search needs, search needs, count-same (c .before .before .before .before .args .places .now) _ _ (omega arith) (c .before .before .before .loop .inv .2) (c .if1 .taken))
+loop-again c = (search needs, search needs, count-same (c .before .before .before .before .args .answers .now) _ _ (omega arith) (c .before .before .before .loop .inv .2) (c .if1 .taken))
 
 add-count : tie.Need-add-count Inv-loop μ-loop
 add-count c = search needs
@@ -40,10 +40,10 @@ loop-less-2 : tie.Need-loop-less-2 Inv-loop μ-loop
 loop-less-2 c = search needs
 
 loop-again-2 : tie.Need-loop-again-2 Inv-loop μ-loop
-loop-again-2 c = (search needs, search needs, count-more (c .before .before .before .before .args .places .now) _ _ (omega arith) (c .before .before .before .loop .inv .2) (c .if1 .left))
+loop-again-2 c = (search needs, search needs, count-more (c .before .before .before .before .args .answers .now) _ _ (omega arith) (c .before .before .before .loop .inv .2) (c .if1 .left))
 
 returns : tie.Need-returns Inv-loop μ-loop
-returns c = count-end (c .before .before .args .places .now) _ _ _ (c .before .loop .inv .0) (c .loop-test .left) (c .before .loop .inv .2)
+returns c = count-end (c .before .before .args .answers .now) _ _ _ (c .before .loop .inv .0) (c .loop-test .left) (c .before .loop .inv .2)
 
 pub count-answered-spec : {M : Type 1} → statement M
 count-answered-spec =
