@@ -1,2 +1,3 @@
 -- What the proofs of several functions use.
 mod Along
+mod SheetBytes

@@ -3,8 +3,9 @@ ghost use mathlib.Core.List.{List, [], _∷_};
 ghost use Prim.Native.Nat.{ℕ};
 ghost use Rattle.format.specs.Reading.{accepted, refused};
 ghost use Rattle.sheet.specs.Shown.{numberOf, shown, shownListing, shownRow, resultOf, listResultOf};
-ghost use Rattle.sighting.specs.Exported.{Tells, Exports};
-use book::PLACES;
+ghost use Rattle.sighting.specs.Exported.{Tells, Changes, Makes};
+use super::sheets::SHEET_BYTES;
+use super::sheets::bytes_of;
 use sheet::Answer;
 use sheet::Handed;
 use sheet::HandedList;
@@ -66,24 +67,40 @@ pub(crate) fn tell_row(answer: RowAnswer, outcome: &mut [u64; 3]) -> u64
     }
 }
 
-// The answer and the sheet of a call that counts nothing; whatever the buffer holds.
-pub(crate) fn hand(handed: Handed, sheet: &mut [u8; PLACES], outcome: &mut [u64; 1]) -> u64
-    ensures { λ r. ⌜ ((o : List ℕ) → Exports r (now (outcome .exit)) (now (sheet .exit)) o (resultOf handed o)) ⌝ }
+// The answer of a call that changes a sheet, and the sheet where it is accepted. A refusal leaves every byte of it.
+pub(crate) fn change(handed: Handed, sheet: &mut [u8; SHEET_BYTES], outcome: &mut [u64; 1]) -> u64
+    ensures { λ r. ⌜ Changes r (now (outcome .exit)) (now (sheet .entry)) (now (sheet .exit)) (resultOf handed []) ⌝ }
 {
     let next = handed.sheet;
-    let places = next.places;
-    *sheet = places;
+    let answer = handed.answer;
+    let number = tell(answer, outcome);
+    if number != 0 {
+        return number;
+    }
+    *sheet = bytes_of(next);
+    number
+}
+
+// The answer and the sheet of a call that counts nothing and makes the sheet; whatever the buffer holds.
+pub(crate) fn hand(handed: Handed, sheet: &mut [u8; SHEET_BYTES], outcome: &mut [u64; 1]) -> u64
+    ensures { λ r. ⌜ ((o : List ℕ) → Makes r (now (outcome .exit)) (now (sheet .exit)) o (resultOf handed o)) ⌝ }
+{
+    let next = handed.sheet;
+    *sheet = bytes_of(next);
     let answer = handed.answer;
     tell(answer, outcome)
 }
 
-// The answer and the sheet of a call that counts alternatives; whatever the buffer holds.
-pub(crate) fn hand_list(handed: HandedList, sheet: &mut [u8; PLACES], outcome: &mut [u64; 3]) -> u64
-    ensures { λ r. ⌜ ((o : List ℕ) → Exports r (now (outcome .exit)) (now (sheet .exit)) o (listResultOf handed o)) ⌝ }
+// The answer and the sheet of a call that counts alternatives and makes the sheet; whatever the buffer holds.
+pub(crate) fn hand_list(
+    handed: HandedList,
+    sheet: &mut [u8; SHEET_BYTES],
+    outcome: &mut [u64; 3],
+) -> u64
+    ensures { λ r. ⌜ ((o : List ℕ) → Makes r (now (outcome .exit)) (now (sheet .exit)) o (listResultOf handed o)) ⌝ }
 {
     let next = handed.sheet;
-    let places = next.places;
-    *sheet = places;
+    *sheet = bytes_of(next);
     let listing = handed.answer;
     tell_list(listing, outcome)
 }

@@ -1,6 +1,6 @@
 // The library for other languages: each call of the crates below, exported with numbers, slices and arrays alone.
-// A sheet is an array of a byte for each place. A call that changes answers writes it whole with the sheet that it hands back; one that hands it back as
-// given only reads it, so that it may be shared. A call returns its outcome's number, 0 where it is accepted, and writes the place and the
+// A sheet is an array of a byte for each answer and then one for each photograph. A call that changes it writes it whole where it is accepted,
+// and no byte of it where it is refused; one that hands it back as given only reads it, so that it may be shared. A call returns its outcome's number, 0 where it is accepted, and writes the place and the
 // counts into the cells lent for them. A field, a code or a table is any number: one that the book lacks has its refusal.
 ghost use mathlib.Core.Path.{_≡_};
 ghost use mathlib.Core.Logic.{_≢_, _↔_};
@@ -9,13 +9,13 @@ ghost use Rattle.format.specs.Layout.{HasLayout};
 ghost use Rattle.format.specs.Reading.{reading};
 ghost use Rattle.format.specs.Writing.{into, showing, writing};
 ghost use Rattle.format.specs.WriteAndShow.{HasListing};
-ghost use Rattle.calls.specs.Calls.{freshSheet, cleared, entered, withdrawn, filtered, alternatives, loaded, stored, rowBehind};
+ghost use Rattle.calls.specs.Calls.{freshSheet, cleared, entered, withdrawn, photographed, filtered, alternatives, loaded, stored, rowBehind};
 ghost use Rattle.calls.specs.Histories.{sheetAfter, callsIn};
 ghost use Rattle.report.specs.Text.{reportText};
 ghost use Rattle.sheet.specs.Replayed.{Replayed};
-ghost use Rattle.sighting.specs.Exported.{Tells, Exports, Replies, resultTold};
-use book::PLACES;
+ghost use Rattle.sighting.specs.Exported.{sheetIn, sheetBytes, bytesAfter, Tells, Exports, Replies, resultTold};
 use book::Reading;
+use handed::change;
 use handed::hand;
 use handed::hand_list;
 use handed::tell;
@@ -27,8 +27,12 @@ use listing::Shown;
 use listing::Written;
 use report::Printed;
 use sheet::Sheet;
+use sheets::SHEET_BYTES;
+use sheets::bytes_of;
+use sheets::held;
 
 mod handed;
+mod sheets;
 
 // Reads a book. Cells: place, fields, tables, rows written, different rows.
 #[no_mangle]
@@ -92,83 +96,97 @@ pub extern "C" fn sighting_write(listing: &[u16], out: &mut [u8], outcome: &mut 
 
 // Makes the sheet a fresh one.
 #[no_mangle]
-pub extern "C" fn sighting_fresh(sheet: &mut [u8; PLACES])
-    ensures { λ _. ⌜ now (sheet .exit) ≡ freshSheet ⌝ }
+pub extern "C" fn sighting_fresh(sheet: &mut [u8; SHEET_BYTES])
+    ensures { λ _. ⌜ now (sheet .exit) ≡ sheetBytes freshSheet ⌝ }
 {
-    let fresh = Sheet::fresh();
-    let places = fresh.places;
-    *sheet = places;
+    *sheet = bytes_of(Sheet::fresh());
 }
 
-// Takes all answers away.
+// Takes all answers away, and their photographs.
 #[no_mangle]
-pub extern "C" fn sighting_clear(sheet: &mut [u8; PLACES])
-    ensures { λ _. ⌜ now (sheet .exit) ≡ cleared (now (sheet .entry)) .sheet ⌝ }
+pub extern "C" fn sighting_clear(sheet: &mut [u8; SHEET_BYTES])
+    ensures { λ _. ⌜ now (sheet .exit) ≡ sheetBytes (cleared (sheetIn (now (sheet .entry))) .sheet) ⌝ }
 {
-    let given = Sheet { places: *sheet };
+    let given = held(*sheet);
     let handed = given.clear();
     let next = handed.sheet;
-    let places = next.places;
-    *sheet = places;
+    *sheet = bytes_of(next);
 }
 
 // Answers a field. Cells: place.
 #[no_mangle]
 pub extern "C" fn sighting_enter(
-    sheet: &mut [u8; PLACES],
+    sheet: &mut [u8; SHEET_BYTES],
     book: &[u8],
     field: usize,
     code: usize,
     outcome: &mut [u64; 1],
 ) -> u64
-    ensures { λ r. ⌜ Exports r (now (outcome .exit)) (now (sheet .exit)) [] (entered (now (book .entry)) (now (sheet .entry)) field code) ⌝ }
+    ensures answer { λ r. ⌜ Exports r (now (outcome .exit)) (now (sheet .exit)) [] (entered (now (book .entry)) (sheetIn (now (sheet .entry))) field code) ⌝ }
+    ensures bytes { λ _. ⌜ now (sheet .exit) ≡ bytesAfter (now (sheet .entry)) (entered (now (book .entry)) (sheetIn (now (sheet .entry))) field code) ⌝ }
 {
-    let given = Sheet { places: *sheet };
-    hand(given.enter(book, field, code), sheet, outcome)
+    let given = held(*sheet);
+    change(given.enter(book, field, code), sheet, outcome)
 }
 
 // Takes the answer of a field away. Cells: place.
 #[no_mangle]
 pub extern "C" fn sighting_withdraw(
-    sheet: &mut [u8; PLACES],
+    sheet: &mut [u8; SHEET_BYTES],
     book: &[u8],
     field: usize,
     outcome: &mut [u64; 1],
 ) -> u64
-    ensures { λ r. ⌜ Exports r (now (outcome .exit)) (now (sheet .exit)) [] (withdrawn (now (book .entry)) (now (sheet .entry)) field) ⌝ }
+    ensures answer { λ r. ⌜ Exports r (now (outcome .exit)) (now (sheet .exit)) [] (withdrawn (now (book .entry)) (sheetIn (now (sheet .entry))) field) ⌝ }
+    ensures bytes { λ _. ⌜ now (sheet .exit) ≡ bytesAfter (now (sheet .entry)) (withdrawn (now (book .entry)) (sheetIn (now (sheet .entry))) field) ⌝ }
 {
-    let given = Sheet { places: *sheet };
-    hand(given.withdraw(book, field), sheet, outcome)
+    let given = held(*sheet);
+    change(given.withdraw(book, field), sheet, outcome)
+}
+
+// Backs the answer of a field by a photograph. Cells: place.
+#[no_mangle]
+pub extern "C" fn sighting_photograph(
+    sheet: &mut [u8; SHEET_BYTES],
+    book: &[u8],
+    field: usize,
+    outcome: &mut [u64; 1],
+) -> u64
+    ensures answer { λ r. ⌜ Exports r (now (outcome .exit)) (now (sheet .exit)) [] (photographed (now (book .entry)) (sheetIn (now (sheet .entry))) field) ⌝ }
+    ensures bytes { λ _. ⌜ now (sheet .exit) ≡ bytesAfter (now (sheet .entry)) (photographed (now (book .entry)) (sheetIn (now (sheet .entry))) field) ⌝ }
+{
+    let given = held(*sheet);
+    change(given.photograph(book, field), sheet, outcome)
 }
 
 // Plain filtering with one answer relaxed, or none for 255. Cells: place.
 #[no_mangle]
 pub extern "C" fn sighting_filtered(
-    sheet: &[u8; PLACES],
+    sheet: &[u8; SHEET_BYTES],
     book: &[u8],
     relaxed: usize,
     out: &mut [u32],
     outcome: &mut [u64; 1],
 ) -> u64
-    ensures { λ r. ⌜ Exports r (now (outcome .exit)) (now (sheet .entry)) (now (out .exit)) (filtered (now (book .entry)) (now (sheet .entry)) relaxed (now (out .entry))) ⌝ }
+    ensures { λ r. ⌜ Exports r (now (outcome .exit)) (now (sheet .entry)) (now (out .exit)) (filtered (now (book .entry)) (sheetIn (now (sheet .entry))) relaxed (now (out .entry))) ⌝ }
 {
-    let given = Sheet { places: *sheet };
+    let given = held(*sheet);
     let handed = given.filtered(book, relaxed, out);
     let answer = handed.answer;
     tell(answer, outcome)
 }
 
-// The alternatives of the answered fields. Cells: place, total, struck.
+// The alternatives of the answered fields without a photograph. Cells: place, total, struck.
 #[no_mangle]
 pub extern "C" fn sighting_alternatives(
-    sheet: &[u8; PLACES],
+    sheet: &[u8; SHEET_BYTES],
     book: &[u8],
     out: &mut [u8],
     outcome: &mut [u64; 3],
 ) -> u64
-    ensures { λ r. ⌜ Exports r (now (outcome .exit)) (now (sheet .entry)) (now (out .exit)) (alternatives (now (book .entry)) (now (sheet .entry)) (now (out .entry))) ⌝ }
+    ensures { λ r. ⌜ Exports r (now (outcome .exit)) (now (sheet .entry)) (now (out .exit)) (alternatives (now (book .entry)) (sheetIn (now (sheet .entry))) (now (out .entry))) ⌝ }
 {
-    let given = Sheet { places: *sheet };
+    let given = held(*sheet);
     let handed = given.alternatives(book, out);
     let listing = handed.answer;
     tell_list(listing, outcome)
@@ -177,16 +195,16 @@ pub extern "C" fn sighting_alternatives(
 // The row of a table behind a code of a field. Cells: place, found, row.
 #[no_mangle]
 pub extern "C" fn sighting_row(
-    sheet: &[u8; PLACES],
+    sheet: &[u8; SHEET_BYTES],
     book: &[u8],
     field: usize,
     code: usize,
     table: usize,
     outcome: &mut [u64; 3],
 ) -> u64
-    ensures { λ r. ⌜ Exports r (now (outcome .exit)) (now (sheet .entry)) [] (rowBehind (now (book .entry)) (now (sheet .entry)) field code table) ⌝ }
+    ensures { λ r. ⌜ Exports r (now (outcome .exit)) (now (sheet .entry)) [] (rowBehind (now (book .entry)) (sheetIn (now (sheet .entry))) field code table) ⌝ }
 {
-    let given = Sheet { places: *sheet };
+    let given = held(*sheet);
     let handed = given.row(book, field, code, table);
     let answer = handed.answer;
     tell_row(answer, outcome)
@@ -195,12 +213,13 @@ pub extern "C" fn sighting_row(
 // Reads the stored form of a sheet; a refusal leaves a fresh one. Cells: place.
 #[no_mangle]
 pub extern "C" fn sighting_load(
-    sheet: &mut [u8; PLACES],
+    sheet: &mut [u8; SHEET_BYTES],
     book: &[u8],
     form: &[u8],
     outcome: &mut [u64; 1],
 ) -> u64
-    ensures { λ r. ⌜ Exports r (now (outcome .exit)) (now (sheet .exit)) [] (loaded (now (book .entry)) (now (form .entry))) ⌝ }
+    ensures answer { λ r. ⌜ Exports r (now (outcome .exit)) (now (sheet .exit)) [] (loaded (now (book .entry)) (now (form .entry))) ⌝ }
+    ensures bytes { λ _. ⌜ now (sheet .exit) ≡ sheetBytes (loaded (now (book .entry)) (now (form .entry)) .sheet) ⌝ }
 {
     hand(sheet::load(book, form), sheet, outcome)
 }
@@ -208,14 +227,14 @@ pub extern "C" fn sighting_load(
 // Writes the stored form of a sheet. Cells: place.
 #[no_mangle]
 pub extern "C" fn sighting_store(
-    sheet: &[u8; PLACES],
+    sheet: &[u8; SHEET_BYTES],
     book: &[u8],
     out: &mut [u8],
     outcome: &mut [u64; 1],
 ) -> u64
-    ensures { λ r. ⌜ Exports r (now (outcome .exit)) (now (sheet .entry)) (now (out .exit)) (stored (now (book .entry)) (now (sheet .entry)) (now (out .entry))) ⌝ }
+    ensures { λ r. ⌜ Exports r (now (outcome .exit)) (now (sheet .entry)) (now (out .exit)) (stored (now (book .entry)) (sheetIn (now (sheet .entry))) (now (out .entry))) ⌝ }
 {
-    let given = Sheet { places: *sheet };
+    let given = held(*sheet);
     let handed = given.store(book, out);
     let answer = handed.answer;
     tell(answer, outcome)
@@ -224,13 +243,14 @@ pub extern "C" fn sighting_store(
 // A list of calls from a fresh sheet, then the alternatives of the sheet so reached, which is handed back. Cells: place, total, struck.
 #[no_mangle]
 pub extern "C" fn sighting_replay(
-    sheet: &mut [u8; PLACES],
+    sheet: &mut [u8; SHEET_BYTES],
     book: &[u8],
     calls: &[u8],
     out: &mut [u8],
     outcome: &mut [u64; 3],
 ) -> u64
     ensures answer { λ r. ⌜ Exports r (now (outcome .exit)) (now (sheet .exit)) (now (out .exit)) (alternatives (now (book .entry)) (sheetAfter (now (book .entry)) (callsIn (now (calls .entry)))) (now (out .entry))) ⌝ }
+    ensures bytes { λ _. ⌜ now (sheet .exit) ≡ sheetBytes (sheetAfter (now (book .entry)) (callsIn (now (calls .entry)))) ⌝ }
     ensures condition3 { λ r. ⌜ Replayed (now (book .entry)) (callsIn (now (calls .entry))) (now (out .entry)) (resultTold r (now (outcome .exit)) (now (sheet .exit)) (now (out .exit))) ⌝ }
 {
     hand_list(sheet::replay(book, calls, out), sheet, outcome)
