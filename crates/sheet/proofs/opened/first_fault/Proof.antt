@@ -14,10 +14,6 @@ use Rattle.sheet.proofs.Places.{fault-is}
 use borrow.Author.Needs.{needs}
 use Rattle.sheet.proofs.opened.first_fault.Statement.{statement}
 use Rattle.sheet.proofs.opened.first_fault.Tie as tie
-use Rattle.sheet.proofs.opened.first_fault.Reads as reads
-use Rattle.sheet.proofs.opened.first_fault.Lts as lts
-use Rattle.sheet.proofs.opened.code_counts.Reads as code-counts-reads
-use Rattle.sheet.proofs.opened.may_hold.Reads as may-hold-reads
 
 abbrev Inv-loop : tie.InvT-loop
 Inv-loop book list fields answers photographed counts p₀ p = (p ≤ places) × (firstBad (heldOk counts (sheetWith answers photographed)) p places ≡ faultOf (bookOf book) (sheetWith answers photographed))
@@ -25,48 +21,37 @@ Inv-loop book list fields answers photographed counts p₀ p = (p ≤ places) ×
 abbrev μ-loop : tie.MeasureT-loop
 μ-loop book list fields answers photographed counts p₀ p = places - p
 
--- src/opened.rt:56:18
 code-counts-requires : tie.Need-code-counts-requires Inv-loop μ-loop
 code-counts-requires c κs = search needs
 
--- src/opened.rt:58:5
 loop-holds : tie.Need-loop-holds Inv-loop μ-loop
 loop-holds c = let long : length (c .before .before .args .t4) ≡ places = search needs in
     (omega arith, fault-is (sheetWith (c .before .before .args .t4) (c .before .before .args .t5)) long (bookOf (c .before .before .args .book .now)) _ (c .code-counts .ensures))
 
--- src/opened.rt:59:22
 array-read-may-hold : tie.Need-array-read-may-hold Inv-loop μ-loop
 array-read-may-hold c = search needs
 
--- src/opened.rt:59:34
 array-read-may-hold-2 : tie.Need-array-read-may-hold-2 Inv-loop μ-loop
 array-read-may-hold-2 c = search needs
 
--- src/opened.rt:59:51
 array-read-may-hold-3 : tie.Need-array-read-may-hold-3 Inv-loop μ-loop
 array-read-may-hold-3 c = search needs
 
--- src/opened.rt:59:13
 may-hold-requires : tie.Need-may-hold-requires Inv-loop μ-loop
 may-hold-requires c κs = search needs
 
--- src/opened.rt:60:13
 returns : tie.Need-returns Inv-loop μ-loop
 returns c = bad-here _ _ _ (c .before .before .loop-test .taken) (sym (c .before .may-hold .ensures) ∙ not-true _ (c .if1 .taken)) ∙ c .before .before .before .loop .inv .1
 
--- src/opened.rt:62:9
 add-p : tie.Need-add-p Inv-loop μ-loop
 add-p c = search needs
 
--- src/opened.rt:58:5
 loop-less : tie.Need-loop-less Inv-loop μ-loop
 loop-less c = search needs
 
--- src/opened.rt:58:5
 loop-again : tie.Need-loop-again Inv-loop μ-loop
 loop-again c = (omega arith, bad-on _ _ _ (c .before .before .loop-test .taken) (sym (c .before .may-hold .ensures) ∙ not-false _ (c .if1 .left)) ∙ c .before .before .before .loop .inv .1)
 
--- src/opened.rt:46:1
 returns-2 : tie.Need-returns-2 Inv-loop μ-loop
 returns-2 c = bad-none _ _ _ (c .loop-test .left) ∙ c .before .loop .inv .1
 
