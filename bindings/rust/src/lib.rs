@@ -242,6 +242,15 @@ impl From<[u8; SHEET_BYTES]> for Sheet {
     }
 }
 
+impl From<[u8; PLACES]> for Sheet {
+    /// The answers of all places, none of them photographed.
+    fn from(answers: [u8; PLACES]) -> Sheet {
+        let mut bytes = [0; SHEET_BYTES];
+        bytes[..PLACES].copy_from_slice(&answers);
+        Sheet(bytes)
+    }
+}
+
 // SAFETY of every call below: a sheet is an array of SHEET_BYTES, each pointer has its slice's length beside it, as many cells are
 // lent as the header says, and Rust's borrows keep what is written apart from all else.
 impl Sheet {

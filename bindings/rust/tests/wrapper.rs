@@ -99,6 +99,7 @@ fn a_sheet_shows_answers_and_photographs() {
     (bytes[0], bytes[1], bytes[PLACES]) = (0, 1, 1);
     assert_eq!(photographed().bytes(), &bytes);
     assert_eq!(Sheet::from(bytes), photographed());
+    assert_eq!(Sheet::from([NO_ANSWER; PLACES]), Sheet::fresh());
 }
 
 /// In the bytes of a sheet any number but 0 is a photograph: one sheet, however it is told.
@@ -299,7 +300,7 @@ fn a_listing_or_a_book_that_does_not_fit_is_an_ordinary_refusal() {
 #[test]
 fn the_lengths_named_suffice() {
     let book = [&[32; 60][..], &[0, 0, 60, 0, 2, 0xE5]].concat();
-    let sheet = Sheet::load(&book, &[31; PLACES]).expect("a code of each field");
+    let sheet = Sheet::from([31; PLACES]);
     assert_eq!(sheet.alternatives(&book, &mut [0; PAIRS_BYTES]).map(|found| found.total), Ok(1920));
     assert_eq!(sheet.alternatives(&book, &mut [0; PAIRS_BYTES - 1]), Err(TOO_FEW));
     assert_eq!(sheet.filtered(&book, None, &mut [0; NUMBERS]), Ok(()));
