@@ -163,7 +163,7 @@ fn each_length_of_a_stored_sheet() {
 /// With one field lifted the other 59 have one code of 32 each; in tables of no rows nothing stands in any of the 61 cases.
 #[test]
 fn the_most_lines_and_marks() {
-    let (sheet, mut pairs) = (Sheet::from(sheet::Sheet::of(&[31; PLACES])), [7; PAIRS_BYTES]);
+    let (sheet, mut pairs) = (Sheet::from([31; PLACES]), [7; PAIRS_BYTES]);
     assert_eq!(sheet.alternatives(&full(false), &mut pairs[..PAIRS_BYTES - 1]), Err(TOO_FEW));
     assert_eq!(pairs, [7; PAIRS_BYTES]);
     let most = Alternatives { total: 1_920, struck: 60 * 31 + 60 * (59 * 31) };
@@ -192,7 +192,7 @@ fn a_list_of_calls_on_all_fields() {
     let enter: Vec<u8> = (0..62).flat_map(|field| [0, field, 31]).collect();
     let withdraw: Vec<u8> = (32..62).flat_map(|field| [1, field, 0]).collect();
     let (reached, found) = Sheet::replay(&book, &enter, &mut pairs);
-    assert_eq!((reached, found.map(|found| found.total)), (sheet::Sheet::of(&[31; PLACES]).into(), Ok(1_920)));
+    assert_eq!((reached, found.map(|found| found.total)), (Sheet::from([31; PLACES]), Ok(1_920)));
     let (reached, found) = Sheet::replay(&book, &[&enter[..], &withdraw].concat(), &mut pairs);
     assert_eq!((reached, found.map(|found| found.total)), (sheet::Sheet::of(&[31; 32]).into(), Ok(1_024)));
     let (reached, found) = Sheet::replay(&book, &[&enter[..], &[2, 0, 0, 0, 59, 0]].concat(), &mut pairs);

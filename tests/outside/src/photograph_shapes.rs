@@ -24,10 +24,10 @@ const OF_AN_ANSWER: &[&str] = &["withdraw", "photograph"];
 
 pub const SHAPES: &[Shape] = &[
     ("some answers photographed", 1_400, OF_A_SHEET, |made| made.is_sound() && made.is_part_photographed()),
-    ("all answers photographed", 1_000, OF_A_SHEET, |made| made.is_sound() && made.is_all_photographed()),
+    ("all answers photographed", 1_000, OF_A_SHEET, |made| made.is_sound() && made.sheet().is_all_photographed()),
     ("a photograph's byte above 1", 940, OF_A_SHEET, |made| made.is_sound() && made.has_byte_above_1()),
     ("14 for a photograph without an answer", 720, OF_A_SHEET, |made| made.misses_answer(0..=59) && made.fault_is_of_field()),
-    ("14 for a photograph behind the fields", 330, OF_A_SHEET, |made| made.misses_answer(0..=59) && !made.fault_is_of_field()),
+    ("14 for a photograph behind the fields", 320, OF_A_SHEET, |made| made.misses_answer(0..=59) && !made.fault_is_of_field()),
     ("14 for a photograph at 32 to 58, a field", 30, OF_A_SHEET, |made| made.misses_answer(32..=58) && made.fault_is_of_field()),
     ("14 for a photograph at 59, a field", 4, OF_A_SHEET, |made| made.misses_answer(59..=59) && made.fault_is_of_field()),
     ("14 for a photograph at 59 behind the fields", 30, OF_A_SHEET, |made| {
@@ -39,34 +39,34 @@ pub const SHAPES: &[Shape] = &[
     ("14 for a photograph before an answer at fault", 320, OF_A_SHEET, |made| {
         made.misses_answer(0..=59) && made.faults().any(|place| made.sheet().is_answered(place))
     }),
-    ("14 for an answer before a photograph at fault", 320, OF_A_SHEET, |made| {
+    ("14 for an answer before a photograph at fault", 310, OF_A_SHEET, |made| {
         made.number() == 14 && !made.misses_answer(0..=59) && made.faults().any(|place| !made.sheet().is_answered(place))
     }),
-    ("14 for a photographed answer", 210, OF_A_SHEET, |made| {
+    ("14 for a photographed answer", 200, OF_A_SHEET, |made| {
         made.place_at_fault().is_some_and(|place| made.sheet().is_answered(place) && made.sheet().is_photographed(place))
     }),
-    ("14 beside photographed answers", 750, OF_A_SHEET, |made| made.number() == 14 && made.has_sound_photograph()),
-    ("accepted beside a photograph", 290, CHANGING, |made| made.number() == 0 && made.is_beside_photograph()),
-    ("accepted next to a photograph", 140, CHANGING, |made| made.number() == 0 && made.is_next_to_photograph()),
-    ("accepted with a photograph's byte above 1", 95, CHANGING, |made| made.number() == 0 && made.has_byte_above_1()),
+    ("14 beside photographed answers", 730, OF_A_SHEET, |made| made.number() == 14 && made.has_sound_photograph()),
+    ("accepted beside a photograph", 260, CHANGING, |made| made.number() == 0 && made.is_beside_photograph()),
+    ("accepted next to a photograph", 130, CHANGING, |made| made.number() == 0 && made.is_next_to_photograph()),
+    ("accepted with a photograph's byte above 1", 85, CHANGING, |made| made.number() == 0 && made.has_byte_above_1()),
     ("1 to 13 with a photograph's byte above 1", 770, CHANGING, |made| made.is_refused(1..=13) && made.has_byte_above_1()),
-    ("14 with a photograph's byte above 1", 550, CHANGING, |made| made.is_refused(14..=14) && made.has_byte_above_1()),
+    ("14 with a photograph's byte above 1", 530, CHANGING, |made| made.is_refused(14..=14) && made.has_byte_above_1()),
     ("15 to 22 with a photograph's byte above 1", 470, CHANGING, |made| made.is_refused(15..=22) && made.has_byte_above_1()),
     ("14 before 15", 1_200, CHANGING, |made| made.number() == 14 && made.lacks_field()),
     ("15 for a field that the sheet has a place for", 520, CHANGING, |made| made.number() == 15 && made.field() < PLACES),
-    ("14 before 16", 910, ENTER, |made| made.number() == 14 && made.lacks_code()),
+    ("14 before 16", 900, ENTER, |made| made.number() == 14 && made.lacks_code()),
     ("14 before 22", 250, OF_A_FREE_FIELD, |made| made.number() == 14 && made.is_of_photographed()),
     ("14 before 17", 190, OF_AN_ANSWER, |made| made.number() == 14 && made.lacks_answer()),
     ("17 beside a photograph", 60, OF_AN_ANSWER, |made| made.number() == 17 && made.sheet().has_photograph()),
-    ("16 before 22", 430, ENTER, |made| made.number() == 16 && made.is_of_photographed()),
-    ("22 for the code held", 350, ENTER, |made| made.number() == 22 && made.is_of_code_held()),
-    ("22 for another code", 330, ENTER, |made| made.number() == 22 && !made.is_of_code_held()),
-    ("22 for field 0", 140, OF_A_FREE_FIELD, |made| made.number() == 22 && made.field() == 0),
+    ("16 before 22", 420, ENTER, |made| made.number() == 16 && made.is_of_photographed()),
+    ("22 for the code held", 330, ENTER, |made| made.number() == 22 && made.is_of_code_held()),
+    ("22 for another code", 320, ENTER, |made| made.number() == 22 && !made.is_of_code_held()),
+    ("22 for field 0", 120, OF_A_FREE_FIELD, |made| made.number() == 22 && made.field() == 0),
     ("22 for a field from 32 to 58", 30, OF_A_FREE_FIELD, |made| made.number() == 22 && (32..=58).contains(&made.field())),
     ("22 for field 59", 6, OF_A_FREE_FIELD, |made| made.number() == 22 && made.field() == 59),
     ("22 by a byte above 1", 100, OF_A_FREE_FIELD, |made| made.number() == 22 && made.sheet().photographs[made.field()] > 1),
     ("22 where one of several answers is photographed", 120, OF_A_FREE_FIELD, |made| {
-        made.number() == 22 && made.photographed().count() == 1 && made.is_part_photographed()
+        made.number() == 22 && made.sheet().photographed().count() == 1 && made.is_part_photographed()
     }),
     ("a photograph set", 2_500, PHOTOGRAPH, |made| made.number() == 0 && !made.is_of_photographed()),
     ("a photograph set again", 800, PHOTOGRAPH, |made| made.number() == 0 && made.is_of_photographed()),
@@ -75,12 +75,14 @@ pub const SHAPES: &[Shape] = &[
     }),
     ("code 0 photographed", 1_200, PHOTOGRAPH, |made| made.number() == 0 && made.sheet().answers[made.field()] == 0),
     ("the last answer photographed", 75, PHOTOGRAPH, |made| made.number() == 0 && made.is_last_in_doubt()),
-    ("22 for field 0 alone", 310, STORE, |made| made.number() == 22 && made.photographed().eq([0])),
-    ("22 for the last field alone", 420, STORE, |made| made.number() == 22 && made.photographed().eq([made.fields() - 1])),
-    ("22 for field 59 alone", 6, STORE, |made| made.number() == 22 && made.photographed().eq([59])),
-    ("22 for all answers", 1_000, STORE, |made| made.number() == 22 && made.is_all_photographed()),
+    ("22 for field 0 alone", 310, STORE, |made| made.number() == 22 && made.sheet().photographed().eq([0])),
+    ("22 for the last field alone", 410, STORE, |made| {
+        made.number() == 22 && made.sheet().photographed().eq([made.fields() - 1])
+    }),
+    ("22 for field 59 alone", 5, STORE, |made| made.number() == 22 && made.sheet().photographed().eq([59])),
+    ("22 for all answers", 1_000, STORE, |made| made.number() == 22 && made.sheet().is_all_photographed()),
     ("22 by a byte above 1 alone", 190, STORE, |made| {
-        made.number() == 22 && made.photographed().all(|place| made.sheet().photographs[place] > 1)
+        made.number() == 22 && made.sheet().photographed().all(|place| made.sheet().photographs[place] > 1)
     }),
     ("22 before 18", 2_000, STORE, |made| made.number() == 22 && made.trial.lent.elements() < made.fields()),
     ("22 where enough is lent", 1_800, STORE, |made| made.number() == 22 && made.trial.lent.elements() >= made.fields()),
@@ -90,65 +92,61 @@ pub const SHAPES: &[Shape] = &[
         made.number() == 0 && made.is_of_photographed() && made.frees_codes()
     }),
     ("18 with a photographed field relaxed", 780, FILTERED, |made| made.number() == 18 && made.is_of_photographed()),
-    ("another field relaxed beside a photograph", 410, FILTERED, |made| made.number() == 0 && made.is_beside_photograph()),
-    ("none relaxed beside a photograph", 720, FILTERED, |made| {
+    ("another field relaxed beside a photograph", 380, FILTERED, |made| made.number() == 0 && made.is_beside_photograph()),
+    ("none relaxed beside a photograph", 700, FILTERED, |made| {
         made.number() == 0 && made.field() == 255 && made.sheet().has_photograph()
     }),
-    ("a row beside a photograph", 720, ROW, |made| made.finds_row(1) && made.is_beside_photograph()),
-    ("none beside a photograph", 930, ROW, |made| made.finds_row(0) && made.is_beside_photograph()),
-    ("a row of a photographed field", 570, ROW, |made| made.finds_row(1) && made.is_of_photographed()),
+    ("a row beside a photograph", 700, ROW, |made| made.finds_row(1) && made.is_beside_photograph()),
+    ("none beside a photograph", 880, ROW, |made| made.finds_row(0) && made.is_beside_photograph()),
+    ("a row of a photographed field", 580, ROW, |made| made.finds_row(1) && made.is_of_photographed()),
     ("photographs before it", 6_500, MAKING, |made| made.sheet().has_photograph()),
     ("a photograph at 59 before it", 320, MAKING, |made| made.sheet().is_photographed(59)),
-    ("a photograph behind the fields before it", 650, MAKING, |made| {
-        made.reading.is_ok() && (made.fields()..PLACES).any(|place| made.sheet().is_photographed(place))
+    ("a photograph behind the fields before it", 630, MAKING, |made| {
+        made.reading.is_ok() && made.sheet().photographed().any(|place| place >= made.fields())
     }),
     ("a photograph without an answer before it", 2_000, MAKING, |made| {
-        (0..PLACES).any(|place| !made.sheet().is_answered(place) && made.sheet().is_photographed(place))
+        made.sheet().photographed().any(|place| !made.sheet().is_answered(place))
     }),
     ("refused, photographs before it", 3_500, &["load", "replay"], |made| made.number() != 0 && made.sheet().has_photograph()),
-    ("a photograph reached", 3_500, REPLAY, |made| made.trial.left.sheet.has_photograph()),
-    ("a photograph from 32 to 58 reached", 250, REPLAY, |made| made.reaches_photograph(32..=58)),
-    ("a photograph at 59 reached", 100, REPLAY, |made| made.reaches_photograph(59..=59)),
-    ("all answers reached are photographed", 1_300, REPLAY, |made| is_all_photographed(&made.trial.left.sheet)),
-    ("18 with a photograph reached", 900, REPLAY, |made| made.number() == 18 && made.trial.left.sheet.has_photograph()),
-    ("a photograph set in a list", 4_500, REPLAY, |made| made.has_step(|step| step.is(3, 0) && !step.of_photographed())),
-    ("a photograph set again in a list", 1_900, REPLAY, |made| made.has_step(|step| step.is(3, 0) && step.of_photographed())),
+    ("a photograph reached", 3_000, REPLAY, |made| made.trial.left.sheet.has_photograph()),
+    ("a photograph from 32 to 58 reached", 220, REPLAY, |made| made.reaches_photograph(32..=58)),
+    ("a photograph at 59 reached", 90, REPLAY, |made| made.reaches_photograph(59..=59)),
+    ("all answers reached are photographed", 1_200, REPLAY, |made| made.trial.left.sheet.is_all_photographed()),
+    ("18 with a photograph reached", 800, REPLAY, |made| made.number() == 18 && made.trial.left.sheet.has_photograph()),
+    ("a photograph set in a list", 4_000, REPLAY, |made| made.has_step(|step| step.is(3, 0) && !step.of_photographed())),
+    ("a photograph set again in a list", 1_800, REPLAY, |made| made.has_step(|step| step.is(3, 0) && step.of_photographed())),
     ("a photograph with a third byte that is no code", 3_500, REPLAY, |made| {
         made.has_step(|step| step.is(3, 0) && is_no_code(step.book, step.field(), step.call[2]))
     }),
     ("15 of a photograph in a list", 1_700, REPLAY, |made| made.has_step(|step| step.is(3, 15))),
     ("17 of a photograph in a list", 2_000, REPLAY, |made| made.has_step(|step| step.is(3, 17))),
     ("22 of the code held in a list", 1_000, REPLAY, |made| made.has_step(|step| step.is(0, 22) && step.of_code_held())),
-    ("22 of another code in a list", 770, REPLAY, |made| made.has_step(|step| step.is(0, 22) && !step.of_code_held())),
+    ("22 of another code in a list", 740, REPLAY, |made| made.has_step(|step| step.is(0, 22) && !step.of_code_held())),
     ("22 of a withdraw in a list", 1_100, REPLAY, |made| made.has_step(|step| step.is(1, 22))),
-    ("16 before 22 in a list", 1_000, REPLAY, |made| made.has_step(|step| step.is(0, 16) && step.of_photographed())),
-    ("an enter beside a photograph in a list", 3_000, REPLAY, |made| {
+    ("16 before 22 in a list", 980, REPLAY, |made| made.has_step(|step| step.is(0, 16) && step.of_photographed())),
+    ("an enter beside a photograph in a list", 2_500, REPLAY, |made| {
         made.has_step(|step| step.is(0, 0) && step.before.has_photograph())
     }),
-    ("a withdraw beside a photograph in a list", 1_800, REPLAY, |made| {
+    ("a withdraw beside a photograph in a list", 1_700, REPLAY, |made| {
         made.has_step(|step| step.is(1, 0) && step.before.has_photograph())
     }),
-    ("a clear of photographs in a list", 1_800, REPLAY, |made| {
+    ("a clear of photographs in a list", 1_700, REPLAY, |made| {
         made.has_step(|step| step.is(2, 0) && step.before.has_photograph())
     }),
-    ("an answer reached behind a clear of photographs", 830, REPLAY, |made| made.answers_behind_clear()),
-    ("a kind above 3 on an answer in a list", 960, REPLAY, |made| made.has_step(|step| step.call[0] > 3 && step.of_answered())),
-    ("kind 4 on an answer in a list", 15, REPLAY, |made| made.has_step(|step| step.call[0] == 4 && step.of_answered())),
+    ("an answer reached behind a clear of photographs", 810, REPLAY, |made| made.answers_behind_clear()),
+    ("a kind above 3 on an answer in a list", 910, REPLAY, |made| made.has_step(|step| step.call[0] > 3 && step.of_answered())),
+    ("kind 4 on an answer in a list", 16, REPLAY, |made| made.has_step(|step| step.call[0] == 4 && step.of_answered())),
     ("kind 255 on an answer in a list", 14, REPLAY, |made| made.has_step(|step| step.call[0] == 255 && step.of_answered())),
-    ("a photograph in a list by a refused book", 3_000, REPLAY, |made| {
+    ("a photograph in a list by a refused book", 2_500, REPLAY, |made| {
         made.reading.is_err() && made.trial.call.list().chunks_exact(3).any(|call| call[0] == 3)
     }),
-    ("lists of ten calls and more, one in five or fewer refused", 2_500, REPLAY, |made| {
+    ("lists of ten calls and more, one in five or fewer refused", 2_000, REPLAY, |made| {
         made.steps().is_some_and(|steps| {
             let refused = steps.iter().filter(|step| step.number != 0).count();
             steps.len() >= 10 && (1..=steps.len() / 5).contains(&refused)
         })
     }),
 ];
-
-fn is_all_photographed(sheet: &Sheet) -> bool {
-    sheet.has_photograph() && !(0..PLACES).any(|place| sheet.is_in_doubt(place))
-}
 
 /// A call of a list on the sheet that those before it reach, and its number.
 struct Step<'a> {
@@ -217,16 +215,8 @@ impl Made<'_> {
         self.place_at_fault().is_some_and(|place| places.contains(&place) && !self.sheet().is_answered(place))
     }
 
-    fn photographed(&self) -> impl Iterator<Item = usize> + '_ {
-        (0..PLACES).filter(|&place| self.sheet().is_photographed(place))
-    }
-
     fn is_part_photographed(&self) -> bool {
-        self.sheet().has_photograph() && !self.is_all_photographed()
-    }
-
-    fn is_all_photographed(&self) -> bool {
-        is_all_photographed(self.sheet())
+        self.sheet().has_photograph() && !self.sheet().is_all_photographed()
     }
 
     fn has_byte_above_1(&self) -> bool {
@@ -235,7 +225,7 @@ impl Made<'_> {
 
     /// Some photographed place is not at fault.
     fn has_sound_photograph(&self) -> bool {
-        self.photographed().any(|place| !self.faults().any(|fault| fault == place))
+        self.sheet().photographed().any(|place| !self.faults().any(|fault| fault == place))
     }
 
     fn is_of_photographed(&self) -> bool {
@@ -308,7 +298,7 @@ impl Made<'_> {
     /// A field that was photographed before a clear has an answer in the end.
     fn answers_behind_clear(&self) -> bool {
         let reached = &self.trial.left.sheet;
-        let again = |step: &Step| (0..PLACES).any(|place| step.before.is_photographed(place) && reached.is_answered(place));
+        let again = |step: &Step| step.before.photographed().any(|place| reached.is_answered(place));
         self.steps().is_some_and(|steps| {
             let last = steps.iter().rposition(|step| step.is(2, 0));
             last.is_some_and(|clear| again(&steps[clear]))

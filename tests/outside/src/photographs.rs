@@ -5,7 +5,7 @@ use crate::desk::step;
 use crate::random::Random;
 use crate::sheet::{Sheet, FRESH, NO_ANSWER, PLACES};
 
-/// Of how many lists' calls one is refused.
+/// Of so many calls of a list one is refused.
 const REFUSED: u64 = 10;
 
 /// Mostly 1; else another byte that counts as 1.
@@ -44,16 +44,19 @@ pub fn some_photographed(r: &mut Random, book: &Book, sheet: &Sheet) -> Option<u
     one_of(r, &fields(book, |field| sheet.is_photographed(field)))
 }
 
-/// Calls on the sheet that the ones before them reach, with photographs anywhere among them; about one in ten is refused.
+/// The calls of a beginning, and others on the sheet that those before them reach, with photographs anywhere among them; about one in
+/// ten of all is refused.
 pub fn history(r: &mut Random, book: &Book, beginning: Vec<[u8; 3]>) -> Vec<u8> {
     let (mut calls, mut sheet) = (Vec::new(), FRESH);
-    let most = r.one_of(&[2, 10, 10, 30, 100]);
-    let behind = r.from(0, most);
-    for i in 0..beginning.len() + behind {
-        let call = match beginning.get(i) {
-            _ if r.one_in(REFUSED) => refused(r, book, &sheet),
-            Some(&call) => call,
-            None => accepted(r, book, &sheet),
+    let most = r.one_of(&[0, 2, 10, 10, 30, 100]);
+    let mut left = beginning.len() + r.from(0, most);
+    let mut beginning = beginning.into_iter();
+    while left > 0 {
+        let call = if r.one_in(REFUSED) {
+            refused(r, book, &sheet)
+        } else {
+            left -= 1;
+            beginning.next().unwrap_or_else(|| accepted(r, book, &sheet))
         };
         step(book, &mut sheet, &call);
         calls.extend(call);
@@ -111,7 +114,7 @@ mod tests {
     use super::{history, take};
     use crate::desk::Desk;
     use crate::random::{book, form, Random};
-    use crate::sheet::{Sheet, PLACES};
+    use crate::sheet::Sheet;
 
     #[test]
     fn about_one_call_in_ten_is_refused() {
@@ -141,11 +144,8 @@ mod tests {
             let book = book(&mut r);
             let mut sheet = Sheet::of(&form(&mut r, &book));
             take(&mut r, &mut sheet);
-            let answered = (0..PLACES).filter(|&place| sheet.is_answered(place));
-            let photographed = (0..PLACES).filter(|&place| sheet.is_photographed(place)).collect::<Vec<_>>();
-            assert!(photographed.iter().all(|&place| sheet.is_answered(place)));
-            let share = if photographed.is_empty() { 0 } else { 1 + (photographed.len() == answered.count()) as usize };
-            shares[share] += 1;
+            assert!(sheet.photographed().all(|place| sheet.is_answered(place)));
+            shares[sheet.has_photograph() as usize + sheet.is_all_photographed() as usize] += 1;
         }
         assert!(shares.iter().all(|&times| times > 30), "{shares:?}");
     }

@@ -48,26 +48,26 @@ pub const PHOTOGRAPHED: [Shape; 17] = [
     ("an answer in doubt beside a photographed one", 1_400, |pass| !pass.photographed.is_empty() && pass.cases.len() > 1),
     ("all answers photographed, codes struck", 990, |pass| pass.all_photographed() && pass.cases[0].struck() > 0),
     ("all answers photographed, contradictory", 570, |pass| pass.all_photographed() && pass.contradicts()),
-    ("contradictory, some answers photographed", 1_500, |pass| pass.contradicts() && !pass.photographed.is_empty()),
+    ("contradictory, some answers photographed", 1_400, |pass| pass.contradicts() && !pass.photographed.is_empty()),
     ("a photographed field that would be listed", 1_200, |pass| pass.photographed.iter().any(is_listed)),
     ("a photographed field that would be passed over", 600, |pass| pass.photographed.iter().any(is_passed_over)),
     ("only photographed fields would be listed", 690, |pass| pass.photographed.iter().any(is_listed) && !pass.some_listed()),
     ("only a photographed field would mend", 75, |pass| {
         pass.contradicts() && pass.photographed.iter().any(is_listed) && pass.cases.len() > 1 && !pass.some_listed()
     }),
-    ("a field listed before a photographed one", 510, |pass| pass.lists_beside(|listed, other| listed < other)),
-    ("a field listed behind a photographed one", 460, |pass| pass.lists_beside(|listed, other| listed > other)),
-    ("a field listed next to a photographed one", 500, |pass| pass.lists_beside(|listed, other| listed.abs_diff(other) == 1)),
-    ("a field passed over beside a photographed one", 460, |pass| {
+    ("a field listed before a photographed one", 490, |pass| pass.lists_beside(|listed, other| listed < other)),
+    ("a field listed behind a photographed one", 450, |pass| pass.lists_beside(|listed, other| listed > other)),
+    ("a field listed next to a photographed one", 490, |pass| pass.lists_beside(|listed, other| listed.abs_diff(other) == 1)),
+    ("a field passed over beside a photographed one", 430, |pass| {
         !pass.photographed.is_empty() && pass.passed_over().next().is_some()
     }),
     ("a photographed field whose case would strike otherwise", 1_400, |pass| {
         pass.photographed.iter().any(|case| case.struck() != pass.cases[0].struck())
     }),
-    ("a photographed field from 32 to 58", 250, |pass| pass.photographs(32..=58)),
+    ("a photographed field from 32 to 58", 220, |pass| pass.photographs(32..=58)),
     ("field 59 photographed", 70, |pass| pass.photographs(59..=59)),
     ("a field from 32 on listed beside a photographed one", 110, |pass| pass.lists_beside(|listed, _| listed >= 32)),
-    ("case 33 to 59 listed beside a photographed field", 20, |pass| !pass.photographed.is_empty() && pass.lists_case(33..=59)),
+    ("case 33 to 59 listed beside a photographed field", 19, |pass| !pass.photographed.is_empty() && pass.lists_case(33..=59)),
 ];
 
 /// The names of the shapes that a sheet has.

@@ -28,6 +28,11 @@ impl Sheet {
         self
     }
 
+    /// The sheet with those places photographed that are so, and no others.
+    pub fn photographed_where(&self, so: impl Fn(usize) -> bool) -> Sheet {
+        Sheet { photographs: std::array::from_fn(|place| so(place) as u8), ..*self }
+    }
+
     pub fn from_bytes(bytes: [u8; 2 * PLACES]) -> Sheet {
         let (mut answers, mut photographs) = ([0; PLACES], [0; PLACES]);
         answers.copy_from_slice(&bytes[..PLACES]);
@@ -50,8 +55,17 @@ impl Sheet {
         self.photographs[place] != 0
     }
 
+    pub fn photographed(&self) -> impl Iterator<Item = usize> + '_ {
+        (0..PLACES).filter(|&place| self.is_photographed(place))
+    }
+
     pub fn has_photograph(&self) -> bool {
-        (0..PLACES).any(|place| self.is_photographed(place))
+        self.photographed().next().is_some()
+    }
+
+    /// Some place is photographed, and no answer is not.
+    pub fn is_all_photographed(&self) -> bool {
+        self.has_photograph() && !(0..PLACES).any(|place| self.is_in_doubt(place))
     }
 
     /// Answered, and without a photograph.
@@ -61,6 +75,6 @@ impl Sheet {
 
     /// The same answers and photographs, these by 0 and 1.
     pub fn in_bits(&self) -> Sheet {
-        Sheet { photographs: self.photographs.map(|photograph| photograph.min(1)), ..*self }
+        self.photographed_where(|place| self.is_photographed(place))
     }
 }

@@ -3,7 +3,7 @@
 
 use super::calling::refused_by_18;
 use super::lifting::{looking_at, struck_in};
-use super::places::{each_call, lines_where, marks_where};
+use super::places::{each_call, lines_where, marks_where, replaying, unless};
 use super::{
     Listed, Seen,
     Wrong::{Left, Part},
@@ -18,10 +18,6 @@ const fn listing(what: &'static str, exchange: fn(&mut Desk)) -> Listed {
     (what, WITH_PAIRS, Part(exchange))
 }
 
-const fn replaying(what: &'static str, exchange: fn(&mut Desk)) -> Listed {
-    (what, &["replay"], Part(exchange))
-}
-
 pub const SLIPS: &[Listed] = &[
     listing("photographed fields listed and their cases counted", |desk| desk.alternatives = photographs_ignored),
     listing("photographed fields listed, their cases not counted", |desk| {
@@ -31,22 +27,23 @@ pub const SLIPS: &[Listed] = &[
         desk.alternatives = |b, s, l| Alternatives { struck: photographs_ignored(b, s, l).struck, ..alternatives(b, s, l) }
     }),
     listing("photographed fields lifted, the others not", |desk| {
-        desk.alternatives = |b, s, l| alternatives(b, &of_these(s, |place| !s.is_photographed(place)), l)
+        desk.alternatives = |b, s, l| alternatives(b, &s.photographed_where(|place| !s.is_photographed(place)), l)
     }),
     listing("fields from 32 on lifted although photographed", |desk| {
-        desk.alternatives = |b, s, l| alternatives(b, &of_these(s, |place| place < 32 && s.is_photographed(place)), l)
+        desk.alternatives = |b, s, l| alternatives(b, &s.photographed_where(|place| place < 32 && s.is_photographed(place)), l)
     }),
     listing("field 59 lifted although photographed", |desk| {
-        desk.alternatives = |b, s, l| alternatives(b, &of_these(s, |place| place < 59 && s.is_photographed(place)), l)
+        desk.alternatives = |b, s, l| alternatives(b, &s.photographed_where(|place| place < 59 && s.is_photographed(place)), l)
     }),
     listing("field 0 lifted although photographed", |desk| {
-        desk.alternatives = |b, s, l| alternatives(b, &of_these(s, |place| place > 0 && s.is_photographed(place)), l)
+        desk.alternatives = |b, s, l| alternatives(b, &s.photographed_where(|place| place > 0 && s.is_photographed(place)), l)
     }),
     listing("the field behind a photographed one not listed", |desk| {
-        desk.alternatives = |b, s, l| alternatives(b, &of_these(s, |place| place > 0 && s.is_photographed(place - 1)), l)
+        desk.alternatives = |b, s, l| alternatives(b, &s.photographed_where(|place| place > 0 && s.is_photographed(place - 1)), l)
     }),
     listing("a field lifted only before the first photographed one", |desk| {
-        desk.alternatives = |b, s, l| alternatives(b, &of_these(s, |place| place >= photographed(s).next().unwrap_or(PLACES)), l)
+        desk.alternatives =
+            |b, s, l| alternatives(b, &s.photographed_where(|place| place >= s.photographed().next().unwrap_or(PLACES)), l)
     }),
     listing("nothing listed beside a photograph", |desk| {
         desk.alternatives = |b, s, l| lines_where(b, s, l, |_| !s.has_photograph())
@@ -94,87 +91,63 @@ pub const SLIPS: &[Listed] = &[
     }),
     replaying("a photograph only of the code in its third byte", |desk| {
         desk.step = |b, s, c| {
-            changed(b, s, c, |before, c| c[0] == 3 && before.answers[c[1] as usize] != c[2], |after, before, _| *after = *before)
+            changed(b, s, c, [3, 0], |after, before, field, code| {
+                if before.answers[field] != code {
+                    *after = *before;
+                }
+            })
         }
     }),
     replaying("a photograph that gives the code in its third byte", |desk| {
-        desk.step = |b, s, c| changed(b, s, c, |_, c| c[0] == 3, |after, _, c| after.answers[c[1] as usize] = c[2])
+        desk.step = |b, s, c| changed(b, s, c, [3, 0], |after, _, field, code| after.answers[field] = code)
     }),
     replaying("a second photograph takes the first away", |desk| {
         desk.step = |b, s, c| {
-            changed(
-                b,
-                s,
-                c,
-                |before, c| c[0] == 3 && before.is_photographed(c[1] as usize),
-                |after, _, c| after.photographs[c[1] as usize] = 0,
-            )
+            changed(b, s, c, [3, 0], |after, before, field, _| after.photographs[field] = !before.is_photographed(field) as u8)
         }
-    }),
-    replaying("an enter takes all photographs away", |desk| {
-        desk.step = |b, s, c| changed(b, s, c, |_, c| c[0] == 0, |after, _, _| after.photographs = [0; PLACES])
-    }),
-    replaying("a withdraw takes all photographs away", |desk| {
-        desk.step = |b, s, c| changed(b, s, c, |_, c| c[0] == 1, |after, _, _| after.photographs = [0; PLACES])
     }),
     replaying("a photograph takes the others away", |desk| {
-        desk.step = |b, s, c| {
-            changed(
-                b,
-                s,
-                c,
-                |_, c| c[0] == 3,
-                |after, _, c| *after = Sheet::of(&after.answers).with_photographs(&[c[1] as usize]),
-            )
-        }
+        desk.step =
+            |b, s, c| changed(b, s, c, [3, 0], |after, _, field, _| *after = after.photographed_where(|place| place == field))
+    }),
+    replaying("an enter takes all photographs away", |desk| {
+        desk.step = |b, s, c| changed(b, s, c, [0, 0], |after, _, _, _| after.photographs = [0; PLACES])
+    }),
+    replaying("a withdraw takes all photographs away", |desk| {
+        desk.step = |b, s, c| changed(b, s, c, [1, 0], |after, _, _, _| after.photographs = [0; PLACES])
     }),
     replaying("a clear leaves photographed answers", |desk| {
-        desk.step = |b, s, c| changed(b, s, c, |_, c| c[0] == 2, |after, before, _| *after = photographed_alone(before))
+        desk.step = |b, s, c| changed(b, s, c, [2, 0], |after, before, _, _| *after = photographed_alone(before))
     }),
     replaying("a clear leaves photographs", |desk| {
-        desk.step = |b, s, c| changed(b, s, c, |_, c| c[0] == 2, |after, before, _| after.photographs = before.photographs)
+        desk.step = |b, s, c| changed(b, s, c, [2, 0], |after, before, _, _| after.photographs = before.photographs)
     }),
     replaying("a code entered over a photographed one", |desk| {
-        desk.step = |b, s, c| accepted(b, s, c, [0, 22], |sheet, field, code| sheet.answers[field] = code)
+        desk.step = |b, s, c| changed(b, s, c, [0, 22], |after, _, field, code| after.answers[field] = code)
     }),
     replaying("a code entered in the place of a photograph", |desk| {
         desk.step = |b, s, c| {
-            accepted(b, s, c, [0, 22], |sheet, field, code| (sheet.answers[field], sheet.photographs[field]) = (code, 0))
+            changed(b, s, c, [0, 22], |after, _, field, code| (after.answers[field], after.photographs[field]) = (code, 0))
         }
     }),
     replaying("a photographed answer withdrawn", |desk| {
-        desk.step = |b, s, c| accepted(b, s, c, [1, 22], |sheet, field, _| sheet.answers[field] = NO_ANSWER)
+        desk.step = |b, s, c| changed(b, s, c, [1, 22], |after, _, field, _| after.answers[field] = NO_ANSWER)
     }),
     replaying("an answer withdrawn with its photograph", |desk| {
         desk.step = |b, s, c| {
-            accepted(b, s, c, [1, 22], |sheet, field, _| (sheet.answers[field], sheet.photographs[field]) = (NO_ANSWER, 0))
+            changed(b, s, c, [1, 22], |after, _, field, _| (after.answers[field], after.photographs[field]) = (NO_ANSWER, 0))
         }
     }),
     replaying("the photograph withdrawn in the place of its answer", |desk| {
-        desk.step = |b, s, c| accepted(b, s, c, [1, 22], |sheet, field, _| sheet.photographs[field] = 0)
+        desk.step = |b, s, c| changed(b, s, c, [1, 22], |after, _, field, _| after.photographs[field] = 0)
     }),
     replaying("an unanswered field photographed", |desk| {
-        desk.step = |b, s, c| accepted(b, s, c, [3, 17], |sheet, field, _| sheet.photographs[field] = 1)
+        desk.step = |b, s, c| changed(b, s, c, [3, 17], |after, _, field, _| after.photographs[field] = 1)
     }),
-    replaying("a 22 clears the sheet", |desk| {
-        desk.step = |b, s, c| {
-            let number = step(b, s, c);
-            if number == 22 {
-                *s = FRESH;
-            }
-            number
-        }
+    replaying("a code refused by 22 clears the sheet", |desk| {
+        desk.step = |b, s, c| changed(b, s, c, [0, 22], |after, _, _, _| *after = FRESH)
     }),
 ];
-
-fn photographed(sheet: &Sheet) -> impl Iterator<Item = usize> + '_ {
-    (0..PLACES).filter(|&place| sheet.is_photographed(place))
-}
-
-/// The same answers, with these places photographed.
-fn of_these(sheet: &Sheet, these: impl Fn(usize) -> bool) -> Sheet {
-    Sheet::of(&sheet.answers).with_photographs(&(0..PLACES).filter(|&place| these(place)).collect::<Vec<_>>())
-}
 
 /// The rule before M-105.
 fn photographs_ignored(book: &Book, sheet: &Sheet, largest: Filter) -> Alternatives {
@@ -184,26 +157,26 @@ fn photographs_ignored(book: &Book, sheet: &Sheet, largest: Filter) -> Alternati
 /// The sheet without its photographed answers.
 fn without_photographed(sheet: &Sheet) -> Sheet {
     let mut others = Sheet::of(&sheet.answers);
-    photographed(sheet).for_each(|place| others.answers[place] = NO_ANSWER);
+    sheet.photographed().for_each(|place| others.answers[place] = NO_ANSWER);
     others
 }
 
 /// The sheet with no other answers than those.
 fn photographed_alone(sheet: &Sheet) -> Sheet {
     let mut kept = FRESH;
-    photographed(sheet).for_each(|place| (kept.answers[place], kept.photographs[place]) = (sheet.answers[place], 1));
+    sheet.photographed().for_each(|place| (kept.answers[place], kept.photographs[place]) = (sheet.answers[place], 1));
     kept
 }
 
 fn standing_photographs(book: &Book, sheet: &Sheet, largest: Filter) -> Alternatives {
     let standing = largest(book, &sheet.answers);
     let stands = |f: usize| standing[f][sheet.answers[f] as usize];
-    lines_where(book, sheet, largest, |_| photographed(sheet).all(stands))
+    lines_where(book, sheet, largest, |_| sheet.photographed().all(stands))
 }
 
 fn held_codes_listed(book: &Book, sheet: &Sheet, largest: Filter) -> Alternatives {
     let mut found = alternatives(book, sheet, largest);
-    found.lines.extend(photographed(sheet).map(|f| (f as u8, sheet.answers[f])));
+    found.lines.extend(sheet.photographed().map(|f| (f as u8, sheet.answers[f])));
     found.lines.sort();
     found
 }
@@ -235,29 +208,19 @@ fn cases_by_answers(book: &Book, sheet: &Sheet, largest: Filter) -> Alternatives
 
 fn counted_again(book: &Book, sheet: &Sheet, largest: Filter) -> Alternatives {
     let cases = pass_cases(book, sheet, largest);
-    let (found, again) = (in_cases(&cases), cases[0].struck() * photographed(sheet).count() as u64);
+    let (found, again) = (in_cases(&cases), cases[0].struck() * sheet.photographed().count() as u64);
     Alternatives { struck: found.struck + again, ..found }
 }
 
 fn doubt_counted(book: &Book, sheet: &Sheet, largest: Filter) -> Alternatives {
     let found = alternatives(book, sheet, largest);
-    let all = sheet.has_photograph() && !(0..PLACES).any(|place| sheet.is_in_doubt(place));
-    Alternatives { struck: if all { 0 } else { found.struck }, ..found }
+    Alternatives { struck: if sheet.is_all_photographed() { 0 } else { found.struck }, ..found }
 }
 
 fn photographs_asked(seen: &Seen, left: &mut calls::Left) {
     let desk = Desk { alternatives: photographs_ignored, ..Desk::default() };
     if left.number == 0 && seen.lent < desk.answer(seen.call, seen.reading, seen.sheet).written.elements() {
         refused_by_18(left);
-    }
-}
-
-/// The call of a list, unless it is left out.
-fn unless(call: &[u8], left_out: bool) -> Vec<u8> {
-    if left_out {
-        Vec::new()
-    } else {
-        call.to_vec()
     }
 }
 
@@ -274,28 +237,12 @@ fn of_kind(call: &[u8], taken: fn(u8) -> u8) -> Vec<u8> {
     vec![taken(call[0]), call[1], call[2]]
 }
 
-/// An accepted call of a list that is so, by the sheet before it, changes the sheet after it once more.
-fn changed(
-    book: &Book,
-    sheet: &mut Sheet,
-    call: &[u8],
-    so: fn(&Sheet, &[u8]) -> bool,
-    change: fn(&mut Sheet, &Sheet, &[u8]),
-) -> u64 {
+/// A call of this kind and with this number changes the sheet once more, by the sheet before it, its field and its code.
+fn changed(book: &Book, sheet: &mut Sheet, call: &[u8], which: [u64; 2], change: fn(&mut Sheet, &Sheet, usize, u8)) -> u64 {
     let before = *sheet;
     let number = step(book, sheet, call);
-    if number == 0 && so(&before, call) {
-        change(sheet, &before, call);
-    }
-    number
-}
-
-/// A call of this kind that is refused by this number changes the sheet, by its field and its code.
-fn accepted(book: &Book, sheet: &mut Sheet, call: &[u8], [kind, refusal]: [u64; 2], change: fn(&mut Sheet, usize, u8)) -> u64 {
-    let number = step(book, sheet, call);
-    if (call[0] as u64, number) == (kind, refusal) {
-        change(sheet, call[1] as usize, call[2]);
-        return 0;
+    if [call[0] as u64, number] == which {
+        change(sheet, &before, call[1] as usize, call[2]);
     }
     number
 }

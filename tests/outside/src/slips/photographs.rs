@@ -70,7 +70,9 @@ pub const SLIPS: &[Listed] = &[
     of(OF_A_SHEET, "22 for a photograph without an answer", |seen, left| {
         before(left, 14, 22, || faults(seen.accepted(), seen.sheet).next().is_some_and(|place| !seen.sheet.is_answered(place)))
     }),
-    of(PHOTOGRAPH, "an unanswered field photographed", |seen, left| accept(seen, left, 17, |seen, sheet| seen.mark(sheet))),
+    of(PHOTOGRAPH, "an unanswered field photographed", |seen, left| {
+        accept(seen, left, 17, |seen, sheet| sheet.photographs[seen.field()] = 1)
+    }),
     of(PHOTOGRAPH, "an unanswered field accepted and left as it is", |seen, left| accept(seen, left, 17, |_, _| {})),
     of(PHOTOGRAPH, "an unanswered field given code 0", |seen, left| {
         accept(seen, left, 17, |seen, sheet| sheet.answers[seen.field()] = 0)
@@ -85,17 +87,14 @@ pub const SLIPS: &[Listed] = &[
         again(seen, left, |seen, sheet| sheet.photographs[seen.field()] = 2)
     }),
     of(PHOTOGRAPH, "a second photograph refused by 22", |seen, left| turn_down(seen, left, 22, |seen| seen.is_photographed())),
-    of(PHOTOGRAPH, "22 where another field is photographed", |seen, left| {
-        turn_down(seen, left, 22, |seen| seen.sheet.has_photograph() && !seen.is_photographed())
-    }),
-    of(PHOTOGRAPH, "no photograph set", |seen, left| if_accepted(left, |left| left.sheet = seen.sheet.in_bits())),
+    of(PHOTOGRAPH, "no field photographed", |seen, left| left_out(seen, left, |_| true)),
     of(PHOTOGRAPH, "the answer taken away", |seen, left| if_accepted(left, |left| left.sheet.answers[seen.field()] = NO_ANSWER)),
     of(PHOTOGRAPH, "the next field photographed", |seen, left| elsewhere(seen, left, |field| (field + 1) % PLACES)),
     of(PHOTOGRAPH, "the field before it photographed", |seen, left| elsewhere(seen, left, |field| (field + PLACES - 1) % PLACES)),
     of(PHOTOGRAPH, "a field counted from the last photographed", |seen, left| elsewhere(seen, left, |field| PLACES - 1 - field)),
-    of(&["photograph", "load"], "every answer photographed", |_, left| if_accepted(left, |left| mark_answers(&mut left.sheet))),
+    of(&["photograph", "load"], "every answer photographed", |_, left| if_accepted(left, every_answer_photographed)),
     of(PHOTOGRAPH, "other photographs taken away", |seen, left| {
-        if_accepted(left, |left| left.sheet = Sheet::of(&left.sheet.answers).with_photographs(&[seen.field()]))
+        if_accepted(left, |left| left.sheet = left.sheet.photographed_where(|place| place == seen.field()))
     }),
     of(PHOTOGRAPH, "a photograph told by 255", |seen, left| if_accepted(left, |left| left.sheet.photographs[seen.field()] = 255)),
     of(PHOTOGRAPH, "a photograph told by the code", |seen, left| {
@@ -116,15 +115,15 @@ pub const SLIPS: &[Listed] = &[
     of(CHANGING, "photographs' bytes left as they are", |seen, left| {
         if_accepted(left, |left| left.sheet.photographs = bytes_of(seen, left))
     }),
+    of(CHANGING, "22 where another field is photographed", |seen, left| {
+        turn_down(seen, left, 22, |seen| seen.sheet.has_photograph() && !seen.is_photographed())
+    }),
     of(CHANGING, "photographs made 1 by a refusal", |seen, left| if_refused(left, |left| left.sheet = seen.sheet.in_bits())),
     of(CHANGING, "photographs taken away by a refusal", |_, left| if_refused(left, |left| left.sheet.photographs = [0; PLACES])),
     of(BOTH, "all photographs taken away", |_, left| if_accepted(left, |left| left.sheet.photographs = [0; PLACES])),
     of(BOTH, "photographs from 32 on taken away", |_, left| if_accepted(left, |left| left.sheet.photographs[32..].fill(0))),
     of(BOTH, "the photograph at 59 taken away", |_, left| if_accepted(left, |left| left.sheet.photographs[59] = 0)),
     of(BOTH, "the field photographed too", |seen, left| if_accepted(left, |left| left.sheet.photographs[seen.field()] = 1)),
-    of(BOTH, "22 where another field is photographed", |seen, left| {
-        turn_down(seen, left, 22, |seen| seen.sheet.has_photograph())
-    }),
     of(BOTH, "22 where the next field is photographed", |seen, left| {
         turn_down(seen, left, 22, |seen| seen.is_next_photographed(1))
     }),
@@ -170,13 +169,13 @@ pub const SLIPS: &[Listed] = &[
     of(STORE, "a photographed sheet stored", |seen, left| store_where(seen, left, |_| true, |sheet| sheet.answers)),
     of(STORE, "photographed answers stored as none", |seen, left| store_where(seen, left, |_| true, in_doubt_alone)),
     of(STORE, "a sheet stored with its last field photographed", |seen, left| {
-        store_where(seen, left, |seen| seen.photographed().eq([seen.accepted().counts.len() - 1]), |sheet| sheet.answers)
+        store_where(seen, left, |seen| seen.sheet.photographed().eq([seen.accepted().counts.len() - 1]), |sheet| sheet.answers)
     }),
     of(STORE, "a sheet stored with field 0 photographed", |seen, left| {
-        store_where(seen, left, |seen| seen.photographed().eq([0]), |sheet| sheet.answers)
+        store_where(seen, left, |seen| seen.sheet.photographed().eq([0]), |sheet| sheet.answers)
     }),
     of(STORE, "a sheet stored with field 59 photographed", |seen, left| {
-        store_where(seen, left, |seen| seen.photographed().eq([59]), |sheet| sheet.answers)
+        store_where(seen, left, |seen| seen.sheet.photographed().eq([59]), |sheet| sheet.answers)
     }),
     of(STORE, "a sheet stored unless all answers are photographed", |seen, left| {
         store_where(seen, left, |seen| (0..PLACES).any(|place| seen.sheet.is_in_doubt(place)), |sheet| sheet.answers)
@@ -185,7 +184,7 @@ pub const SLIPS: &[Listed] = &[
     of(STORE, "22 tested before 14", |seen, left| before(left, 14, 22, || seen.sheet.has_photograph())),
     of(STORE, "22 told as 14", |_, left| before(left, 22, 14, || true)),
     of(STORE, "22 with the field for its place", |seen, left| {
-        with_place(left, 22, |_| seen.photographed().next().unwrap_or(0) as u64)
+        with_place(left, 22, |_| seen.sheet.photographed().next().unwrap_or(0) as u64)
     }),
     of(STORE, "22 only after what fits was written", |seen, left| written_before_22(seen, left)),
     of(MAKING, "photographs left as they were", |seen, left| left.sheet.photographs = seen.sheet.photographs),
@@ -209,8 +208,7 @@ pub const SLIPS: &[Listed] = &[
 
 /// The sheet with photographs where it is so, by place and byte.
 fn each(sheet: &Sheet, so: fn(usize, u8) -> bool) -> Sheet {
-    let photographed: Vec<usize> = (0..PLACES).filter(|&place| so(place, sheet.photographs[place])).collect();
-    Sheet::of(&sheet.answers).with_photographs(&photographed)
+    sheet.photographed_where(|place| so(place, sheet.photographs[place]))
 }
 
 fn exchanged(sheet: &Sheet) -> Sheet {
@@ -230,7 +228,7 @@ fn from_byte(sheet: &Sheet, first: usize) -> Sheet {
     Sheet { photographs, ..*sheet }.in_bits()
 }
 
-/// The first fault that is so, and only where there is none any other.
+/// Names the first fault that is so, and only where none is the first of all.
 fn scanned(seen: &Seen, left: &mut calls::Left, first: fn(&Sheet, usize) -> bool) {
     if left.number == 14 {
         let faults = || faults(seen.accepted(), seen.sheet);
@@ -240,10 +238,6 @@ fn scanned(seen: &Seen, left: &mut calls::Left, first: fn(&Sheet, usize) -> bool
 }
 
 impl Seen<'_> {
-    fn photographed(&self) -> impl Iterator<Item = usize> + '_ {
-        (0..PLACES).filter(|&place| self.sheet.is_photographed(place))
-    }
-
     /// The call's field is photographed.
     fn is_photographed(&self) -> bool {
         self.field() < PLACES && self.sheet.is_photographed(self.field())
@@ -251,7 +245,7 @@ impl Seen<'_> {
 
     /// The field so far from it is.
     fn is_next_photographed(&self, step: isize) -> bool {
-        self.photographed().any(|place| Some(place) == self.field().checked_add_signed(step))
+        self.sheet.photographed().any(|place| Some(place) == self.field().checked_add_signed(step))
     }
 
     fn is_code_held(&self) -> bool {
@@ -260,10 +254,6 @@ impl Seen<'_> {
 
     fn answer_stands(&self) -> bool {
         largest(self.accepted(), &self.sheet.answers)[self.field()][self.sheet.answers[self.field()] as usize]
-    }
-
-    fn mark(&self, sheet: &mut Sheet) {
-        sheet.photographs[self.field()] = 1;
     }
 
     /// Gives the field the code that the call is given.
@@ -301,6 +291,7 @@ fn elsewhere(seen: &Seen, left: &mut calls::Left, other: fn(usize) -> usize) {
     if_accepted(left, |left| left.sheet = seen.sheet.in_bits().with_photographs(&[other(seen.field())]));
 }
 
+/// Sets no photograph of such a field.
 fn left_out(seen: &Seen, left: &mut calls::Left, so: fn(usize) -> bool) {
     if left.number == 0 && so(seen.field()) {
         left.sheet = seen.sheet.in_bits();
@@ -338,13 +329,13 @@ fn in_doubt_alone(sheet: &Sheet) -> [u8; PLACES] {
 }
 
 fn photographed_left(seen: &Seen, left: &mut calls::Left) {
-    for place in seen.photographed() {
+    for place in seen.sheet.photographed() {
         (left.sheet.answers[place], left.sheet.photographs[place]) = (seen.sheet.answers[place], 1);
     }
 }
 
-fn mark_answers(sheet: &mut Sheet) {
-    sheet.photographs = sheet.answers.map(|answer| (answer != NO_ANSWER) as u8);
+fn every_answer_photographed(left: &mut calls::Left) {
+    left.sheet = left.sheet.photographed_where(|place| left.sheet.is_answered(place));
 }
 
 /// As if nothing were relaxed.

@@ -31,7 +31,7 @@ const fn loading(what: &'static str, exchange: fn(&mut Desk)) -> Listed {
     (what, &["load", "report"], Part(exchange))
 }
 
-const fn replaying(what: &'static str, exchange: fn(&mut Desk)) -> Listed {
+pub const fn replaying(what: &'static str, exchange: fn(&mut Desk)) -> Listed {
     (what, &["replay"], Part(exchange))
 }
 
@@ -297,8 +297,16 @@ pub fn each_call(call: &Call, taken: fn(&[u8]) -> Vec<u8>) -> Call {
 
 /// The call of a list, if it is on such a field or on none.
 fn of_fields(call: &[u8], these: fn(usize) -> bool) -> Vec<u8> {
-    let kept = !is_on_field(call) || these(call[1] as usize);
-    call[..if kept { 3 } else { 0 }].to_vec()
+    unless(call, is_on_field(call) && !these(call[1] as usize))
+}
+
+/// The call of a list, unless it is left out.
+pub fn unless(call: &[u8], left_out: bool) -> Vec<u8> {
+    if left_out {
+        Vec::new()
+    } else {
+        call.to_vec()
+    }
 }
 
 /// A clear leaves the answers from this place on, photographed or not.
