@@ -6,7 +6,7 @@ use native.Mathlib.Omega.{arith}
 use lib.Dec.{eqb}
 use lib.ListN.{getD}
 use Rattle.consistency.specs.Consistency.{places, sheetWith}
-use Rattle.sighting.proofs.SheetBytes.{Front, front-none, front-more, front-all}
+use Rattle.sheet.proofs.Fronts.{Front, front-none, front-more, front-all}
 use borrow.Author.Needs.{needs}
 use Rattle.sighting.proofs.sheets.held.Statement.{statement}
 use Rattle.sighting.proofs.sheets.held.Tie as tie
