@@ -1,11 +1,11 @@
 // The sheet and its calls. Document 01, "The sheet and its one pass" and "When a call is turned down"; document 02, M-104 and M-105.
 ghost use mathlib.Core.Path.{_≡_};
 ghost use mathlib.Core.Bool.{false};
-ghost use mathlib.Core.List.{List, []};
+ghost use mathlib.Core.List.{List, [], _∷_};
 ghost use Prim.Native.Nat.{ℕ};
 ghost use lib.ListN.{getD};
 ghost use Rattle.consistency.specs.Counting.{anyBelow};
-ghost use Rattle.consistency.specs.Consistency.{places, sheetWith};
+ghost use Rattle.consistency.specs.Consistency.{places};
 ghost use Rattle.calls.specs.Calls.{freshSheet, turned, done, entered, withdrawn, photographed, cleared, filtered, alternatives, stored, loaded, rowBehind};
 ghost use Rattle.calls.specs.Histories.{callsIn, sheetAfter};
 ghost use Rattle.sheet.specs.Shown.{numberOf, heldBy, resultOf, listResultOf, rowAnswerOf, rowResultOf};
@@ -95,25 +95,25 @@ pub struct HandedRow {
     pub sheet: Sheet,
 }
 
-// The sheet of an accepted call.
-fn hand(answers: [u8; PLACES], photographed: [bool; PLACES]) -> Handed
-    ensures { λ r. ⌜ resultOf r [] ≡ done [] (sheetWith answers photographed) [] ⌝ }
-{
-    Handed {
-        answer: Answer::Done,
-        sheet: Sheet {
-            answers: answers,
-            photographed: photographed,
-        },
-    }
-}
-
 // A refusal: the sheet comes back as given, and so does whatever is lent.
 fn refuse(sheet: Sheet, reason: Reason, place: usize) -> Handed
     ensures { λ r. ⌜ ((o : List ℕ) → resultOf r o ≡ turned 0 (heldBy sheet) o (numberOf reason) place) ⌝ }
 {
     Handed {
         answer: Answer::Refused(reason, place),
+        sheet: sheet,
+    }
+}
+
+// An accepted answer of alternatives.
+fn listed(sheet: Sheet, total: usize, struck: u32) -> HandedList
+    ensures { λ r. ⌜ ((o : List ℕ) → listResultOf r o ≡ done (total ∷ struck ∷ []) (heldBy sheet) o) ⌝ }
+{
+    HandedList {
+        answer: Listing::Listed {
+            total: total,
+            struck: struck,
+        },
         sheet: sheet,
     }
 }
@@ -208,7 +208,13 @@ impl Sheet {
                 }
                 let mut next = answers;
                 next[field] = code as u8;
-                hand(next, photographed)
+                Handed {
+                    answer: Answer::Done,
+                    sheet: Sheet {
+                        answers: next,
+                        photographed: photographed,
+                    },
+                }
             }
         }
     }
@@ -239,7 +245,13 @@ impl Sheet {
                 }
                 let mut rest = answers;
                 rest[field] = 255;
-                hand(rest, photographed)
+                Handed {
+                    answer: Answer::Done,
+                    sheet: Sheet {
+                        answers: rest,
+                        photographed: photographed,
+                    },
+                }
             }
         }
     }
@@ -267,7 +279,13 @@ impl Sheet {
                 }
                 let mut backed = photographed;
                 backed[field] = true;
-                hand(answers, backed)
+                Handed {
+                    answer: Answer::Done,
+                    sheet: Sheet {
+                        answers: answers,
+                        photographed: backed,
+                    },
+                }
             }
         }
     }
@@ -308,8 +326,8 @@ impl Sheet {
         ensures { λ r. ⌜ listResultOf r (now (out .exit)) ≡ alternatives (now (book .entry)) (heldBy self) (now (out .entry)) ⌝ }
     {
         let answers = self.answers;
-        let photographed = self.photographed;
-        let opened = opened::open(book, answers, photographed);
+        let backed = self.photographed;
+        let opened = opened::open(book, answers, backed);
         match opened {
             Opened::Turned(reason, place) => refuse_list(self, reason, place),
             Opened::Ready {
@@ -326,39 +344,16 @@ impl Sheet {
                     tables,
                     rows,
                     &answers,
-                    &photographed,
+                    &backed,
                     &mut marks,
                 );
                 let empty = filter::empty_cases(&marks, fields);
-                let total = lists::count_lines(
-                    book,
-                    answers,
-                    photographed,
-                    &marks,
-                    empty,
-                    list,
-                    fields,
-                );
+                let total = lists::count_lines(book, answers, backed, &marks, empty, list, fields);
                 if out.len() < 2 * total {
                     return refuse_list(self, Reason::Room, 0);
                 }
-                lists::write_lines(
-                    book,
-                    answers,
-                    photographed,
-                    &marks,
-                    empty,
-                    list,
-                    fields,
-                    out,
-                );
-                HandedList {
-                    answer: Listing::Listed {
-                        total: total,
-                        struck: struck,
-                    },
-                    sheet: self,
-                }
+                lists::write_lines(book, answers, backed, &marks, empty, list, fields, out);
+                listed(self, total, struck)
             }
         }
     }
@@ -458,7 +453,13 @@ pub fn load(book: &[u8], form: &[u8]) -> Handed
             if fault < PLACES {
                 return refuse(Sheet::fresh(), Reason::Fault, fault);
             }
-            hand(answers, photographed)
+            Handed {
+                answer: Answer::Done,
+                sheet: Sheet {
+                    answers: answers,
+                    photographed: photographed,
+                },
+            }
         }
     }
 }

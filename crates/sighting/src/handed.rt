@@ -5,7 +5,7 @@ ghost use Rattle.format.specs.Reading.{accepted, refused};
 ghost use Rattle.sheet.specs.Shown.{numberOf, shown, shownListing, shownRow, resultOf, listResultOf};
 ghost use Rattle.sighting.specs.Exported.{Tells, Changes, Makes};
 use super::sheets::SHEET_BYTES;
-use super::sheets::bytes_of;
+use super::sheets::put;
 use sheet::Answer;
 use sheet::Handed;
 use sheet::HandedList;
@@ -77,7 +77,7 @@ pub(crate) fn change(handed: Handed, sheet: &mut [u8; SHEET_BYTES], outcome: &mu
     if number != 0 {
         return number;
     }
-    *sheet = bytes_of(next);
+    put(next, sheet);
     number
 }
 
@@ -86,7 +86,7 @@ pub(crate) fn hand(handed: Handed, sheet: &mut [u8; SHEET_BYTES], outcome: &mut 
     ensures { λ r. ⌜ ((o : List ℕ) → Makes r (now (outcome .exit)) (now (sheet .exit)) o (resultOf handed o)) ⌝ }
 {
     let next = handed.sheet;
-    *sheet = bytes_of(next);
+    put(next, sheet);
     let answer = handed.answer;
     tell(answer, outcome)
 }
@@ -100,7 +100,7 @@ pub(crate) fn hand_list(
     ensures { λ r. ⌜ ((o : List ℕ) → Makes r (now (outcome .exit)) (now (sheet .exit)) o (listResultOf handed o)) ⌝ }
 {
     let next = handed.sheet;
-    *sheet = bytes_of(next);
+    put(next, sheet);
     let listing = handed.answer;
     tell_list(listing, outcome)
 }

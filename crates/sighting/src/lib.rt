@@ -28,8 +28,8 @@ use listing::Written;
 use report::Printed;
 use sheet::Sheet;
 use sheets::SHEET_BYTES;
-use sheets::bytes_of;
 use sheets::held;
+use sheets::put;
 
 mod handed;
 mod sheets;
@@ -99,7 +99,7 @@ pub extern "C" fn sighting_write(listing: &[u16], out: &mut [u8], outcome: &mut 
 pub extern "C" fn sighting_fresh(sheet: &mut [u8; SHEET_BYTES])
     ensures { λ _. ⌜ now (sheet .exit) ≡ sheetBytes freshSheet ⌝ }
 {
-    *sheet = bytes_of(Sheet::fresh());
+    put(Sheet::fresh(), sheet);
 }
 
 // Takes all answers away, and their photographs.
@@ -109,8 +109,7 @@ pub extern "C" fn sighting_clear(sheet: &mut [u8; SHEET_BYTES])
 {
     let given = held(*sheet);
     let handed = given.clear();
-    let next = handed.sheet;
-    *sheet = bytes_of(next);
+    put(handed.sheet, sheet);
 }
 
 // Answers a field. Cells: place.

@@ -34,16 +34,15 @@ pub(crate) fn held(bytes: [u8; SHEET_BYTES]) -> Sheet
     }
 }
 
-// The bytes that hold a sheet.
-pub(crate) fn bytes_of(sheet: Sheet) -> [u8; SHEET_BYTES]
-    ensures { λ r. ⌜ Holds r (heldBy sheet) ⌝ }
+// Writes the bytes that hold a sheet. They are all set to 0 first, so that their number is known; the compiler drops that.
+pub(crate) fn put(sheet: Sheet, bytes: &mut [u8; SHEET_BYTES])
+    ensures { λ _. ⌜ Holds (now (bytes .exit)) (heldBy sheet) ⌝ }
 {
     let answers = sheet.answers;
     let photographed = sheet.photographed;
-    let mut bytes = [0; SHEET_BYTES];
+    *bytes = [0; SHEET_BYTES];
     for p in 0..PLACES {
         bytes[p] = answers[p];
         bytes[PLACES + p] = flag(photographed[p]);
     }
-    bytes
 }

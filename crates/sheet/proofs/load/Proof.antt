@@ -53,16 +53,13 @@ returns-2 c = let at = checks-good _ _ (c .before .before .before .before .befor
     c .refuse3 .ensures [] ∙ turned-fresh _ 14 _ (c .before .fresh3 .ensures)
     ∙ loaded-14 _ _ _ _ at (c .before .before .before .before .before .before .before .if1 .left) _ (c .before .before .before .before .before .copy .ensures) _ (c .before .before .before .first-fault .ensures) (c .before .before .if2 .taken)
 
-hand-requires : tie.Need-hand-requires
-hand-requires c κs = search needs
-
 returns-3 : tie.Need-returns-3
 returns-3 c = let no = checks-bad _ _ (c .before .before .before .before .before .check .ensures) _ _ (c .before .before .before .checked .given .1) in
     c .refuse .ensures [] ∙ turned-fresh _ _ _ (c .before .fresh .ensures) ∙ loaded-book _ _ _ _ no
 
 returns-4 : tie.Need-returns-4
-returns-4 c = let at = checks-good _ _ (c .before .before .before .before .before .before .before .before .before .before .check .ensures) _ _ _ _ (c .before .before .before .before .before .before .before .before .checked2 .given .1) in
-    c .hand .ensures ∙ loaded-done _ _ _ _ at (c .before .before .before .before .before .before .if1 .left) _ (c .before .before .before .before .copy .ensures) _ (c .before .before .first-fault .ensures) (c .before .if2 .left)
+returns-4 c = let at = checks-good _ _ (c .before .before .before .before .before .before .before .before .before .check .ensures) _ _ _ _ (c .before .before .before .before .before .before .before .checked2 .given .1) in
+    loaded-done _ _ _ _ at (c .before .before .before .before .before .if1 .left) _ (c .before .before .before .copy .ensures) _ (c .before .first-fault .ensures) (c .if2 .left)
 
 pub load-spec : {M : Type 1} → statement M
 load-spec =
@@ -82,6 +79,5 @@ load-spec =
     fresh-requires-3
     refuse-requires-3
     returns-2
-    hand-requires
     returns-3
     returns-4)

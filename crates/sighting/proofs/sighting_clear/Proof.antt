@@ -12,11 +12,11 @@ held-requires c κs = search needs
 clear-requires : tie.Need-clear-requires
 clear-requires c κs = search needs
 
-bytes-of-requires : tie.Need-bytes-of-requires
-bytes-of-requires c κs = search needs
+put-requires : tie.Need-put-requires
+put-requires c κs = search needs
 
 returns : tie.Need-returns
-returns c = c .bytes-of .ensures .written ∙ ap (λ (r : Result). sheetBytes (r .sheet)) (c .before .before .clear .ensures)
+returns c = c .put .ensures .written ∙ ap (λ (r : Result). sheetBytes (r .sheet)) (c .before .before .clear .ensures)
 
 pub sighting-clear-spec : {M : Type 1} → statement M
-sighting-clear-spec = tie.close (tie.spec held-requires clear-requires bytes-of-requires returns)
+sighting-clear-spec = tie.close (tie.spec held-requires clear-requires put-requires returns)

@@ -8,11 +8,11 @@ use Rattle.sighting.proofs.sighting_fresh.Tie as tie
 fresh-requires : tie.Need-fresh-requires
 fresh-requires c κs = search needs
 
-bytes-of-requires : tie.Need-bytes-of-requires
-bytes-of-requires c κs = search needs
+put-requires : tie.Need-put-requires
+put-requires c κs = search needs
 
 returns : tie.Need-returns
-returns c = c .bytes-of .ensures .written ∙ ap sheetBytes (c .before .fresh .ensures)
+returns c = c .put .ensures .written ∙ ap sheetBytes (c .before .before .fresh .ensures)
 
 pub sighting-fresh-spec : {M : Type 1} → statement M
-sighting-fresh-spec = tie.close (tie.spec fresh-requires bytes-of-requires returns)
+sighting-fresh-spec = tie.close (tie.spec fresh-requires put-requires returns)

@@ -44,6 +44,9 @@ write-lines-requires : tie.Need-write-lines-requires
 write-lines-requires c κs = let o = opens-ready _ _ _ (c .before .before .before .before .before .before .before .before .before .before .before .before .before .before .«open» .ensures) _ _ _ _ (c .before .before .before .before .before .before .before .before .before .before .before .before .opened2 .given .1) in
     (passed _ _ _ _ _ _ (o .at) (c .before .before .before .before .before .before .before .one-pass .ensures .0) (c .before .before .before .before .before .empty-cases .ensures), omega (arith, c .before .before .before .count-lines .ensures .0, c .before .before .if1 .left))
 
+listed-requires : tie.Need-listed-requires
+listed-requires c κs = search needs
+
 returns-2 : tie.Need-returns-2
 returns-2 c = c .refuse-list .ensures _ ∙ alternatives-turned _ _ _ _ _ (opens-turned _ _ _ (c .before .before .before .before .«open» .ensures) _ _ (c .before .before .opened .given .1))
 
@@ -51,8 +54,8 @@ same-length : tie.Need-same-length
 same-length c = search needs
 
 returns-3 : tie.Need-returns-3
-returns-3 c = let o = opens-ready _ _ _ (c .before .before .before .before .before .before .before .before .before .before .before .before .before .before .before .before .before .«open» .ensures) _ _ _ _ (c .before .before .before .before .before .before .before .before .before .before .before .before .before .before .before .opened2 .given .1) in
-    alternatives-done _ _ _ o (c .before .before .before .before .before .before .count-lines .ensures .0) (c .before .before .before .before .before .if1 .left) (c .before .before .before .before .before .before .before .before .before .before .one-pass .ensures .1) (c .before .before .write-lines .ensures)
+returns-3 c = let o = opens-ready _ _ _ (c .before .before .before .before .before .before .before .before .before .before .before .before .before .before .before .before .before .before .«open» .ensures) _ _ _ _ (c .before .before .before .before .before .before .before .before .before .before .before .before .before .before .before .before .opened2 .given .1) in
+    c .listed .ensures _ ∙ alternatives-done _ _ _ o (c .before .before .before .before .before .before .before .count-lines .ensures .0) (c .before .before .before .before .before .before .if1 .left) (c .before .before .before .before .before .before .before .before .before .before .before .one-pass .ensures .1) (c .before .before .before .write-lines .ensures)
 
 pub alternatives-spec : {M : Type 1} → statement M
 alternatives-spec =
@@ -69,6 +72,7 @@ alternatives-spec =
     refuse-list-requires-2
     returns
     write-lines-requires
+    listed-requires
     returns-2
     same-length
     returns-3)

@@ -65,15 +65,12 @@ array-write-next : tie.Need-array-write-next
 array-write-next c = let o = opens-ready _ _ _ (c .before .before .before .before .before .before .before .before .«open» .ensures) _ _ _ _ (c .before .before .before .before .before .before .opened2 .given .1) in
     omega (arith, fields-few _ _ _ (o .at))
 
-hand-requires : tie.Need-hand-requires
-hand-requires c κs = search needs
-
 returns-4 : tie.Need-returns-4
 returns-4 c = c .refuse .ensures [] ∙ entered-turned _ _ _ _ _ _ (opens-turned _ _ _ (c .before .before .before .before .«open» .ensures) _ _ (c .before .before .opened .given .1))
 
 returns-5 : tie.Need-returns-5
-returns-5 c = let o = opens-ready _ _ _ (c .before .before .before .before .before .before .before .before .before .«open» .ensures) _ _ _ _ (c .before .before .before .before .before .before .before .opened2 .given .1) in
-    c .hand .ensures ∙ entered-done _ _ _ _ _ _ o (c .before .before .before .before .before .if1 .left) (subst (λ (n : ℕ). c .before .before .before .before .before .before .before .before .before .before .before .before .before .args .code < n) (c .before .before .before .wide .ensures) (c .before .before .if2 .left)) (c .before .if3 .left)
+returns-5 c = let o = opens-ready _ _ _ (c .before .before .before .before .before .before .before .before .«open» .ensures) _ _ _ _ (c .before .before .before .before .before .before .opened2 .given .1) in
+    entered-done _ _ _ _ _ _ o (c .before .before .before .before .if1 .left) (subst (λ (n : ℕ). c .before .before .before .before .before .before .before .before .before .before .before .before .args .code < n) (c .before .before .wide .ensures) (c .before .if2 .left)) (c .if3 .left)
 
 pub enter-spec : {M : Type 1} → statement M
 enter-spec =
@@ -95,6 +92,5 @@ enter-spec =
     returns-3
     cast-next
     array-write-next
-    hand-requires
     returns-4
     returns-5)

@@ -42,15 +42,12 @@ array-write-backed : tie.Need-array-write-backed
 array-write-backed c = let o = opens-ready _ _ _ (c .before .before .before .before .before .«open» .ensures) _ _ _ _ (c .before .before .before .opened2 .given .1) in
     omega (arith, fields-few _ _ _ (o .at))
 
-hand-requires : tie.Need-hand-requires
-hand-requires c κs = search needs
-
 returns-3 : tie.Need-returns-3
 returns-3 c = c .refuse .ensures [] ∙ photographed-turned _ _ _ _ _ (opens-turned _ _ _ (c .before .before .before .before .«open» .ensures) _ _ (c .before .before .opened .given .1))
 
 returns-4 : tie.Need-returns-4
-returns-4 c = let o = opens-ready _ _ _ (c .before .before .before .before .before .before .«open» .ensures) _ _ _ _ (c .before .before .before .before .opened2 .given .1) in
-    c .hand .ensures ∙ photographed-done _ _ _ _ _ o (search needs) (c .before .before .if1 .left) (c .before .if2 .left)
+returns-4 c = let o = opens-ready _ _ _ (c .before .before .before .before .before .«open» .ensures) _ _ _ _ (c .before .before .before .opened2 .given .1) in
+    photographed-done _ _ _ _ _ o (search needs) (c .before .if1 .left) (c .if2 .left)
 
 pub photograph-spec : {M : Type 1} → statement M
 photograph-spec =
@@ -66,6 +63,5 @@ photograph-spec =
     refuse-requires-3
     returns-2
     array-write-backed
-    hand-requires
     returns-3
     returns-4)

@@ -53,15 +53,12 @@ array-write-rest : tie.Need-array-write-rest
 array-write-rest c = let o = opens-ready _ _ _ (c .before .before .before .before .before .before .«open» .ensures) _ _ _ _ (c .before .before .before .before .opened2 .given .1) in
     omega (arith, fields-few _ _ _ (o .at))
 
-hand-requires : tie.Need-hand-requires
-hand-requires c κs = search needs
-
 returns-4 : tie.Need-returns-4
 returns-4 c = c .refuse .ensures [] ∙ withdrawn-turned _ _ _ _ _ (opens-turned _ _ _ (c .before .before .before .before .«open» .ensures) _ _ (c .before .before .opened .given .1))
 
 returns-5 : tie.Need-returns-5
-returns-5 c = let o = opens-ready _ _ _ (c .before .before .before .before .before .before .before .«open» .ensures) _ _ _ _ (c .before .before .before .before .before .opened2 .given .1) in
-    c .hand .ensures ∙ withdrawn-done _ _ _ _ _ o (search needs) (c .before .before .before .if1 .left) (c .before .before .if2 .left) (c .before .if3 .left)
+returns-5 c = let o = opens-ready _ _ _ (c .before .before .before .before .before .before .«open» .ensures) _ _ _ _ (c .before .before .before .before .opened2 .given .1) in
+    withdrawn-done _ _ _ _ _ o (search needs) (c .before .before .if1 .left) (c .before .if2 .left) (c .if3 .left)
 
 pub withdraw-spec : {M : Type 1} → statement M
 withdraw-spec =
@@ -80,6 +77,5 @@ withdraw-spec =
     refuse-requires-4
     returns-3
     array-write-rest
-    hand-requires
     returns-4
     returns-5)

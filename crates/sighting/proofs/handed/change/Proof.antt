@@ -10,11 +10,11 @@ tell-requires c κs = search needs
 returns : tie.Need-returns
 returns c = changes-none (c .before .tell .ensures) (c .if1 .taken)
 
-bytes-of-requires : tie.Need-bytes-of-requires
-bytes-of-requires c κs = search needs
+put-requires : tie.Need-put-requires
+put-requires c κs = search needs
 
 returns-2 : tie.Need-returns-2
-returns-2 c = changes-all (c .before .before .tell .ensures) (c .before .if1 .left) (c .bytes-of .ensures)
+returns-2 c = changes-all (c .before .before .before .tell .ensures) (c .before .before .if1 .left) (c .put .ensures)
 
 pub change-spec : {M : Type 1} → statement M
-change-spec = tie.close (tie.spec tell-requires returns bytes-of-requires returns-2)
+change-spec = tie.close (tie.spec tell-requires returns put-requires returns-2)
