@@ -19,9 +19,9 @@
  *
  * A refused call leaves every element of `out` as it was, an accepted one every element behind those that it writes.
  *
- * A call that may write the sheet leaves in it the sheet that it hands back, also where it is refused: after a refused enter or
- * withdraw that is the sheet as it was given, after a refused load a fresh one, and after a replay, refused or not, the one that its
- * list reached.
+ * A call that may write the sheet leaves in it the sheet that it hands back, also where it is refused: after a refused enter, withdraw
+ * or photograph that is the sheet as it was given, byte for byte; after a refused load a fresh one; and after a replay, refused or not,
+ * the one that its list reached.
  *
  *   number  refused because                                                      place
  *   ------  -------------------------------------------------------------------  ------------------------------------------------
@@ -38,7 +38,7 @@
  *       11  a row has a code that its field lacks                                that byte
  *       12  the tables so far have more than 4,096 rows                          the first byte of the table that exceeds them
  *       13  bytes are left over before the field list                            the first of them
- *       14  the sheet holds what its field cannot answer                         the lowest such place of the sheet
+ *       14  the sheet holds an answer or a photograph that it cannot have        the lowest such place of the sheet
  *       15  the book has no such field                                           0
  *       16  the field has no such code                                           0
  *       17  the field has no answer                                              0
@@ -46,8 +46,10 @@
  *       19  a stored sheet's length is not the number of fields                  0
  *       20  no book has this listing                                             0
  *       21  the book has no such table, or the field is not in it                0
+ *       22  the field is photographed; for storing, some field is                0
  *
- * 14 looks for a field that holds neither 255 nor one of its codes, and for a place behind the book's fields that does not hold 255.
+ * 14 looks for the first place that is at fault in any of these ways: a field that holds neither 255 nor one of its codes, a place behind
+ * the book's fields that does not hold 255, a place without an answer that is photographed.
  * 20 looks for a number that is missing, left over, or too large for its bytes (two for a number of rows and for the place of the field
  * list, one for any other), and for a book that reading would refuse.
  * The first refusal in the order that a function's comment gives is the one returned.
@@ -58,10 +60,16 @@
 #include <stddef.h>
 #include <stdint.h>
 
-/* A sheet: for each of 60 places the answered code, or SIGHTING_NO_ANSWER. It has as many for a book of either version. */
-#define SIGHTING_SHEET_BYTES 60
+/*
+ * A sheet: for each place the answered code, or SIGHTING_NO_ANSWER; behind all of them, for each place in the same order, 1 if the answer
+ * is backed by a photograph, else 0. So byte f has the answer of field f, and byte SIGHTING_PLACES + f tells whether it is photographed.
+ * Any other number there counts as 1: a refused call leaves it as it is, an accepted enter, withdraw or photograph writes 1. A sheet has
+ * as many places for a book of either version.
+ */
+#define SIGHTING_PLACES 60
+#define SIGHTING_SHEET_BYTES 120
 
-/* In a sheet: no answer. As `relaxed` of sighting_filtered: no field. */
+/* In a place of a sheet: no answer. As `relaxed` of sighting_filtered: no field. */
 #define SIGHTING_NO_ANSWER 255
 
 /*
@@ -74,10 +82,11 @@
 #define SIGHTING_LISTING_NUMBERS 16831 /* sighting_show */
 #define SIGHTING_BOOK_BYTES 16898      /* sighting_write */
 
-/* The three kinds of call in a list for sighting_replay. */
+/* The four kinds of call in a list for sighting_replay. */
 #define SIGHTING_CALL_ENTER 0
 #define SIGHTING_CALL_WITHDRAW 1
 #define SIGHTING_CALL_CLEAR 2
+#define SIGHTING_CALL_PHOTOGRAPH 3
 
 #ifdef __cplusplus
 extern "C" {
@@ -91,31 +100,45 @@ extern "C" {
  */
 uint64_t sighting_read(const uint8_t *book, size_t book_len, uint64_t *outcome);
 
-/* Makes the sheet a fresh one: every place 255. */
+/* Makes the sheet a fresh one: every place 255, and none photographed. */
 void sighting_fresh(uint8_t *sheet);
 
-/* Takes all answers away, whatever the sheet holds: every place 255. */
+/*
+ * Takes all answers and photographs away, whatever the sheet holds: every place 255, and none photographed. Nothing else takes a
+ * photograph from an answer.
+ */
 void sighting_clear(uint8_t *sheet);
 
 /*
- * Enters a code as the answer of a field, in the place of an older one; the code need not be standing. Any numbers may be passed: one
- * that is no field of the book is refused by 15, one that is no code of the field by 16.
+ * Enters a code as the answer of a field, in the place of an older one; the code need not be standing. A photographed field is refused
+ * by 22, even for the code that it holds. Any numbers may be passed: one that is no field of the book is refused by 15, one that is no
+ * code of the field by 16.
  *   outcome[1]  place
- * Refusals: 1 to 13, 14, 15, 16.
+ * Refusals: 1 to 13, 14, 15, 16, 22.
  */
 uint64_t sighting_enter(uint8_t *sheet, const uint8_t *book, size_t book_len, size_t field, size_t code, uint64_t *outcome);
 
 /*
- * Withdraws the answer of a field. Any number may be passed: one that is no field of the book is refused by 15.
+ * Withdraws the answer of a field, unless it is photographed. Any number may be passed: one that is no field of the book is refused by
+ * 15.
  *   outcome[1]  place
- * Refusals: 1 to 13, 14, 15, 17.
+ * Refusals: 1 to 13, 14, 15, 17, 22.
  */
 uint64_t sighting_withdraw(uint8_t *sheet, const uint8_t *book, size_t book_len, size_t field, uint64_t *outcome);
 
 /*
- * Plain filtering, with the answer of field `relaxed` left out, or with all answers for SIGHTING_NO_ANSWER; any other number that is no
- * field of the book is refused by 15. It writes one number for each field of the book: bit c is set exactly when code c is in the
- * largest arc-consistent subdomain within the answers.
+ * Notes that a photograph backs the answer of a field. From then on, until sighting_clear, enter and withdraw are refused on that field
+ * and it has no alternatives. Noting it again is accepted and changes nothing. Any number may be passed: one that is no field of the
+ * book is refused by 15.
+ *   outcome[1]  place
+ * Refusals: 1 to 13, 14, 15, 17.
+ */
+uint64_t sighting_photograph(uint8_t *sheet, const uint8_t *book, size_t book_len, size_t field, uint64_t *outcome);
+
+/*
+ * Plain filtering, with the answer of field `relaxed` left out, photographed or not, or with all answers for SIGHTING_NO_ANSWER; any
+ * other number that is no field of the book is refused by 15. It writes one number for each field of the book: bit c is set exactly when
+ * code c is in the largest arc-consistent subdomain within the answers.
  *   outcome[1]  place
  * Refusals: 1 to 13, 14, 15, 17 (15 and 17 not for SIGHTING_NO_ANSWER), 18 where out_len is below the number of fields.
  */
@@ -123,9 +146,11 @@ uint64_t sighting_filtered(const uint8_t *sheet, const uint8_t *book, size_t boo
                            uint64_t *outcome);
 
 /*
- * The alternatives of every answered field: its codes that stand with its own answer left out. A field has lines only where no field of
- * the book is then empty. Each line is two bytes, field then code, by rising field and then rising code.
- *   outcome[3]  place, total (the number of lines), struck (the marks removed in all cases together, with or without lines)
+ * The alternatives of every answered field without a photograph: its codes that stand with its own answer left out. A field has lines
+ * only where no field of the book is then empty; a photographed one has none, and no case of its own. Each line is two bytes, field then
+ * code, by rising field and then rising code.
+ *   outcome[3]  place, total (the number of lines), struck (the marks removed in all cases together, with or without lines: the case with
+ *               all answers kept, and for each answered field without a photograph the case with its answer left out)
  * Refusals: 1 to 13, 14, 18 where out_len is below 2 * total.
  */
 uint64_t sighting_alternatives(const uint8_t *sheet, const uint8_t *book, size_t book_len, uint8_t *out, size_t out_len,
@@ -144,7 +169,8 @@ uint64_t sighting_row(const uint8_t *sheet, const uint8_t *book, size_t book_len
                       uint64_t *outcome);
 
 /*
- * Loads a stored sheet, one byte for each field. What the sheet held before plays no part; a refused load makes it a fresh one.
+ * Loads a stored sheet, one byte for each field; none is photographed. What the sheet held before plays no part; a refused load makes it
+ * a fresh one.
  *   outcome[1]  place
  * Refusals: 1 to 13, 19, 14.
  */
@@ -152,18 +178,18 @@ uint64_t sighting_load(uint8_t *sheet, const uint8_t *book, size_t book_len, con
                        uint64_t *outcome);
 
 /*
- * Stores the sheet: writes one byte for each field of the book.
+ * Stores the sheet: writes one byte for each field of the book. That form has no photographs, so a sheet with one is refused by 22.
  *   outcome[1]  place
- * Refusals: 1 to 13, 14, 18 where out_len is below the number of fields.
+ * Refusals: 1 to 13, 14, 22, 18 where out_len is below the number of fields.
  */
 uint64_t sighting_store(const uint8_t *sheet, const uint8_t *book, size_t book_len, uint8_t *out, size_t out_len, uint64_t *outcome);
 
 /*
  * Runs a list of calls, each on the sheet that the one before it handed back and the first on a fresh one, and then the
- * alternatives of the last. A call is three bytes: kind, field, code. A kind that is none of the three above is no call, and so is
- * an incomplete last one; withdraw reads no code, and clear neither field nor code. A call that is refused changes nothing and the
- * list goes on. What the sheet held before plays no part; it ends as the one that the list reached, also where the replay is refused.
- * By a refused book every enter and withdraw is refused, so the list then reaches a fresh sheet.
+ * alternatives of the last. A call is three bytes: kind, field, code. A kind that is none of the four above is no call, and so is
+ * an incomplete last one; withdraw and photograph read no code, and clear neither field nor code. A call that is refused changes
+ * nothing and the list goes on. What the sheet held before plays no part; it ends as the one that the list reached, also where the
+ * replay is refused. By a refused book every call but clear is refused, so the list then reaches a fresh sheet.
  *   outcome[3]  place, total, struck, as sighting_alternatives
  * Refusals: 1 to 13, 18 where out_len is below 2 * total.
  */

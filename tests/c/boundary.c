@@ -1,6 +1,6 @@
 /*
- * What only a C caller can do to the library: pass numbers that no byte holds, lend a sheet that lies in read-only memory, and take the
- * header's word for the lengths that suffice. Prints each difference and returns their number.
+ * What only a C caller can do to the library: pass numbers that no byte holds, lend a sheet that lies in read-only memory, write any byte
+ * into a sheet, and take the header's word for the lengths that suffice. Prints each difference and returns their number.
  */
 #include <sighting.h>
 #include <stdio.h>
@@ -10,10 +10,14 @@
 static const uint8_t book[] = {2, 0, 2, 4, 0, 0, 0, 0, 1, 1, 2, 0, 1, 2, 1, 2, 4, 0, 0, 0,
                                1, 1, 1, 2, 2, 2, 2, 3, 3, 0x1A, 0, 3, 2, 1, 0xE5};
 static const uint8_t form[] = {0, 1, SIGHTING_NO_ANSWER};
-static const uint8_t answered[SIGHTING_SHEET_BYTES] = {
-    0,   1,   255, 255, 255, 255, 255, 255, 255, 255, 255, 255, 255, 255, 255, 255, 255, 255, 255, 255,
-    255, 255, 255, 255, 255, 255, 255, 255, 255, 255, 255, 255, 255, 255, 255, 255, 255, 255, 255, 255,
-    255, 255, 255, 255, 255, 255, 255, 255, 255, 255, 255, 255, 255, 255, 255, 255, 255, 255, 255, 255};
+#define ANSWERS                                                                                          \
+    0, 1, 255, 255, 255, 255, 255, 255, 255, 255, 255, 255, 255, 255, 255, 255, 255, 255, 255, 255,      \
+    255, 255, 255, 255, 255, 255, 255, 255, 255, 255, 255, 255, 255, 255, 255, 255, 255, 255, 255, 255,  \
+    255, 255, 255, 255, 255, 255, 255, 255, 255, 255, 255, 255, 255, 255, 255, 255, 255, 255, 255, 255
+static const uint8_t answered[SIGHTING_SHEET_BYTES] = {ANSWERS};
+
+/* The same with field 0 photographed. */
+static const uint8_t photographed[SIGHTING_SHEET_BYTES] = {ANSWERS, [SIGHTING_PLACES] = 1};
 
 static int differences = 0;
 
@@ -21,6 +25,11 @@ static void expect(const char *what, uint64_t expected, uint64_t got) {
     if (expected == got) return;
     fprintf(stderr, "%s: expected %lu, got %lu\n", what, (unsigned long)expected, (unsigned long)got);
     differences++;
+}
+
+/* Every byte of the sheet is this one's. */
+static void expect_sheet(const char *what, const uint8_t *expected, const uint8_t *got) {
+    expect(what, 0, (uint64_t)(memcmp(expected, got, SIGHTING_SHEET_BYTES) != 0));
 }
 
 /* Each low byte is a field, a code or a table of the book, so that a number cut to a byte would be accepted. */
@@ -32,6 +41,9 @@ static void wide_numbers(void) {
     expect("enter field 258", 15, sighting_enter(sheet, book, sizeof book, 258, 0, place));
     expect("enter code 257", 16, sighting_enter(sheet, book, sizeof book, 2, 257, place));
     expect("withdraw field 256", 15, sighting_withdraw(sheet, book, sizeof book, 256, place));
+    expect("photograph field 256", 15, sighting_photograph(sheet, book, sizeof book, 256, place));
+    expect("photograph field 2^32", 15, sighting_photograph(sheet, book, sizeof book, (size_t)1 << 32, place));
+    expect("photograph field SIZE_MAX", 15, sighting_photograph(sheet, book, sizeof book, SIZE_MAX, place));
     expect("enter field SIZE_MAX", 15, sighting_enter(sheet, book, sizeof book, SIZE_MAX, 0, place));
     expect("relax field 256", 15, sighting_filtered(sheet, book, sizeof book, 256, numbers, SIGHTING_NUMBERS, place));
     expect("relax field 511", 15, sighting_filtered(sheet, book, sizeof book, 511, numbers, SIGHTING_NUMBERS, place));
@@ -40,7 +52,7 @@ static void wide_numbers(void) {
     expect("row of table 256", 21, sighting_row(sheet, book, sizeof book, 2, 1, 256, found));
     expect("row of table 2^32", 21, sighting_row(sheet, book, sizeof book, 2, 1, (size_t)1 << 32, found));
     expect("row of SIZE_MAX alone", 15, sighting_row(sheet, book, sizeof book, SIZE_MAX, SIZE_MAX, SIZE_MAX, found));
-    expect("the sheet stays", 0, (uint64_t)(memcmp(sheet, answered, sizeof sheet) != 0));
+    expect_sheet("the sheet stays", answered, sheet);
 }
 
 static void read_only_sheet(void) {
@@ -55,6 +67,105 @@ static void read_only_sheet(void) {
     expect("the row", 1, found[2]);
     expect("store", 0, sighting_store(answered, book, sizeof book, stored, sizeof stored, place));
     expect("stored form", 0, (uint64_t)(memcmp(stored, form, sizeof form) != 0));
+}
+
+/* Field 0 is photographed: it has no lines and no case, and may be relaxed all the same. */
+static void read_only_photographs(void) {
+    uint8_t pairs[5] = {7, 7, 7, 7, 7}, stored[] = {7, 7, 7};
+    uint32_t numbers[] = {7, 7, 7, 7};
+    uint64_t place[1], found[3];
+    expect("filter with field 0 relaxed", 0, sighting_filtered(photographed, book, sizeof book, 0, numbers, 4, place));
+    expect("codes of field 0", 3, numbers[0]);
+    expect("codes of field 1", 2, numbers[1]);
+    expect("codes of field 2", 6, numbers[2]);
+    expect("the number behind", 7, numbers[3]);
+    expect("alternatives one byte short", 18, sighting_alternatives(photographed, book, sizeof book, pairs, 3, found));
+    expect("alternatives of field 1", 0, sighting_alternatives(photographed, book, sizeof book, pairs, sizeof pairs, found));
+    expect("their total", 2, found[1]);
+    expect("struck in two cases", 8, found[2]);
+    expect("the lines", 0, (uint64_t)(memcmp(pairs, (const uint8_t[]){1, 0, 1, 1, 7}, sizeof pairs) != 0));
+    expect("row", 0, sighting_row(photographed, book, sizeof book, 2, 1, 0, found));
+    expect("the row", 1, found[2]);
+    expect("store a photographed sheet", 22, sighting_store(photographed, book, sizeof book, stored, sizeof stored, place));
+    expect("place of 22", 0, place[0]);
+    expect("the same with too few bytes", 22, sighting_store(photographed, book, sizeof book, stored, 2, place));
+    expect("the byte lent first", 7, stored[0]);
+}
+
+/* Photographs a field of a sheet. The one cell is written, and none beside it. */
+static void ask_photograph(const char *what, uint8_t *sheet, size_t field, uint64_t number, uint64_t place) {
+    uint64_t cells[3] = {7, 7, 7};
+    expect(what, number, sighting_photograph(sheet, book, sizeof book, field, cells + 1));
+    expect("its place", place, cells[1]);
+    expect("the cell before", 7, cells[0]);
+    expect("the cell behind", 7, cells[2]);
+}
+
+/* Set, set again, refused, and taken away by a clear alone. */
+static void photographs(void) {
+    uint8_t sheet[SIGHTING_SHEET_BYTES], fresh[SIGHTING_SHEET_BYTES];
+    uint64_t place[1];
+    memset(fresh, SIGHTING_NO_ANSWER, SIGHTING_PLACES);
+    memset(fresh + SIGHTING_PLACES, 0, SIGHTING_PLACES);
+    memcpy(sheet, answered, sizeof sheet);
+    ask_photograph("no such field", sheet, 3, 15, 0);
+    ask_photograph("no answer", sheet, 2, 17, 0);
+    expect_sheet("no photograph yet", answered, sheet);
+    ask_photograph("photograph", sheet, 0, 0, 0);
+    expect_sheet("field 0 photographed", photographed, sheet);
+    ask_photograph("photograph again", sheet, 0, 0, 0);
+    expect("enter the code held", 22, sighting_enter(sheet, book, sizeof book, 0, 0, place));
+    expect("enter another code", 22, sighting_enter(sheet, book, sizeof book, 0, 1, place));
+    expect("place of 22", 0, place[0]);
+    expect("enter no code", 16, sighting_enter(sheet, book, sizeof book, 0, 2, place));
+    expect("withdraw", 22, sighting_withdraw(sheet, book, sizeof book, 0, place));
+    expect("withdraw beside it", 0, sighting_withdraw(sheet, book, sizeof book, 1, place));
+    expect("enter beside it", 0, sighting_enter(sheet, book, sizeof book, 1, 1, place));
+    expect_sheet("the photograph stays", photographed, sheet);
+    expect("a photograph by no book", 2, sighting_photograph(sheet, book, sizeof book - 1, 1, place));
+    expect("place of 2", 33, place[0]);
+    sighting_clear(sheet);
+    expect_sheet("cleared", fresh, sheet);
+    memcpy(sheet, photographed, sizeof sheet);
+    expect("load", 0, sighting_load(sheet, book, sizeof book, form, sizeof form, place));
+    expect_sheet("loaded without photographs", answered, sheet);
+    memcpy(sheet, photographed, sizeof sheet);
+    expect("load nothing", 19, sighting_load(sheet, book, sizeof book, form, 0, place));
+    expect_sheet("fresh by a refused load", fresh, sheet);
+}
+
+/* A byte that is neither 0 nor 1 is a photograph: a refused call leaves it, an accepted one writes 1. */
+static void bytes_of_photographs(void) {
+    uint8_t sheet[SIGHTING_SHEET_BYTES];
+    uint64_t place[1];
+    for (int byte = 1; byte < 256; byte++) {
+        memcpy(sheet, answered, sizeof sheet);
+        sheet[SIGHTING_PLACES] = (uint8_t)byte;
+        expect("withdraw a photographed field", 22, sighting_withdraw(sheet, book, sizeof book, 0, place));
+        expect("enter on a photographed field", 22, sighting_enter(sheet, book, sizeof book, 0, 0, place));
+        ask_photograph("photograph no field", sheet, 3, 15, 0);
+        expect("its byte stays", (uint64_t)byte, sheet[SIGHTING_PLACES]);
+        expect("enter beside it", 0, sighting_enter(sheet, book, sizeof book, 1, 1, place));
+        expect_sheet("its byte is 1", photographed, sheet);
+        sheet[SIGHTING_PLACES + 2] = (uint8_t)byte;
+        ask_photograph("a photograph without an answer", sheet, 0, 14, 2);
+        expect("that byte stays", (uint64_t)byte, sheet[SIGHTING_PLACES + 2]);
+    }
+}
+
+/* A list with a photograph: kind 3, whose third byte is not read. */
+static void photographs_in_a_list(void) {
+    static const uint8_t calls[] = {SIGHTING_CALL_ENTER,      0, 0, SIGHTING_CALL_ENTER,    1, 1, SIGHTING_CALL_PHOTOGRAPH, 2, 0,
+                                    SIGHTING_CALL_PHOTOGRAPH, 0, 9, SIGHTING_CALL_WITHDRAW, 0, 0, SIGHTING_CALL_ENTER,      0, 1};
+    uint8_t sheet[SIGHTING_SHEET_BYTES], pairs[SIGHTING_PAIRS_BYTES];
+    uint64_t found[3];
+    memset(sheet, 7, sizeof sheet);
+    expect("replay", 0, sighting_replay(sheet, book, sizeof book, calls, sizeof calls, pairs, sizeof pairs, found));
+    expect("total of the list", 2, found[1]);
+    expect("struck by the list", 8, found[2]);
+    expect_sheet("the sheet that the list reached", photographed, sheet);
+    expect("replay one byte short", 18, sighting_replay(sheet, book, sizeof book, calls, sizeof calls, pairs, 3, found));
+    expect_sheet("the sheet that it reached all the same", photographed, sheet);
 }
 
 /* Asks E1's sheet for a row. All three cells are written, and none beside them. */
@@ -228,6 +339,28 @@ static void sixty_fields(void) {
     expect("withdraw it again", 17, sighting_withdraw(sheet, bytes, length, 59, place));
 }
 
+/* All fields photographed one after the other: what is struck is less by a case each time, and in the end there is no line. */
+static void sixty_photographs(void) {
+    uint8_t bytes[66], sheet[SIGHTING_SHEET_BYTES], pairs[SIGHTING_PAIRS_BYTES], stored[SIGHTING_STORED_BYTES];
+    uint64_t place[1], found[3];
+    size_t length = sixty(bytes);
+    memset(stored, 31, sizeof stored);
+    expect("load 60 answers", 0, sighting_load(sheet, bytes, length, stored, sizeof stored, place));
+    for (size_t field = 0; field < 60; field++) {
+        expect("photograph", 0, sighting_photograph(sheet, bytes, length, field, place));
+        expect("its byte", 1, sheet[SIGHTING_PLACES + field]);
+        expect("alternatives", 0, sighting_alternatives(sheet, bytes, length, pairs, sizeof pairs, found));
+        expect("total", 32 * (59 - field), found[1]);
+        expect("struck", 60 * 31 + (59 - field) * 59 * 31, found[2]);
+    }
+    expect("photograph field 60", 15, sighting_photograph(sheet, bytes, length, 60, place));
+    expect("store", 22, sighting_store(sheet, bytes, length, stored, sizeof stored, place));
+    expect("withdraw field 59", 22, sighting_withdraw(sheet, bytes, length, 59, place));
+    sheet[59] = SIGHTING_NO_ANSWER;
+    expect("field 59 photographed without an answer", 14, sighting_photograph(sheet, bytes, length, 0, place));
+    expect("its place", 59, place[0]);
+}
+
 /* Stored sheets of 59, 60 and 61 bytes for 60 fields; a fault at the last place, for either version. */
 static void sixty_places(void) {
     uint8_t bytes[66], sheet[SIGHTING_SHEET_BYTES], stored[SIGHTING_STORED_BYTES + 1];
@@ -252,10 +385,15 @@ static void sixty_places(void) {
 int main(void) {
     wide_numbers();
     read_only_sheet();
+    read_only_photographs();
+    photographs();
+    bytes_of_photographs();
+    photographs_in_a_list();
     row_outcome();
     last_row();
     report_outcome();
     sixty_fields();
+    sixty_photographs();
     sixty_places();
     longest_listing();
     longest_listing_of_version_1();

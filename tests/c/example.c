@@ -1,4 +1,4 @@
-/* Prints the alternatives of example E1, and the row that keeps the open code. */
+/* Prints the alternatives of example E1, the row that keeps the open code, and what a photograph of field 0 leaves in doubt. */
 #include <sighting.h>
 #include <stdio.h>
 
@@ -16,5 +16,8 @@ int main(void) {
     for (size_t i = 0; i < found[1]; i++) printf("field %d code %d\n", pairs[2 * i], pairs[2 * i + 1]);
     if (sighting_row(sheet, book, sizeof book, 2, 1, 0, found) != 0) return 1;
     if (found[1] == 1) printf("field 2 code 1: row %d of table 0\n", (int)found[2]);
+    if (sighting_photograph(sheet, book, sizeof book, 0, place) != 0) return 1;
+    if (sighting_alternatives(sheet, book, sizeof book, pairs, sizeof pairs, found) != 0) return 1;
+    printf("field 0 photographed: %d alternatives, %d struck\n", (int)found[1], (int)found[2]);
     return 0;
 }

@@ -6,6 +6,7 @@ extern "C" {
     pub fn sighting_clear(sheet: *mut u8);
     pub fn sighting_enter(sheet: *mut u8, book: *const u8, book_len: usize, field: usize, code: usize, outcome: *mut u64) -> u64;
     pub fn sighting_withdraw(sheet: *mut u8, book: *const u8, book_len: usize, field: usize, outcome: *mut u64) -> u64;
+    pub fn sighting_photograph(sheet: *mut u8, book: *const u8, book_len: usize, field: usize, outcome: *mut u64) -> u64;
     pub fn sighting_filtered(
         sheet: *const u8,
         book: *const u8,

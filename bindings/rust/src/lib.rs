@@ -1,9 +1,9 @@
 //! The sighting desk: a safe wrapper over its proved static library.
 //!
-//! A book is a slice of bytes, checked in every call; a [`Sheet`] holds the answers. Nothing is taken from the heap: results go to
-//! buffers that the caller lends; [`PAIRS_BYTES`], [`NUMBERS`], [`STORED_BYTES`], [`REPORT_BYTES`], [`LISTING_NUMBERS`] and
-//! [`BOOK_BYTES`] suffice for every book, sheet and listing. A refused call changes neither the sheet nor a buffer. Any number may be
-//! passed as a field, a code or a table: one that is none is refused.
+//! A book is a slice of bytes, checked in every call; a [`Sheet`] holds the answers, and which of them a photograph backs. Nothing is
+//! taken from the heap: results go to buffers that the caller lends; [`PAIRS_BYTES`], [`NUMBERS`], [`STORED_BYTES`],
+//! [`REPORT_BYTES`], [`LISTING_NUMBERS`] and [`BOOK_BYTES`] suffice for every book, sheet and listing. A refused call changes neither
+//! the sheet nor a buffer. Any number may be passed as a field, a code or a table: one that is none is refused.
 //!
 //! The book below has three fields, of 2, 3 and 3 codes, and two tables. With field 0 answered by 0 and field 1 by 1, code 1 of
 //! field 2 stands, and each answer has an alternative beside itself.
@@ -36,6 +36,13 @@
 //!
 //! assert_eq!(sheet.row(&book, 2, 1, 0)?, Some(1)); // row 1 of table 0 keeps code 1 of field 2
 //! assert_eq!(sheet.row(&book, 0, 1, 0)?, None); // no row of table 0 keeps code 1 of field 0
+//!
+//! sheet.photograph(&book, 0)?; // field 0's answer is beyond doubt: it has no alternatives any more, and cannot be changed
+//! assert_eq!((sheet.answer(0), sheet.is_photographed(0)), (Some(0), true));
+//! let found = sheet.alternatives(&book, &mut pairs)?;
+//! assert_eq!((found.total, found.struck), (2, 8));
+//! assert_eq!(pairs[..4], [1, 0, 1, 1]);
+//! assert_eq!(sheet.enter(&book, 0, 1).unwrap_err().number, 22);
 //! # Ok(())
 //! # }
 //! ```
@@ -70,12 +77,17 @@
 pub mod ffi;
 mod refusal;
 
+use std::fmt;
+
 pub use refusal::Refusal;
 
-/// The bytes of a sheet, as in `include/sighting.h`.
-pub const SHEET_BYTES: usize = 60;
+/// The places of a sheet, one for each field that a book may have.
+pub const PLACES: usize = 60;
 
-/// In a sheet: no answer.
+/// The bytes of a sheet, as in `include/sighting.h`: an answer for each place, then for each place whether it is photographed.
+pub const SHEET_BYTES: usize = 2 * PLACES;
+
+/// In a place of a sheet: no answer.
 pub const NO_ANSWER: u8 = 255;
 
 /// So many bytes suffice for [`Sheet::alternatives`] and [`Sheet::replay`], whatever the book and the sheet.
@@ -118,6 +130,7 @@ pub enum Call {
     Enter { field: u8, code: u8 },
     Withdraw { field: u8 },
     Clear,
+    Photograph { field: u8 },
 }
 
 impl Call {
@@ -127,6 +140,7 @@ impl Call {
             Call::Enter { field, code } => [0, field, code],
             Call::Withdraw { field } => [1, field, 0],
             Call::Clear => [2, 0, 0],
+            Call::Photograph { field } => [3, field, 0],
         }
     }
 }
@@ -201,9 +215,17 @@ fn relaxed_number(relaxed: Option<usize>) -> usize {
     }
 }
 
-/// The answers: for each of 60 places the answered code, or [`NO_ANSWER`].
-#[derive(Clone, Copy, Debug, PartialEq, Eq)]
+/// The answers, and which of them a photograph backs: the bytes of `include/sighting.h`, in which a photograph is always told by 1.
+#[derive(Clone, Copy, PartialEq, Eq)]
 pub struct Sheet([u8; SHEET_BYTES]);
+
+impl fmt::Debug for Sheet {
+    /// The places that hold something: for each the answer, and whether it is photographed.
+    fn fmt(&self, f: &mut fmt::Formatter<'_>) -> fmt::Result {
+        let held = (0..PLACES).map(|place| (place, (self.answer(place), self.is_photographed(place))));
+        f.debug_map().entries(held.filter(|&(_, held)| held != (None, false))).finish()
+    }
+}
 
 impl Default for Sheet {
     fn default() -> Sheet {
@@ -212,8 +234,19 @@ impl Default for Sheet {
 }
 
 impl From<[u8; SHEET_BYTES]> for Sheet {
-    /// Any bytes: calls refuse by 14 what a book's fields cannot hold.
-    fn from(bytes: [u8; SHEET_BYTES]) -> Sheet {
+    /// Any bytes: calls refuse by 14 what a book's fields cannot hold. As a photograph any byte but 0 counts as 1, and becomes 1, so that
+    /// sheets are equal that hold the same.
+    fn from(mut bytes: [u8; SHEET_BYTES]) -> Sheet {
+        bytes[PLACES..].iter_mut().for_each(|photograph| *photograph = (*photograph).min(1));
+        Sheet(bytes)
+    }
+}
+
+impl From<[u8; PLACES]> for Sheet {
+    /// The answers of all places, none of them photographed.
+    fn from(answers: [u8; PLACES]) -> Sheet {
+        let mut bytes = [0; SHEET_BYTES];
+        bytes[..PLACES].copy_from_slice(&answers);
         Sheet(bytes)
     }
 }
@@ -221,7 +254,7 @@ impl From<[u8; SHEET_BYTES]> for Sheet {
 // SAFETY of every call below: a sheet is an array of SHEET_BYTES, each pointer has its slice's length beside it, as many cells are
 // lent as the header says, and Rust's borrows keep what is written apart from all else.
 impl Sheet {
-    /// A sheet without answers.
+    /// A sheet without answers and photographs.
     pub fn fresh() -> Sheet {
         let mut bytes = [0; SHEET_BYTES];
         unsafe { ffi::sighting_fresh(bytes.as_mut_ptr()) };
@@ -232,12 +265,23 @@ impl Sheet {
         &self.0
     }
 
-    /// Takes all answers away.
+    /// The answer of a field, if it has one.
+    pub fn answer(&self, field: usize) -> Option<u8> {
+        self.0[..PLACES].get(field).copied().filter(|&code| code != NO_ANSWER)
+    }
+
+    /// Whether a photograph backs the answer of a field.
+    pub fn is_photographed(&self, field: usize) -> bool {
+        self.0[PLACES..].get(field).is_some_and(|&photograph| photograph != 0)
+    }
+
+    /// Takes all answers and photographs away. Nothing else takes a photograph from an answer.
     pub fn clear(&mut self) {
         unsafe { ffi::sighting_clear(self.0.as_mut_ptr()) };
     }
 
-    /// Enters a code as the answer of a field. Refusals: 1 to 13, 14, 15, 16.
+    /// Enters a code as the answer of a field. Refusals: 1 to 13, 14, 15, 16, and 22 for a photographed field, even where it holds the
+    /// code.
     pub fn enter(&mut self, book: &[u8], field: usize, code: usize) -> Result<(), Refusal> {
         let mut cells = [0; 1];
         let number =
@@ -245,15 +289,24 @@ impl Sheet {
         answer(number, cells[0], ())
     }
 
-    /// Withdraws the answer of a field. Refusals: 1 to 13, 14, 15, 17.
+    /// Withdraws the answer of a field. Refusals: 1 to 13, 14, 15, 17, and 22 for a photographed field.
     pub fn withdraw(&mut self, book: &[u8], field: usize) -> Result<(), Refusal> {
         let mut cells = [0; 1];
         let number = unsafe { ffi::sighting_withdraw(self.0.as_mut_ptr(), book.as_ptr(), book.len(), field, cells.as_mut_ptr()) };
         answer(number, cells[0], ())
     }
 
-    /// Plain filtering, with the answer of one field left out or of none. It writes one number for each field of the book, with bit c
-    /// set where code c stands. Refusals: 1 to 13, 14, 15 for every `Some` that is no field of the book, 17, 18.
+    /// Notes that a photograph backs the answer of a field. From then on, until [`Sheet::clear`], enter and withdraw are refused on that
+    /// field and it has no alternatives. Noting it again changes nothing. Refusals: 1 to 13, 14, 15, 17.
+    pub fn photograph(&mut self, book: &[u8], field: usize) -> Result<(), Refusal> {
+        let mut cells = [0; 1];
+        let number =
+            unsafe { ffi::sighting_photograph(self.0.as_mut_ptr(), book.as_ptr(), book.len(), field, cells.as_mut_ptr()) };
+        answer(number, cells[0], ())
+    }
+
+    /// Plain filtering, with the answer of one field left out, photographed or not, or of none. It writes one number for each field of
+    /// the book, with bit c set where code c stands. Refusals: 1 to 13, 14, 15 for every `Some` that is no field of the book, 17, 18.
     pub fn filtered(&self, book: &[u8], relaxed: Option<usize>, out: &mut [u32]) -> Result<(), Refusal> {
         let mut cells = [0; 1];
         let number = unsafe {
@@ -270,9 +323,9 @@ impl Sheet {
         answer(number, cells[0], ())
     }
 
-    /// The alternatives of every answered field: its codes that stand with its own answer left out, written as pairs of bytes, field
-    /// then code. A field has some only where no field of the book is then empty, and the total counts these pairs. Refusals: 1 to 13,
-    /// 14, 18.
+    /// The alternatives of every answered field without a photograph: its codes that stand with its own answer left out, written as
+    /// pairs of bytes, field then code. A field has some only where no field of the book is then empty, and the total counts these
+    /// pairs. A photographed field has none, and no case of its own. Refusals: 1 to 13, 14, 18.
     pub fn alternatives(&self, book: &[u8], out: &mut [u8]) -> Result<Alternatives, Refusal> {
         let mut cells = [0; 3];
         let number = unsafe {
@@ -300,7 +353,7 @@ impl Sheet {
         answer(number, place, (found == 1).then_some(row))
     }
 
-    /// Loads a stored sheet, one byte for each field of the book. Refusals: 1 to 13, 19, 14.
+    /// Loads a stored sheet, one byte for each field of the book; none is photographed. Refusals: 1 to 13, 19, 14.
     pub fn load(book: &[u8], form: &[u8]) -> Result<Sheet, Refusal> {
         let (mut sheet, mut cells) = ([0; SHEET_BYTES], [0; 1]);
         let number = unsafe {
@@ -309,7 +362,8 @@ impl Sheet {
         answer(number, cells[0], Sheet(sheet))
     }
 
-    /// Stores the sheet, one byte for each field of the book. Refusals: 1 to 13, 14, 18.
+    /// Stores the sheet, one byte for each field of the book. That form has no photographs. Refusals: 1 to 13, 14, 22 where some field is
+    /// photographed, 18.
     pub fn store(&self, book: &[u8], out: &mut [u8]) -> Result<(), Refusal> {
         let mut cells = [0; 1];
         let number = unsafe {
@@ -322,8 +376,8 @@ impl Sheet {
     /// sheet reached, as [`Sheet::alternatives`] lists and counts them: of a field only where, with its answer left out, no field of
     /// the book is empty. A call of the list that is refused changes nothing, and the list goes on. Refusals: 1 to 13, 18.
     ///
-    /// The sheet that the list reached comes back beside the answer, also where that is a refusal: after an 18 it holds the answers
-    /// after the list. By a refused book, 1 to 13, every enter and withdraw is refused too, so a fresh sheet comes back.
+    /// The sheet that the list reached comes back beside the answer, also where that is a refusal: after an 18 it holds the answers and
+    /// photographs after the list. By a refused book, 1 to 13, every call but clear is refused too, so a fresh sheet comes back.
     pub fn replay(book: &[u8], calls: &[u8], out: &mut [u8]) -> (Sheet, Result<Alternatives, Refusal>) {
         let (mut sheet, mut cells) = ([0; SHEET_BYTES], [0; 3]);
         let number = unsafe {

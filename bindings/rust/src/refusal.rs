@@ -3,7 +3,7 @@
 use std::error::Error;
 use std::fmt;
 
-/// A refusal: its number, 1 to 21, and its place. The place is a byte of the book for 1 to 13, the first place of the sheet at fault
+/// A refusal: its number, 1 to 22, and its place. The place is a byte of the book for 1 to 13, the first place of the sheet at fault
 /// for 14, and 0 for the others.
 #[derive(Clone, Copy, Debug, PartialEq, Eq)]
 pub struct Refusal {
@@ -12,7 +12,7 @@ pub struct Refusal {
 }
 
 /// What each number says, from 1.
-const MEANINGS: [&str; 21] = [
+const MEANINGS: [&str; 22] = [
     "the book has fewer than 6 or more than 32,768 bytes",
     "the closing byte is not 0xE5",
     "the version is neither 1 nor 2",
@@ -26,7 +26,7 @@ const MEANINGS: [&str; 21] = [
     "a row has a code that its field lacks",
     "the tables have more than 4,096 rows",
     "bytes are left over before the field list",
-    "the sheet holds what its field cannot answer",
+    "the sheet holds an answer or a photograph that it cannot have",
     "the book has no such field",
     "the field has no such code",
     "the field has no answer",
@@ -34,6 +34,7 @@ const MEANINGS: [&str; 21] = [
     "the stored sheet's length is not the number of fields",
     "no book has this listing",
     "the book has no such table, or the field is not in it",
+    "the field is photographed; for storing, some field is",
 ];
 
 impl Refusal {
@@ -63,7 +64,8 @@ mod tests {
         assert_eq!(meaning(19), "the stored sheet's length is not the number of fields");
         assert_eq!(meaning(20), "no book has this listing");
         assert_eq!(meaning(21), "the book has no such table, or the field is not in it");
-        assert_eq!((meaning(0), meaning(22)), ("no refusal has this number", "no refusal has this number"));
+        assert_eq!(meaning(22), "the field is photographed; for storing, some field is");
+        assert_eq!((meaning(0), meaning(23)), ("no refusal has this number", "no refusal has this number"));
         assert_eq!(Refusal { number: 3, place: 33 }.to_string(), "refused 3 at 33: the version is neither 1 nor 2");
     }
 }

@@ -1,7 +1,7 @@
 //! What the wrapper adds to the library: its types, and what it does with numbers and buffers.
 
 use sighting::{read, report, show, write, Alternatives, Call, Refusal, Sheet};
-use sighting::{BOOK_BYTES, LISTING_NUMBERS, NO_ANSWER, NUMBERS, PAIRS_BYTES, REPORT_BYTES, SHEET_BYTES, STORED_BYTES};
+use sighting::{BOOK_BYTES, LISTING_NUMBERS, NO_ANSWER, NUMBERS, PAIRS_BYTES, PLACES, REPORT_BYTES, SHEET_BYTES, STORED_BYTES};
 
 /// Example E1: three fields of 2, 3 and 3 codes, and two tables.
 const BOOK: [u8; 35] =
@@ -15,10 +15,19 @@ const NO_CODE: Refusal = Refusal { number: 16, place: 0 };
 const TOO_FEW: Refusal = Refusal { number: 18, place: 0 };
 const NO_BOOK: Refusal = Refusal { number: 20, place: 0 };
 const NO_TABLE: Refusal = Refusal { number: 21, place: 0 };
+const NO_ANSWER_YET: Refusal = Refusal { number: 17, place: 0 };
+const PHOTOGRAPHED: Refusal = Refusal { number: 22, place: 0 };
 
 /// E1's sheet: field 0 answered by 0 and field 1 by 1.
 fn answered() -> Sheet {
     Sheet::load(&BOOK, &[0, 1, NO_ANSWER]).expect("E1's sheet")
+}
+
+/// The same with field 0 photographed.
+fn photographed() -> Sheet {
+    let mut sheet = answered();
+    sheet.photograph(&BOOK, 0).expect("field 0 has an answer");
+    sheet
 }
 
 /// A sheet with a fault in its first place.
@@ -35,6 +44,7 @@ fn numbers_that_no_byte_holds_are_refused() {
         assert_eq!(sheet.enter(&BOOK, above, 0), Err(NO_FIELD), "field {above}");
         assert_eq!(sheet.enter(&BOOK, 0, above), Err(NO_CODE), "code {above}");
         assert_eq!(sheet.withdraw(&BOOK, above), Err(NO_FIELD), "field {above}");
+        assert_eq!(sheet.photograph(&BOOK, above), Err(NO_FIELD), "field {above}");
         assert_eq!(sheet.filtered(&BOOK, Some(above), &mut [0; NUMBERS]), Err(NO_FIELD), "field {above}");
         assert_eq!(sheet.row(&BOOK, above, 0, 0), Err(NO_FIELD), "field {above}");
         assert_eq!(sheet.row(&BOOK, 0, above, 0), Err(NO_CODE), "code {above}");
@@ -72,6 +82,74 @@ fn a_lifted_answer_that_mends_nothing_has_no_lines() {
     assert_eq!(pairs, [0, 1, 1, 0, 7]);
     assert_eq!(sheet.filtered(&book, Some(2), &mut numbers), Ok(()));
     assert_eq!(numbers[..5], [0, 0, 0b11, 0b11, 7]);
+}
+
+/// What the sheet shows of its fields, and of places that it does not have.
+#[test]
+fn a_sheet_shows_answers_and_photographs() {
+    let shown = |sheet: Sheet| [0, 1, 2, PLACES - 1, PLACES, usize::MAX].map(|f| (sheet.answer(f), sheet.is_photographed(f)));
+    let none = (None, false);
+    assert_eq!(shown(Sheet::fresh()), [none; 6]);
+    assert_eq!(shown(answered()), [(Some(0), false), (Some(1), false), none, none, none, none]);
+    assert_eq!(shown(photographed()), [(Some(0), true), (Some(1), false), none, none, none, none]);
+    assert_eq!(format!("{:?}", photographed()), "{0: (Some(0), true), 1: (Some(1), false)}");
+    let mut bytes = [NO_ANSWER; SHEET_BYTES];
+    bytes[PLACES..].fill(0);
+    assert_eq!(Sheet::fresh().bytes(), &bytes);
+    (bytes[0], bytes[1], bytes[PLACES]) = (0, 1, 1);
+    assert_eq!(photographed().bytes(), &bytes);
+    assert_eq!(Sheet::from(bytes), photographed());
+    assert_eq!(Sheet::from([NO_ANSWER; PLACES]), Sheet::fresh());
+}
+
+/// In the bytes of a sheet any number but 0 is a photograph: one sheet, however it is told.
+#[test]
+fn bytes_of_a_photograph() {
+    for byte in 1..=255 {
+        let mut bytes = *answered().bytes();
+        bytes[PLACES] = byte;
+        let mut sheet = Sheet::from(bytes);
+        assert_eq!(sheet, photographed());
+        assert_eq!(sheet.withdraw(&BOOK, 0), Err(PHOTOGRAPHED));
+        assert_eq!(sheet.bytes(), photographed().bytes());
+    }
+}
+
+/// E1 with field 0 photographed: field 1 alone has alternatives, and what is struck are those of two cases.
+#[test]
+fn a_photographed_answer_is_not_in_doubt() {
+    let (mut sheet, mut pairs, mut numbers) = (photographed(), [7; 5], [7; NUMBERS]);
+    assert_eq!(sheet.alternatives(&BOOK, &mut pairs[..3]), Err(TOO_FEW));
+    assert_eq!(sheet.alternatives(&BOOK, &mut pairs), Ok(Alternatives { total: 2, struck: 8 }));
+    assert_eq!(pairs, [1, 0, 1, 1, 7]);
+    assert_eq!(sheet.filtered(&BOOK, Some(0), &mut numbers), Ok(()));
+    assert_eq!(numbers[..4], [3, 2, 6, 7]);
+    assert_eq!(sheet.store(&BOOK, &mut [7; STORED_BYTES]), Err(PHOTOGRAPHED));
+    assert_eq!(sheet.store(&BOOK, &mut []), Err(PHOTOGRAPHED));
+    assert_eq!((sheet.enter(&BOOK, 0, 0), sheet.enter(&BOOK, 0, 1)), (Err(PHOTOGRAPHED), Err(PHOTOGRAPHED)));
+    assert_eq!((sheet.enter(&BOOK, 0, 2), sheet.withdraw(&BOOK, 0)), (Err(NO_CODE), Err(PHOTOGRAPHED)));
+    assert_eq!((sheet.photograph(&BOOK, 2), sheet.photograph(&BOOK, 3)), (Err(NO_ANSWER_YET), Err(NO_FIELD)));
+    assert_eq!((sheet.photograph(&BOOK, 0), sheet), (Ok(()), photographed()));
+    assert_eq!((sheet.enter(&BOOK, 1, 2), sheet.withdraw(&BOOK, 1)), (Ok(()), Ok(())));
+    assert_eq!((sheet.answer(1), sheet.is_photographed(0)), (None, true));
+    sheet.clear();
+    assert_eq!((sheet, sheet.enter(&BOOK, 0, 1)), (Sheet::fresh(), Ok(())));
+}
+
+/// A photograph needs an answer; the first place at fault is named, by its answer or by its photograph.
+#[test]
+fn a_photograph_without_an_answer() {
+    let fault = |places: &[usize]| {
+        let mut bytes = *answered().bytes();
+        places.iter().for_each(|&place| bytes[PLACES + place] = 1);
+        Sheet::from(bytes).photograph(&BOOK, 0)
+    };
+    assert_eq!(fault(&[0, 1]), Ok(()));
+    assert_eq!(fault(&[1, 2]), Err(Refusal { number: 14, place: 2 }));
+    assert_eq!(fault(&[3, 59]), Err(Refusal { number: 14, place: 3 }));
+    assert_eq!(fault(&[59]), Err(Refusal { number: 14, place: 59 }));
+    assert_eq!(faulty().photograph(&BOOK, 0), Err(Refusal { number: 14, place: 0 }));
+    assert_eq!(faulty().photograph(&BOOK[..34], 0), Err(Refusal { number: 2, place: 33 }));
 }
 
 /// Row 0 is found and is not none; row 1 comes again behind it; none is no refusal.
@@ -121,6 +199,21 @@ fn a_refused_replay_hands_back_the_sheet_that_its_list_reached() {
     assert_eq!(Sheet::replay(&BOOK, &list, &mut pairs), (answered(), Ok(Alternatives { total: 4, struck: 11 })));
     let refused = Err(Refusal { number: 2, place: 33 });
     assert_eq!(Sheet::replay(&BOOK[..34], &list, &mut pairs), (Sheet::fresh(), refused));
+}
+
+#[test]
+fn a_replay_takes_photographs() {
+    let enter = |field, code| Call::Enter { field, code };
+    let list = [enter(0, 0), enter(1, 1), Call::Photograph { field: 2 }, Call::Photograph { field: 0 }, enter(0, 1)];
+    let list = [&list[..], &[Call::Withdraw { field: 0 }, Call::Photograph { field: 0 }]].concat();
+    let found = Ok(Alternatives { total: 2, struck: 8 });
+    let replay = |list: &[Call]| {
+        let bytes: Vec<u8> = list.iter().flat_map(|call| call.bytes()).collect();
+        Sheet::replay(&BOOK, &bytes, &mut [0; PAIRS_BYTES])
+    };
+    assert_eq!(replay(&list), (photographed(), found));
+    let cleared = [&list[..], &[Call::Clear, enter(0, 0), enter(1, 1)]].concat();
+    assert_eq!(replay(&cleared), (answered(), Ok(Alternatives { total: 4, struck: 11 })));
 }
 
 /// The bytes that the wrapper writes for a listing.
@@ -207,7 +300,7 @@ fn a_listing_or_a_book_that_does_not_fit_is_an_ordinary_refusal() {
 #[test]
 fn the_lengths_named_suffice() {
     let book = [&[32; 60][..], &[0, 0, 60, 0, 2, 0xE5]].concat();
-    let sheet = Sheet::from([31; SHEET_BYTES]);
+    let sheet = Sheet::from([31; PLACES]);
     assert_eq!(sheet.alternatives(&book, &mut [0; PAIRS_BYTES]).map(|found| found.total), Ok(1920));
     assert_eq!(sheet.alternatives(&book, &mut [0; PAIRS_BYTES - 1]), Err(TOO_FEW));
     assert_eq!(sheet.filtered(&book, None, &mut [0; NUMBERS]), Ok(()));
@@ -240,6 +333,7 @@ fn constants_are_those_of_the_header() {
         let line = words.find(|words| words.len() > 2 && words[..2] == ["#define", name]);
         line.and_then(|words| words[2].parse::<usize>().ok())
     };
+    assert_eq!(value("SIGHTING_PLACES"), Some(PLACES));
     assert_eq!(value("SIGHTING_SHEET_BYTES"), Some(SHEET_BYTES));
     assert_eq!(value("SIGHTING_NO_ANSWER"), Some(NO_ANSWER as usize));
     assert_eq!(value("SIGHTING_PAIRS_BYTES"), Some(PAIRS_BYTES));
@@ -252,6 +346,7 @@ fn constants_are_those_of_the_header() {
         ("SIGHTING_CALL_ENTER", Call::Enter { field: 0, code: 0 }),
         ("SIGHTING_CALL_WITHDRAW", Call::Withdraw { field: 0 }),
         ("SIGHTING_CALL_CLEAR", Call::Clear),
+        ("SIGHTING_CALL_PHOTOGRAPH", Call::Photograph { field: 0 }),
     ] {
         assert_eq!(value(name), Some(call.bytes()[0] as usize));
     }

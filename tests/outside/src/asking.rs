@@ -1,10 +1,11 @@
 //! Seeded calls for the row behind a code.
 
 use crate::book::Book;
-use crate::calls::{Call, Sheet};
+use crate::calls::Call;
 use crate::filter::largest;
 use crate::random::Random;
 use crate::row::Pointed;
+use crate::sheet::Sheet;
 
 /// Of more rows than this, the last are often asked for.
 const MANY: usize = 200;
@@ -36,7 +37,7 @@ fn pointed(r: &mut Random, book: &Book, sheet: &Sheet) -> Pointed {
 
 /// Of all codes of the table's fields, one whose row stands furthest down.
 fn furthest(book: &Book, sheet: &Sheet, table: usize) -> Pointed {
-    let (standing, of) = (largest(book, sheet), &book.tables[table]);
+    let (standing, of) = (largest(book, &sheet.answers), &book.tables[table]);
     // in a book to be refused a row may have a code that its field lacks
     let stands = |field: usize, code: usize| standing[field].get(code).is_some_and(|&stands| stands);
     let row = |asked: &Pointed| of.rows.iter().position(|row| asked.is_kept(of, row, stands));

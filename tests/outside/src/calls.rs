@@ -1,14 +1,7 @@
 //! The calls, and what one answers and leaves in the memory lent.
 
 use crate::book::{refuse, Refusal};
-use crate::filter::NO_ANSWER;
-
-/// The places of a sheet, whatever the book's version.
-pub const PLACES: usize = 60;
-
-pub type Sheet = [u8; PLACES];
-
-pub const FRESH: Sheet = [NO_ANSWER; PLACES];
+use crate::sheet::Sheet;
 
 /// A call with its arguments other than book, sheet and buffers.
 #[derive(Clone, Debug, PartialEq)]
@@ -18,6 +11,7 @@ pub enum Call {
     Clear,
     Enter { field: usize, code: usize },
     Withdraw { field: usize },
+    Photograph { field: usize },
     Filtered { relaxed: usize },
     Alternatives,
     Row { field: usize, code: usize, table: usize },
@@ -31,23 +25,45 @@ pub enum Call {
 
 /// The calls that read a book.
 pub const OF_A_BOOK: &[&str] =
-    &["read", "enter", "withdraw", "filtered", "alternatives", "row", "load", "store", "replay", "report", "show"];
+    &["read", "enter", "withdraw", "photograph", "filtered", "alternatives", "row", "load", "store", "replay", "report", "show"];
 
 /// The calls that are given a sheet with answers.
-pub const OF_A_SHEET: &[&str] = &["enter", "withdraw", "filtered", "alternatives", "row", "store"];
+pub const OF_A_SHEET: &[&str] = &["enter", "withdraw", "photograph", "filtered", "alternatives", "row", "store"];
+
+/// Those of them that hand it back changed, or as it was given.
+pub const CHANGING: &[&str] = &["enter", "withdraw", "photograph"];
+
+/// The calls that hand a sheet back of which nothing was there before.
+pub const MAKING: &[&str] = &["fresh", "clear", "load", "replay"];
 
 /// The calls that are given a field.
-pub const OF_A_FIELD: &[&str] = &["enter", "withdraw", "filtered", "row"];
+pub const OF_A_FIELD: &[&str] = &["enter", "withdraw", "photograph", "filtered", "row"];
 
 /// The calls that are given a code of it.
 pub const OF_A_CODE: &[&str] = &["enter", "row"];
 
 /// The calls that tell a place.
-pub const TELLING: &[&str] =
-    &["read", "enter", "withdraw", "filtered", "alternatives", "row", "load", "store", "replay", "report", "show", "write"];
+pub const TELLING: &[&str] = &[
+    "read",
+    "enter",
+    "withdraw",
+    "photograph",
+    "filtered",
+    "alternatives",
+    "row",
+    "load",
+    "store",
+    "replay",
+    "report",
+    "show",
+    "write",
+];
 
 /// The calls that list alternatives.
 pub const LISTING: &[&str] = &["alternatives", "replay", "report"];
+
+/// Those of them that list pairs of a sheet that may have photographs.
+pub const WITH_PAIRS: &[&str] = &["alternatives", "replay"];
 
 /// The calls that count different rows.
 pub const COUNTING: &[&str] = &["read", "report"];
@@ -60,6 +76,7 @@ impl Call {
             Call::Clear => "clear",
             Call::Enter { .. } => "enter",
             Call::Withdraw { .. } => "withdraw",
+            Call::Photograph { .. } => "photograph",
             Call::Filtered { .. } => "filtered",
             Call::Alternatives => "alternatives",
             Call::Row { .. } => "row",
@@ -105,6 +122,7 @@ impl Call {
         match *self {
             Call::Enter { field, .. }
             | Call::Withdraw { field }
+            | Call::Photograph { field }
             | Call::Filtered { relaxed: field }
             | Call::Row { field, .. } => Some(field),
             _ => None,

@@ -2,14 +2,15 @@
 
 use crate::asking;
 use crate::book::{field_limit, Book, Table};
-use crate::calls::{Call, Sheet, FRESH, PLACES};
+use crate::calls::Call;
 use crate::draft::Draft;
 use crate::faults::{changed, faulty, some_faults, turned};
-use crate::filter::NO_ANSWER;
 use crate::listing::Listing;
 use crate::listings;
+use crate::photographs;
 use crate::random::{self, Random};
 use crate::repeats;
+use crate::sheet::{Sheet, NO_ANSWER, PLACES};
 
 pub struct Case {
     pub book: Vec<u8>,
@@ -197,12 +198,11 @@ fn longest(r: &mut Random, version: u8) -> Book {
     Book::new(vec![32; fields], (0..64).map(|_| table(r)).collect())
 }
 
-/// A sheet for the book, in some cases with faults below or behind the number of fields.
+/// A sheet for the book, in some cases with photographs, and in some with faults below or behind the number of fields.
 fn sheet(r: &mut Random, book: &Book) -> Sheet {
-    let mut sheet = FRESH;
-    for (place, answer) in sheet.iter_mut().zip(random::form(r, book)) {
-        *place = answer;
-    }
+    let form = random::form(r, book);
+    let mut sheet = Sheet::of(&form[..form.len().min(PLACES)]);
+    photographs::take(r, &mut sheet);
     if r.one_in(4) {
         for _ in 0..r.from(1, 2) {
             spoil(r, book, &mut sheet);
@@ -211,7 +211,8 @@ fn sheet(r: &mut Random, book: &Book) -> Sheet {
     sheet
 }
 
-/// A fault in one of the fields, anywhere, or at a place where a number of fields ends.
+/// A fault in one of the fields, anywhere, or at a place where a number of fields ends: an answer that is none, or a photograph without
+/// an answer.
 fn spoil(r: &mut Random, book: &Book, sheet: &mut Sheet) {
     let (fields, last) = (book.counts.len().min(PLACES), PLACES - 1);
     let place = match r.from(0, 3) {
@@ -219,8 +220,11 @@ fn spoil(r: &mut Random, book: &Book, sheet: &mut Sheet) {
         2 => r.from(0, last),
         _ => r.one_of(&[field_limit(1) - 1, field_limit(1), fields.min(last), last]),
     };
+    if r.one_in(3) {
+        return photographs::misplace(r, sheet, place);
+    }
     let least = book.counts.get(place).map_or(0, |&count| count as usize);
-    sheet[place] = r.from(least, 254) as u8;
+    sheet.answers[place] = r.from(least, 254) as u8;
 }
 
 /// A stored sheet, in some cases of another length, with a fault, or both.
@@ -275,7 +279,7 @@ fn code(r: &mut Random, book: &Book, field: u8) -> u8 {
 
 /// Mostly a field with an answer, or 255 for none.
 fn answered(r: &mut Random, book: &Book, sheet: &Sheet) -> u8 {
-    let held: Vec<u8> = (0..PLACES as u8).filter(|&f| sheet[f as usize] != NO_ANSWER).collect();
+    let held: Vec<u8> = (0..PLACES as u8).filter(|&f| sheet.is_answered(f as usize)).collect();
     match r.from(0, 5) {
         0..=1 => NO_ANSWER,
         2 => field(r, book),
@@ -285,41 +289,63 @@ fn answered(r: &mut Random, book: &Book, sheet: &Sheet) -> u8 {
     }
 }
 
-/// Calls of three bytes, mostly few, some of no kind, and in some cases an incomplete one behind them. Some lists begin with the
-/// answers of a stored sheet, so that they reach one as a call on a sheet is given.
+/// Calls of three bytes, and in some cases an incomplete one behind them. Some lists begin with the answers of a stored sheet, so that
+/// they reach one as a call on a sheet is given.
 fn list(r: &mut Random, book: &Book) -> Vec<u8> {
-    let mut bytes = if r.one_in(2) { entered(r, book) } else { Vec::new() };
-    let most = [0, 2, 10, 10, 30, 100][r.from(0, 5)];
-    for _ in 0..r.from(0, most) {
-        let field = field(r, book);
-        let code = code(r, book, field);
-        let kind = [0, 0, 0, 0, 0, 0, 1, 1, 2, 3 + (r.word() % 253) as u8][r.from(0, 9)];
-        bytes.extend([kind, field, code]);
-    }
+    let beginning = if r.one_in(2) { entered(r, book) } else { Vec::new() };
+    let mut bytes = if r.one_in(2) { photographs::history(r, book, beginning) } else { blind(r, book, beginning) };
     if r.one_in(3) {
         bytes.extend([0, 0].iter().take(r.from(1, 2)));
     }
     bytes
 }
 
+/// Calls that do not look at what those before them reach, mostly few, some of no kind.
+fn blind(r: &mut Random, book: &Book, beginning: Vec<[u8; 3]>) -> Vec<u8> {
+    let mut bytes = beginning.concat();
+    let most = [0, 2, 10, 10, 30, 100][r.from(0, 5)];
+    for _ in 0..r.from(0, most) {
+        let field = field(r, book);
+        let code = code(r, book, field);
+        let kind = [0, 0, 0, 0, 0, 0, 1, 1, 2, 3, 4 + (r.word() % 252) as u8][r.from(0, 10)];
+        bytes.extend([kind, field, code]);
+    }
+    bytes
+}
+
 /// The calls that enter the answers of a stored sheet, in any order.
-fn entered(r: &mut Random, book: &Book) -> Vec<u8> {
+fn entered(r: &mut Random, book: &Book) -> Vec<[u8; 3]> {
     let form = random::form(r, book);
-    let answers = form.iter().enumerate().filter(|(_, &code)| code != NO_ANSWER);
+    let answers = form.iter().take(PLACES).enumerate().filter(|(_, &code)| code != NO_ANSWER);
     let mut calls: Vec<[u8; 3]> = answers.map(|(f, &code)| [0, f as u8, code]).collect();
     r.shuffle(&mut calls);
-    calls.concat()
+    calls
+}
+
+/// A field and a code to enter: of a sheet with photographs often of a photographed field, with the code held, another, or none.
+fn answer(r: &mut Random, book: &Book, sheet: &Sheet) -> (u8, u8) {
+    match photographs::some_photographed(r, book, sheet) {
+        Some(field) if r.one_in(3) => {
+            let other = code(r, book, field);
+            (field, r.one_of(&[sheet.answers[field as usize], other, other]))
+        }
+        _ => {
+            let field = field(r, book);
+            (field, code(r, book, field))
+        }
+    }
 }
 
 fn calls(r: &mut Random, book: &Book, sheet: &Sheet) -> Vec<Call> {
-    let (entered, withdrawn, relaxed) = (field(r, book), answered(r, book, sheet), answered(r, book, sheet));
-    let entered_code = code(r, book, entered);
+    let (entered, entered_code) = answer(r, book, sheet);
+    let (withdrawn, relaxed, photographed) = (answered(r, book, sheet), answered(r, book, sheet), answered(r, book, sheet));
     vec![
         Call::Read,
         Call::Fresh,
         Call::Clear,
         Call::Enter { field: widened(r, entered), code: widened(r, entered_code) },
         Call::Withdraw { field: widened(r, withdrawn) },
+        Call::Photograph { field: widened(r, photographed) },
         Call::Filtered { relaxed: widened(r, relaxed) },
         Call::Alternatives,
         Call::Load { form: form(r, book) },

@@ -4,10 +4,10 @@ use crate::book::Book;
 use crate::calls::{Buffers, Call, Left};
 use crate::cases::{random, Case};
 use crate::desk::{opened, Desk, Reading};
-use crate::filter::NO_ANSWER;
 use crate::library::{Lent, Library};
 use crate::memory::{End, Room};
 use crate::random::Random;
+use crate::sheet::Sheet;
 use crate::slips::listed_although_empty;
 
 /// What an outcome's cells hold before a call, to see that each is written.
@@ -106,7 +106,7 @@ pub struct Rooms {
 impl Rooms {
     /// What the library leaves in memory that lies at this end of its rooms; none where it wrote beside it.
     pub fn left(&self, library: &dyn Library, case: &Case, call: &Call, lent: &Buffers, end: End) -> Option<Left> {
-        let (book, sheet) = (self.book.put(end, &case.book), self.sheet.put(end, &case.sheet));
+        let (book, sheet) = (self.book.put(end, &case.book), self.sheet.put(end, &case.sheet.bytes()));
         let (list, listing) = (self.list.put(end, call.list()), self.listing.put(end, call.listing()));
         let cells = self.cells.put(end, &vec![UNWRITTEN; call.cells()]);
         let (bytes, shown) = (self.bytes.put(end, &lent.bytes), self.shown.put(end, &lent.listing));
@@ -123,7 +123,7 @@ impl Rooms {
         };
         // SAFETY: each part has the elements that the header asks for, and they lie apart from each other.
         let number = unsafe { library.call(call, &lent) };
-        let sheet = sheet.left()?.try_into().expect("a sheet has its places");
+        let sheet = Sheet::from_bytes(sheet.left()?.try_into().expect("a sheet has its bytes"));
         let out = Buffers { bytes: bytes.left()?, listing: shown.left()?, numbers: numbers.left()? };
         Some(Left { number, cells: cells.left()?, sheet, out })
     }
@@ -134,7 +134,7 @@ impl Rooms {
             let left = self.left(library, case, trial.call, &trial.lent, end);
             (left.as_ref() != Some(&trial.left)).then(|| {
                 let got = left.map_or("written beside the memory lent".to_string(), |left| format!("{left:?}"));
-                let (book, sheet) = (hex(&case.book), hex(&case.sheet));
+                let (book, sheet) = (hex(&case.book), hex(&case.sheet.bytes()));
                 format!("{:?}, {end:?}\nbook {book}\nsheet {sheet}\nexpected {:?}\ngot      {got}", trial.call, trial.left)
             })
         })
@@ -148,12 +148,13 @@ impl Rooms {
     }
 
     /// What the alternatives have to be by plain filtering, each answered field relaxed in turn: "the list agrees with them wherever
-    /// they leave no field empty", and elsewhere a field has no line.
+    /// they leave no field empty", and elsewhere a field has no line. "Plain filtering may still lift" a photographed field, and "its
+    /// numbers for that case then have no list to agree with".
     fn by_filtering(&self, library: &dyn Library, case: &Case, book: &Book) -> Option<Vec<u8>> {
         let mut pairs = Vec::new();
-        for f in (0..book.counts.len()).filter(|&f| case.sheet[f] != NO_ANSWER) {
+        for f in (0..book.counts.len()).filter(|&f| case.sheet.is_answered(f)) {
             let numbers = self.numbers(library, case, book, f)?;
-            if !numbers.contains(&0) {
+            if case.sheet.is_in_doubt(f) && !numbers.contains(&0) {
                 pairs.extend((0..32).filter(|c| numbers[f] >> c & 1 == 1).flat_map(|c| [f as u8, c]));
             }
         }
@@ -174,7 +175,7 @@ impl Rooms {
         let expected = self.by_filtering(library, case, book);
         let listed = self.pairs(library, case);
         (listed.is_none() || listed != expected).then(|| {
-            let (book, sheet) = (hex(&case.book), hex(&case.sheet));
+            let (book, sheet) = (hex(&case.book), hex(&case.sheet.bytes()));
             format!("book {book}\nsheet {sheet}\nby plain filtering {expected:?}\nlisted             {listed:?}")
         })
     }

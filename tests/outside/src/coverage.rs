@@ -3,18 +3,21 @@
 use std::collections::{BTreeMap, BTreeSet};
 
 use crate::book::Book;
-use crate::calls::{Call, Sheet, COUNTING, LISTING};
+use crate::calls::{Call, COUNTING, LISTING, MAKING, OF_A_SHEET, WITH_PAIRS};
 use crate::cases::{boundaries, Case};
 use crate::compare::{of_each_call, Asked, Trial};
-use crate::desk::{after, Desk, Reading};
+use crate::desk::{opened, Desk, Reading};
 use crate::faults::FAULTS;
 use crate::listing::book_bytes;
 use crate::listings::{reason, ways, REASONS};
+use crate::made::{self, Made};
+use crate::photograph_shapes;
 use crate::reader::Reader;
 use crate::row_shapes::{self, Asked as RowAsked};
-use crate::shapes::{shapes, SHAPES};
+use crate::shapes::{shapes, PHOTOGRAPHED, SHAPES};
+use crate::sheet::Sheet;
 use crate::tables;
-use crate::versions::{self, Made};
+use crate::versions;
 
 /// A refusal as counted: its number, and for 14 whether the place lies behind the book's fields.
 type Kind = (u64, bool);
@@ -26,20 +29,21 @@ pub struct Coverage {
     /// What the cases had beside that, by its name.
     had: BTreeMap<String, u64>,
     /// What the calls that list had to list, the lengths lent for it, what the calls that count had to count, what the calls for a row
-    /// had to find, and what each call had of M-103, by call and name.
+    /// had to find, and what each call had of M-103 and M-105, by call and name.
     by_call: BTreeMap<(&'static str, &'static str), u64>,
 }
 
 /// The refusals that each call has beside 1 to 13; `true` for a place behind the book's fields.
-const BESIDE: [(&str, &[Kind]); 11] = [
+const BESIDE: [(&str, &[Kind]); 12] = [
     ("read", &[]),
-    ("enter", &[(14, false), (14, true), (15, false), (16, false)]),
-    ("withdraw", &[(14, false), (14, true), (15, false), (17, false)]),
+    ("enter", &[(14, false), (14, true), (15, false), (16, false), (22, false)]),
+    ("withdraw", &[(14, false), (14, true), (15, false), (17, false), (22, false)]),
+    ("photograph", &[(14, false), (14, true), (15, false), (17, false)]),
     ("filtered", &[(14, false), (14, true), (15, false), (17, false), (18, false)]),
     ("alternatives", &[(14, false), (14, true), (18, false)]),
     ("row", &[(14, false), (14, true), (15, false), (16, false), (21, false)]),
     ("load", &[(14, false), (19, false)]),
-    ("store", &[(14, false), (14, true), (18, false)]),
+    ("store", &[(14, false), (14, true), (22, false), (18, false)]),
     ("replay", &[(18, false)]),
     ("report", &[(14, false), (18, false), (19, false)]),
     ("show", &[(18, false)]),
@@ -55,7 +59,7 @@ struct Had {
 /// The call that reads no book, and its refusals.
 const WITHOUT_BOOK: (&str, &[Kind]) = ("write", &[(20, false), (18, false)]);
 
-/// At how many different places a refusal has to be reached: 1 and 15 to 21 have place 0 alone.
+/// At how many different places a refusal has to be reached: 1 and 15 to 22 have place 0 alone.
 fn places_asked(number: u64) -> usize {
     match number {
         2..=11 | 13 | 14 => 3,
@@ -68,10 +72,11 @@ fn places_asked(number: u64) -> usize {
 type Arguments = (&'static str, fn(&Call) -> bool);
 
 /// What the arguments of a call have to be in some case.
-const ARGUMENTS: [Arguments; 6] = [
+const ARGUMENTS: [Arguments; 7] = [
     ("a field above a byte", |call| matches!(call, Call::Enter { field: 256.., .. })),
     ("a code above a byte", |call| matches!(call, Call::Enter { code: 256.., .. })),
     ("a field to withdraw above a byte", |call| matches!(call, Call::Withdraw { field: 256.. })),
+    ("a field to photograph above a byte", |call| matches!(call, Call::Photograph { field: 256.. })),
     ("a field to relax above a byte", |call| matches!(call, Call::Filtered { relaxed: 256.. })),
     ("a list of more than ten calls", |call| matches!(call, Call::Replay { calls } if calls.len() > 30)),
     ("a listing of more than 65,535 numbers", |call| call.listing().len() > 65_535),
@@ -89,15 +94,15 @@ const LENGTHS: [Length; 5] = [
     ("the wider list's", |lent, asked| lent == asked.wider),
 ];
 
-/// How often each of them has to be lent in a run of 32,500 cases.
+/// How often each of them has to be lent in a run of 35,000 cases.
 const LENGTHS_ASKED: u64 = 200;
 
 /// The sheet whose alternatives the call lists; none where it is refused.
 fn listed_sheet(case: &Case, reading: &Reading, call: &Call) -> Option<Sheet> {
     let desk = Desk::default();
     match call {
-        Call::Alternatives => desk.answer(&Call::Store, reading, &case.sheet).result.is_ok().then_some(case.sheet),
-        Call::Replay { calls } => Some(after(reading, calls).1),
+        Call::Alternatives => opened(reading, &case.sheet).is_ok().then_some(case.sheet),
+        Call::Replay { calls } => Some(desk.after(reading, calls).1),
         Call::Report { form } => desk.loaded(reading, form).ok(),
         _ => None,
     }
@@ -139,8 +144,9 @@ impl Coverage {
         }
         trials.iter().for_each(|trial| self.note_trial(reading, trial));
         for of_call in of_each_call(trials) {
-            let made: Vec<Made> = of_call.iter().map(|trial| Made { book: &case.book, reading, trial }).collect();
-            versions::shapes(&made).for_each(|shape| self.count(of_call[0].call, shape));
+            let made: Vec<Made> = of_call.iter().map(|trial| Made { case, reading, trial }).collect();
+            made::shapes(versions::SHAPES, &made).for_each(|shape| self.count(of_call[0].call, shape));
+            made::shapes(photograph_shapes::SHAPES, &made).for_each(|shape| self.count(of_call[0].call, shape));
         }
     }
 
@@ -227,7 +233,8 @@ impl Coverage {
         complete = LISTING.iter().fold(complete, |complete, call| complete & self.print_listed(call));
         complete = COUNTING.iter().fold(complete, |complete, call| complete & self.print_counted(call));
         complete &= print_had("rows", row_shapes::all().map(|(name, least)| self.had_by("row", name, least)));
-        kinds.iter().fold(complete, |complete, (call, _)| complete & self.print_versions(call))
+        complete = kinds.iter().fold(complete, |complete, (call, _)| complete & self.print_versions(call));
+        OF_A_SHEET.iter().chain(MAKING).fold(complete, |complete, call| complete & self.print_photographs(call))
     }
 
     /// How often the call had this.
@@ -239,7 +246,9 @@ impl Coverage {
     /// Prints what the call had to list and the lengths lent for it, and answers whether each was had often enough.
     fn print_listed(&self, call: &'static str) -> bool {
         let shapes = SHAPES.iter().map(|&(name, least, _)| self.had_by(call, name, least));
-        let shapes = print_had(&format!("sheets for {call}"), shapes);
+        let photographed = PHOTOGRAPHED.iter().filter(|_| WITH_PAIRS.contains(&call));
+        let photographed = photographed.map(|&(name, least, _)| self.had_by(call, name, least));
+        let shapes = print_had(&format!("sheets for {call}"), shapes.chain(photographed));
         let lengths = LENGTHS.iter().map(|&(name, _)| self.had_by(call, name, LENGTHS_ASKED));
         shapes & print_had(&format!("lengths for {call} where a field is passed over"), lengths)
     }
@@ -252,8 +261,14 @@ impl Coverage {
 
     /// Prints which versions, fields and places the call had, and answers whether each shape was had often enough.
     fn print_versions(&self, call: &'static str) -> bool {
-        let shapes = versions::asked(call).map(|(name, least)| self.had_by(call, name, least));
+        let shapes = made::asked(versions::SHAPES, call).map(|(name, least)| self.had_by(call, name, least));
         print_had(&format!("versions, fields and places for {call}"), shapes)
+    }
+
+    /// Prints which photographs the call had, and answers whether each shape was had often enough.
+    fn print_photographs(&self, call: &'static str) -> bool {
+        let shapes = made::asked(photograph_shapes::SHAPES, call).map(|(name, least)| self.had_by(call, name, least));
+        print_had(&format!("photographs for {call}"), shapes)
     }
 
     /// Prints how often and at how many places the call was refused in each way, and answers whether all were reached.

@@ -2,11 +2,12 @@
 //! slip is the right one with another part.
 
 use crate::book::{refuse, Book, Refusal};
-use crate::calls::{Answer, Buffers, Call, Sheet, FRESH};
-use crate::filter::{alternatives, largest, relaxed, Alternatives, Filter, Subdomain, NO_ANSWER};
+use crate::calls::{Answer, Buffers, Call};
+use crate::filter::{alternatives, largest, relaxed, Alternatives, Filter, Subdomain};
 use crate::listing::{self, Listing};
 use crate::reader::Reader;
 use crate::row::{self, Pointed};
+use crate::sheet::{Sheet, FRESH, NO_ANSWER, PLACES};
 use crate::text::report;
 
 /// What reading a book answers.
@@ -16,13 +17,17 @@ pub struct Desk {
     pub reader: Reader,
     pub different_rows: fn(&Book) -> usize,
     pub largest: Filter,
-    pub alternatives: fn(&Book, &[u8], Filter) -> Alternatives,
+    pub alternatives: fn(&Book, &Sheet, Filter) -> Alternatives,
     pub row: row::Search,
-    pub load: fn(&Book, &[u8]) -> Result<Vec<u8>, Refusal>,
+    pub load: fn(&Book, &[u8]) -> Result<Sheet, Refusal>,
+    /// One call of a list: its number, and the sheet after it.
+    pub step: fn(&Book, &mut Sheet, &[u8]) -> u64,
     /// The numbers of a book's listing.
     pub listing: fn(&Book) -> Vec<u16>,
     /// The call with its arguments as the desk takes them.
     pub taken: fn(&Call) -> Call,
+    /// What the desk takes a sheet's bytes to hold: any byte but 0 is a photograph.
+    pub held: fn(&Sheet) -> Sheet,
 }
 
 impl Default for Desk {
@@ -34,27 +39,47 @@ impl Default for Desk {
             alternatives,
             row: row::first_row,
             load,
+            step,
             listing: |book| Listing::of(book).numbers(),
             taken: Call::clone,
+            held: Sheet::in_bits,
         }
     }
 }
 
-/// Loads a stored sheet, one byte a field: 19, then 14.
-fn load(book: &Book, form: &[u8]) -> Result<Vec<u8>, Refusal> {
+/// Loads a stored sheet, one byte a field: 19, then 14. "Loading an old stored sheet marks none."
+fn load(book: &Book, form: &[u8]) -> Result<Sheet, Refusal> {
     if form.len() != book.counts.len() {
         return refuse(19, 0);
     }
-    match faults(book, form).next() {
-        Some(f) => refuse(14, f),
-        None => Ok(form.to_vec()),
-    }
+    let sheet = Sheet::of(form);
+    without_fault(book, &sheet)?;
+    Ok(sheet)
 }
 
-/// The places, from the lowest on, that hold neither 255 nor a code of their field, or lie behind the fields and are not 255.
-pub fn faults<'a>(book: &'a Book, places: &'a [u8]) -> impl Iterator<Item = usize> + 'a {
-    let is_fault = |&f: &usize| places[f] != NO_ANSWER && book.counts.get(f).is_none_or(|&count| places[f] >= count);
-    (0..places.len()).filter(is_fault)
+/// The places at fault, from the lowest on: those that hold neither 255 nor a code of their field, lie behind the fields and are not 255,
+/// or are photographed without an answer.
+pub fn faults<'a>(book: &'a Book, sheet: &'a Sheet) -> impl Iterator<Item = usize> + 'a {
+    (0..PLACES).filter(|&place| {
+        if sheet.is_answered(place) {
+            is_no_code(book, place, sheet.answers[place])
+        } else {
+            sheet.is_photographed(place)
+        }
+    })
+}
+
+/// The book has no such field, or the field no such code.
+pub fn is_no_code(book: &Book, field: usize, code: u8) -> bool {
+    book.counts.get(field).is_none_or(|&count| code >= count)
+}
+
+/// 14, some place is at fault.
+fn without_fault(book: &Book, sheet: &Sheet) -> Result<(), Refusal> {
+    match faults(book, sheet).next() {
+        Some(place) => refuse(14, place),
+        None => Ok(()),
+    }
 }
 
 /// The book, where it is not refused: 1 to 13.
@@ -65,16 +90,23 @@ pub fn accepted(reading: &Reading) -> Result<&Book, Refusal> {
 /// The book, where neither it nor the sheet is refused: 1 to 13, then 14.
 pub fn opened<'a>(reading: &'a Reading, sheet: &Sheet) -> Result<&'a Book, Refusal> {
     let book = accepted(reading)?;
-    match faults(book, sheet).next() {
-        Some(place) => refuse(14, place),
-        None => Ok(book),
+    without_fault(book, sheet)?;
+    Ok(book)
+}
+
+/// A refusal with place 0, where it is so.
+fn refuse_if(so: bool, number: u64) -> Result<(), Refusal> {
+    if so {
+        return refuse(number, 0);
     }
+    Ok(())
 }
 
 fn enter(reading: &Reading, sheet: &Sheet, field: usize, code: usize) -> Result<Sheet, Refusal> {
     has_code(opened(reading, sheet)?, field, code)?;
+    refuse_if(sheet.is_photographed(field), 22)?;
     let mut entered = *sheet;
-    entered[field] = code as u8;
+    entered.answers[field] = code as u8;
     Ok(entered)
 }
 
@@ -97,52 +129,57 @@ fn has_table(book: &Book, field: usize, table: usize) -> Result<(), Refusal> {
 
 fn withdraw(reading: &Reading, sheet: &Sheet, field: usize) -> Result<Sheet, Refusal> {
     has_answer(opened(reading, sheet)?, sheet, field)?;
+    refuse_if(sheet.is_photographed(field), 22)?;
     let mut withdrawn = *sheet;
-    withdrawn[field] = NO_ANSWER;
+    withdrawn.answers[field] = NO_ANSWER;
     Ok(withdrawn)
+}
+
+/// "Setting it again changes nothing."
+fn photograph(reading: &Reading, sheet: &Sheet, field: usize) -> Result<Sheet, Refusal> {
+    has_answer(opened(reading, sheet)?, sheet, field)?;
+    Ok(sheet.with_photographs(&[field]))
+}
+
+/// One byte a field; that form has no place for a photograph.
+fn store(reading: &Reading, sheet: &Sheet) -> Result<Vec<u8>, Refusal> {
+    let book = opened(reading, sheet)?;
+    refuse_if(sheet.has_photograph(), 22)?;
+    Ok(sheet.answers[..book.counts.len()].to_vec())
 }
 
 /// 15, no such field; 17, the field has no answer.
 fn has_answer(book: &Book, sheet: &Sheet, field: usize) -> Result<(), Refusal> {
-    if field >= book.counts.len() {
-        return refuse(15, 0);
-    }
-    if sheet[field] == NO_ANSWER {
-        return refuse(17, 0);
-    }
-    Ok(())
+    refuse_if(field >= book.counts.len(), 15)?;
+    refuse_if(!sheet.is_answered(field), 17)
 }
 
 /// One number a field, bit c set where code c is in the subdomain.
-fn numbers(domain: &Subdomain) -> Vec<u32> {
+pub fn numbers(domain: &Subdomain) -> Vec<u32> {
     let number = |codes: &Vec<bool>| codes.iter().enumerate().map(|(c, &stands)| (stands as u32) << c).sum();
     domain.iter().map(number).collect()
 }
 
-/// One call of a list: its number, and the answers after it. Any kind but 0, 1 and 2 is no call.
-fn step(book: &Book, answers: &mut Sheet, call: &[u8]) -> u64 {
-    let (field, code) = (call[1] as usize, call[2]);
-    match (call[0], book.counts.get(field)) {
-        (0 | 1, None) => return 15,
-        (0, Some(&count)) if code >= count => return 16,
-        (0, Some(_)) => answers[field] = code,
-        (1, Some(_)) if answers[field] == NO_ANSWER => return 17,
-        (1, Some(_)) => answers[field] = NO_ANSWER,
-        (2, _) => *answers = FRESH,
+/// Whether a call of a list is an enter, a withdraw or a photograph.
+pub fn is_on_field(call: &[u8]) -> bool {
+    matches!(call[0], 0 | 1 | 3)
+}
+
+/// Any kind but 0 to 3 is no call.
+pub fn step(book: &Book, sheet: &mut Sheet, call: &[u8]) -> u64 {
+    let (kind, field, code) = (call[0], call[1] as usize, call[2]);
+    match kind {
+        _ if is_on_field(call) && field >= book.counts.len() => return 15,
+        0 if is_no_code(book, field, code) => return 16,
+        1 | 3 if !sheet.is_answered(field) => return 17,
+        0 | 1 if sheet.is_photographed(field) => return 22,
+        0 => sheet.answers[field] = code,
+        1 => sheet.answers[field] = NO_ANSWER,
+        2 => *sheet = FRESH,
+        3 => sheet.photographs[field] = 1,
         _ => {}
     }
     0
-}
-
-/// The number of each call of a list and the answers after it, from the book and the arguments alone. The sheet reached holds these
-/// answers and 255 elsewhere. By a refused book each call but clear is refused.
-pub fn after(reading: &Reading, calls: &[u8]) -> (Vec<u64>, Sheet) {
-    let mut answers = FRESH;
-    let numbers = match reading {
-        Ok(book) => calls.chunks_exact(3).map(|call| step(book, &mut answers, call)).collect(),
-        Err(r) => calls.chunks_exact(3).map(|call| if call[0] < 2 { r.number } else { 0 }).collect(),
-    };
-    (numbers, answers)
 }
 
 /// An answer that writes nothing, from the sheet that it hands back.
@@ -181,10 +218,10 @@ impl Desk {
     fn filtered(&self, reading: &Reading, sheet: &Sheet, field: usize) -> Result<Vec<u32>, Refusal> {
         let book = opened(reading, sheet)?;
         if field == NO_ANSWER as usize {
-            return Ok(numbers(&(self.largest)(book, sheet)));
+            return Ok(numbers(&(self.largest)(book, &sheet.answers)));
         }
         has_answer(book, sheet, field)?;
-        Ok(numbers(&(self.largest)(book, &relaxed(sheet, field))))
+        Ok(numbers(&(self.largest)(book, &relaxed(&sheet.answers, field))))
     }
 
     /// Counts and pairs.
@@ -199,15 +236,23 @@ impl Desk {
         let book = opened(reading, sheet)?;
         has_code(book, pointed.field, pointed.code)?;
         has_table(book, pointed.field, pointed.table)?;
-        Ok(row::told((self.row)(book, sheet, self.largest, pointed).map(|row| row as u64)))
+        Ok(row::told((self.row)(book, &sheet.answers, self.largest, pointed).map(|row| row as u64)))
     }
 
     /// The sheet that a stored one makes: 1 to 13, 19, 14.
     pub fn loaded(&self, reading: &Reading, form: &[u8]) -> Result<Sheet, Refusal> {
-        let answers = (self.load)(accepted(reading)?, form)?;
+        (self.load)(accepted(reading)?, form)
+    }
+
+    /// The number of each call of a list and the sheet after it, from the book and the arguments alone: it holds the answers and
+    /// photographs after the list, and 255 and no photograph elsewhere. By a refused book each call but clear is refused.
+    pub fn after(&self, reading: &Reading, calls: &[u8]) -> (Vec<u64>, Sheet) {
         let mut sheet = FRESH;
-        sheet[..answers.len()].copy_from_slice(&answers);
-        Ok(sheet)
+        let numbers = match reading {
+            Ok(book) => calls.chunks_exact(3).map(|call| (self.step)(book, &mut sheet, call)).collect(),
+            Err(r) => calls.chunks_exact(3).map(|call| if is_on_field(call) { r.number } else { 0 }).collect(),
+        };
+        (numbers, sheet)
     }
 
     /// The bytes of the book that a listing says: 20.
@@ -216,25 +261,24 @@ impl Desk {
         Ok(counted(bytes))
     }
 
-    /// What the call answers, on a book so read and on this sheet, where enough is lent.
+    /// What the call answers, on a book so read and on this sheet, where enough is lent. A refusal hands back the very bytes.
     pub fn answer(&self, call: &Call, reading: &Reading, sheet: &Sheet) -> Answer {
+        let held = &(self.held)(sheet);
         match (self.taken)(call) {
             Call::Read => counting(self.read(reading), *sheet),
             Call::Fresh | Call::Clear => handing_back(Ok(FRESH), sheet),
-            Call::Enter { field, code } => handing_back(enter(reading, sheet, field, code), sheet),
-            Call::Withdraw { field } => handing_back(withdraw(reading, sheet, field), sheet),
+            Call::Enter { field, code } => handing_back(enter(reading, held, field, code), sheet),
+            Call::Withdraw { field } => handing_back(withdraw(reading, held, field), sheet),
+            Call::Photograph { field } => handing_back(photograph(reading, held, field), sheet),
             Call::Load { form } => handing_back(self.loaded(reading, &form), &FRESH),
-            Call::Alternatives => writing(self.listed(reading, sheet), *sheet),
-            Call::Row { field, code, table } => counting(self.row(reading, sheet, Pointed { field, code, table }), *sheet),
+            Call::Alternatives => writing(self.listed(reading, held), *sheet),
+            Call::Row { field, code, table } => counting(self.row(reading, held, Pointed { field, code, table }), *sheet),
             Call::Filtered { relaxed } => {
-                writing(self.filtered(reading, sheet, relaxed).map(|numbers| (Vec::new(), numbers)), *sheet)
+                writing(self.filtered(reading, held, relaxed).map(|numbers| (Vec::new(), numbers)), *sheet)
             }
-            Call::Store => {
-                let stored = opened(reading, sheet).map(|book| sheet[..book.counts.len()].to_vec());
-                writing(stored.map(|form| (Vec::new(), form)), *sheet)
-            }
+            Call::Store => writing(store(reading, held).map(|form| (Vec::new(), form)), *sheet),
             Call::Replay { calls } => {
-                let (_, reached) = after(reading, &calls);
+                let (_, reached) = self.after(reading, &calls);
                 writing(self.listed(reading, &reached), reached)
             }
             Call::Report { form } => writing(Ok(counted(report(self, reading, &form).into_bytes())), *sheet),
@@ -246,9 +290,11 @@ impl Desk {
 
 #[cfg(test)]
 mod tests {
-    use super::{after, Desk, Reading};
+    use super::{Desk, Reading};
     use crate::book::{refuse, Book};
-    use crate::calls::{Buffers, Call, FRESH, PLACES};
+    use crate::calls::{Buffers, Call};
+    use crate::examples::{e1, E1_PHOTOGRAPHED};
+    use crate::sheet::{Sheet, FRESH, PLACES};
 
     /// One field of two codes, and no table.
     fn book() -> Reading {
@@ -258,23 +304,98 @@ mod tests {
     #[test]
     fn a_list_of_calls() {
         let calls = [[0, 0, 1], [0, 0, 2], [0, 1, 0], [1, 0, 9], [1, 0, 9], [7, 7, 7], [0, 0, 0], [2, 9, 9], [0, 0, 1]];
-        let (numbers, reached) = after(&book(), &calls.concat());
-        assert_eq!(numbers, [0, 16, 15, 0, 17, 0, 0, 0, 0]);
-        assert_eq!((reached[0], &reached[1..]), (1, &FRESH[1..]));
-        assert_eq!(after(&book(), &[0, 0]), (Vec::new(), FRESH));
+        let desk = Desk::default();
+        assert_eq!(desk.after(&book(), &calls.concat()), (vec![0, 16, 15, 0, 17, 0, 0, 0, 0], Sheet::of(&[1])));
+        assert_eq!(desk.after(&book(), &[0, 0]), (Vec::new(), FRESH));
+    }
+
+    #[test]
+    fn photographs_in_a_list_of_calls() {
+        let desk = Desk::default();
+        let refused =
+            [[3, 1, 0], [3, 0, 0], [0, 0, 1], [3, 0, 9], [3, 0, 9], [0, 0, 1], [0, 0, 0], [0, 0, 2], [1, 0, 0], [4, 0, 0]];
+        let (numbers, reached) = desk.after(&book(), &refused.concat());
+        assert_eq!((numbers, reached), (vec![15, 17, 0, 0, 0, 22, 22, 16, 22, 0], Sheet::of(&[1]).with_photographs(&[0])));
+        let cleared = [&refused[..], &[[2, 0, 0], [3, 0, 0], [0, 0, 0], [1, 0, 0], [0, 0, 0]]].concat().concat();
+        let (numbers, reached) = desk.after(&book(), &cleared);
+        assert_eq!((&numbers[10..], reached), (&[0, 17, 0, 0, 0][..], Sheet::of(&[0])));
+        assert_eq!(desk.after(&refuse(9, 4), &[3, 0, 0, 2, 0, 0, 4, 0, 0]), (vec![9, 0, 0], FRESH));
+    }
+
+    #[test]
+    fn photographs_on_e1() {
+        let (calls, expected): (Vec<[u8; 3]>, Vec<u64>) = E1_PHOTOGRAPHED.into_iter().unzip();
+        let (numbers, reached) = Desk::default().after(&Ok(e1()), &calls.concat());
+        assert_eq!((numbers, reached), (expected, Sheet::of(&[0, 1]).with_photographs(&[0])));
+    }
+
+    /// The call's number, its place and the sheet that it leaves.
+    fn left(call: Call, sheet: Sheet) -> (u64, u64, Sheet) {
+        let left = Desk::default().answer(&call, &book(), &sheet).left(&call, &vec![7u8; PLACES].into());
+        (left.number, left.cells.first().copied().unwrap_or(0), left.sheet)
+    }
+
+    #[test]
+    fn photographs() {
+        let held = Sheet::of(&[1]);
+        let photographed = held.with_photographs(&[0]);
+        assert_eq!(left(Call::Photograph { field: 0 }, held), (0, 0, photographed));
+        assert_eq!(left(Call::Photograph { field: 0 }, photographed), (0, 0, photographed));
+        assert_eq!(left(Call::Photograph { field: 0 }, FRESH), (17, 0, FRESH));
+        assert_eq!(left(Call::Photograph { field: 1 }, FRESH), (15, 0, FRESH));
+        assert_eq!(left(Call::Enter { field: 0, code: 1 }, photographed), (22, 0, photographed));
+        assert_eq!(left(Call::Enter { field: 0, code: 2 }, photographed), (16, 0, photographed));
+        assert_eq!(left(Call::Enter { field: 1, code: 0 }, photographed), (15, 0, photographed));
+        assert_eq!(left(Call::Withdraw { field: 0 }, photographed), (22, 0, photographed));
+        assert_eq!(left(Call::Filtered { relaxed: 0 }, photographed), (0, 0, photographed));
+        assert_eq!(left(Call::Store, photographed), (22, 0, photographed));
+        assert_eq!(left(Call::Clear, photographed), (0, 0, FRESH));
+        assert_eq!(left(Call::Load { form: vec![1] }, photographed), (0, 0, held));
+        assert_eq!(left(Call::Load { form: vec![2] }, photographed), (14, 0, FRESH));
+    }
+
+    /// Any byte but 0 is a photograph: a refused call leaves it, an accepted one writes 1.
+    #[test]
+    fn bytes_of_a_photograph() {
+        let two = Ok(Book::new(vec![2; 2], Vec::new()));
+        for byte in [2, 7, 128, 255] {
+            let mut sheet = Sheet::of(&[1, 1]);
+            sheet.photographs[0] = byte;
+            let answer = |call: Call| Desk::default().answer(&call, &two, &sheet);
+            let refused = answer(Call::Withdraw { field: 0 });
+            assert_eq!((refused.result, refused.sheet), (refuse(22, 0), sheet));
+            let accepted = answer(Call::Withdraw { field: 1 });
+            assert_eq!((accepted.result, accepted.sheet), (Ok(Vec::new()), Sheet::of(&[1]).with_photographs(&[0])));
+        }
+    }
+
+    #[test]
+    fn faults_in_one_scan() {
+        let at = |answers: &[u8], photographed: &[usize]| left(Call::Store, Sheet::of(answers).with_photographs(photographed));
+        for (answers, photographed, place) in [
+            (&[][..], &[0][..], 0),
+            (&[1], &[1], 1),
+            (&[1], &[0, 59], 59),
+            (&[2], &[1], 0),
+            (&[255, 0], &[0], 0),
+            (&[255, 255, 0], &[1, 3], 1),
+            (&[2], &[0], 0),
+        ] {
+            let (number, found, _) = at(answers, photographed);
+            assert_eq!((number, found), (14, place), "{answers:?} {photographed:?}");
+        }
     }
 
     #[test]
     fn buffers_and_faults() {
-        let (desk, mut sheet) = (Desk::default(), FRESH);
-        sheet[0] = 1;
+        let (desk, mut sheet) = (Desk::default(), Sheet::of(&[1]));
         let found = desk.answer(&Call::Alternatives, &book(), &sheet);
         assert_eq!(found.written.bytes, [0, 0, 0, 1]);
         let short = found.left(&Call::Alternatives, &vec![7u8; 3].into());
         assert_eq!((short.number, short.cells, short.out.bytes), (18, vec![0; 3], vec![7; 3]));
         let long = found.left(&Call::Alternatives, &vec![7u8; 5].into());
         assert_eq!((long.number, long.cells, long.out.bytes), (0, vec![0, 2, 1], vec![0, 0, 0, 1, 7]));
-        sheet[PLACES - 1] = 0;
+        sheet.answers[PLACES - 1] = 0;
         let behind = desk.answer(&Call::Store, &book(), &sheet).left(&Call::Store, &vec![7u8].into());
         assert_eq!((behind.number, behind.cells, behind.sheet), (14, vec![59], sheet));
     }

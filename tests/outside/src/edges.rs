@@ -4,7 +4,7 @@ use sighting::{read, report, write, Alternatives, Refusal, Sheet};
 use sighting::{NO_ANSWER, NUMBERS, PAIRS_BYTES, REPORT_BYTES, STORED_BYTES};
 
 use crate::book::{Book, Table};
-use crate::calls::{FRESH, PLACES};
+use crate::sheet::{self, FRESH, PLACES};
 
 /// Books of these versions and numbers of fields: the fewest, and those beside each limit.
 const BOOKS: [(u8, usize); 9] = [(1, 1), (1, 31), (1, 32), (2, 1), (2, 31), (2, 32), (2, 33), (2, 59), (2, 60)];
@@ -18,6 +18,13 @@ fn bytes(version: u8, fields: usize) -> Vec<u8> {
 
 fn is_book(version: u16, fields: usize) -> bool {
     matches!((version, fields), (1, 1..=32) | (2, 1..=60))
+}
+
+/// A sheet with this byte alone.
+fn holding(place: usize, byte: u8) -> Sheet {
+    let mut sheet = FRESH;
+    sheet.answers[place] = byte;
+    sheet.into()
 }
 
 /// Sixty fields of 32 codes, in fours in tables of no rows, or without tables.
@@ -61,18 +68,17 @@ fn a_fault_at_each_place() {
     for (version, fields) in BOOKS {
         let book = bytes(version, fields);
         for place in 0..PLACES {
-            let mut places = FRESH;
-            places[place] = 1;
-            let (mut sheet, fault) = (Sheet::from(places), Refusal { number: 14, place: place as u64 });
+            let (mut sheet, fault) = (holding(place, 1), Refusal { number: 14, place: place as u64 });
             assert_eq!(sheet.enter(&book, 0, 0), Err(fault));
             assert_eq!(sheet.withdraw(&book, 0), Err(fault));
+            assert_eq!(sheet.photograph(&book, 0), Err(fault));
             assert_eq!(sheet.filtered(&book, None, &mut [0; NUMBERS]), Err(fault));
             assert_eq!(sheet.alternatives(&book, &mut [0; PAIRS_BYTES]), Err(fault));
             assert_eq!(sheet.row(&book, 0, 0, 0), Err(fault));
             assert_eq!(sheet.store(&book, &mut [0; STORED_BYTES]), Err(fault));
-            assert_eq!(sheet.bytes(), &places);
+            assert_eq!(sheet, holding(place, 1));
             sheet.clear();
-            assert_eq!(sheet.bytes(), &FRESH);
+            assert_eq!(sheet, Sheet::fresh());
         }
     }
 }
@@ -84,11 +90,9 @@ fn each_byte_at_each_place() {
         let counts: Vec<u8> = (1..=fields).map(|codes| codes.min(32) as u8).collect();
         let book = Book { version, ..Book::new(counts.clone(), Vec::new()) }.write();
         for (place, byte) in (0..PLACES).flat_map(|place| (0..=255).map(move |byte| (place, byte))) {
-            let mut places = FRESH;
-            places[place] = byte;
             let may_hold = byte == NO_ANSWER || counts.get(place).is_some_and(|&count| byte < count);
             let expected = if may_hold { Ok(()) } else { Err(Refusal { number: 14, place: place as u64 }) };
-            assert_eq!(Sheet::from(places).store(&book, &mut [0; STORED_BYTES]), expected, "{byte} at {place}");
+            assert_eq!(holding(place, byte).store(&book, &mut [0; STORED_BYTES]), expected, "{byte} at {place}");
         }
     }
 }
@@ -99,7 +103,7 @@ fn the_first_of_two_faults() {
         let book = bytes(version, fields);
         for (first, second) in (1..PLACES).flat_map(|second| (0..second).map(move |first| (first, second))) {
             let mut places = FRESH;
-            (places[first], places[second]) = (254, 1);
+            (places.answers[first], places.answers[second]) = (254, 1);
             let expected = Err(Refusal { number: 14, place: first as u64 });
             assert_eq!(Sheet::from(places).store(&book, &mut [0; STORED_BYTES]), expected, "{first} and {second}");
         }
@@ -112,10 +116,9 @@ fn each_field() {
     for (version, fields) in BOOKS {
         let book = bytes(version, fields);
         for field in 0..fields {
-            let (mut sheet, mut pairs, mut held) = (Sheet::fresh(), [7; 3], FRESH);
-            held[field] = 0;
+            let (mut sheet, mut pairs) = (Sheet::fresh(), [7; 3]);
             assert_eq!((sheet.enter(&book, field, 1), sheet.enter(&book, field, 0)), (refused(16), Ok(())));
-            assert_eq!(sheet.bytes(), &held);
+            assert_eq!(sheet, holding(field, 0));
             assert_eq!(sheet.filtered(&book, Some(field), &mut [0; NUMBERS]), Ok(()));
             assert_eq!(sheet.alternatives(&book, &mut pairs), Ok(Alternatives { total: 1, struck: 0 }));
             assert_eq!(pairs, [field as u8, 0, 7]);
@@ -127,6 +130,7 @@ fn each_field() {
         for none in fields..300 {
             let mut sheet = Sheet::fresh();
             assert_eq!((sheet.enter(&book, none, 0), sheet.withdraw(&book, none)), (refused(15), refused(15)));
+            assert_eq!(sheet.photograph(&book, none), refused(15));
             assert_eq!(sheet.filtered(&book, Some(none), &mut [0; NUMBERS]), refused(15));
             assert_eq!(sheet.row(&book, none, 0, 0).map(drop), refused(15));
         }
@@ -142,15 +146,14 @@ fn each_length_of_a_stored_sheet() {
             let expected = if length == fields { Ok(Sheet::fresh()) } else { Err(Refusal { number: 19, place: 0 }) };
             assert_eq!(loaded, expected, "{length} bytes for {fields} fields of version {version}");
         }
-        let (mut held, mut stored) = (FRESH, [7; PLACES + 1]);
-        held[..fields].fill(0);
-        let sheet = Sheet::load(&book, &held[..fields]).expect("a code of each field");
-        assert_eq!(sheet.bytes(), &held);
+        let (held, mut stored) = (vec![0; fields], [7; PLACES + 1]);
+        let sheet = Sheet::load(&book, &held).expect("a code of each field");
+        assert_eq!(sheet, sheet::Sheet::of(&held).into());
         assert_eq!(sheet.store(&book, &mut stored[..fields - 1]), Err(TOO_FEW));
         assert_eq!(sheet.store(&book, &mut stored), Ok(()));
-        assert_eq!((&stored[..fields], &stored[fields..]), (&held[..fields], &vec![7; PLACES + 1 - fields][..]));
+        assert_eq!((&stored[..fields], &stored[fields..]), (&held[..], &vec![7; PLACES + 1 - fields][..]));
         for field in 0..fields {
-            let mut form = held[..fields].to_vec();
+            let mut form = held.clone();
             form[field] = 1;
             assert_eq!(Sheet::load(&book, &form), Err(Refusal { number: 14, place: field as u64 }));
         }
@@ -189,11 +192,9 @@ fn a_list_of_calls_on_all_fields() {
     let enter: Vec<u8> = (0..62).flat_map(|field| [0, field, 31]).collect();
     let withdraw: Vec<u8> = (32..62).flat_map(|field| [1, field, 0]).collect();
     let (reached, found) = Sheet::replay(&book, &enter, &mut pairs);
-    assert_eq!((reached.bytes(), found.map(|found| found.total)), (&[31; PLACES], Ok(1_920)));
+    assert_eq!((reached, found.map(|found| found.total)), (Sheet::from([31; PLACES]), Ok(1_920)));
     let (reached, found) = Sheet::replay(&book, &[&enter[..], &withdraw].concat(), &mut pairs);
-    assert_eq!((&reached.bytes()[..32], &reached.bytes()[32..]), (&[31; 32][..], &FRESH[32..]));
-    assert_eq!(found.map(|found| found.total), Ok(1_024));
+    assert_eq!((reached, found.map(|found| found.total)), (sheet::Sheet::of(&[31; 32]).into(), Ok(1_024)));
     let (reached, found) = Sheet::replay(&book, &[&enter[..], &[2, 0, 0, 0, 59, 0]].concat(), &mut pairs);
-    assert_eq!((&reached.bytes()[..59], reached.bytes()[59]), (&FRESH[..59], 0));
-    assert_eq!(found, Ok(Alternatives { total: 32, struck: 31 }));
+    assert_eq!((reached, found), (holding(59, 0), Ok(Alternatives { total: 32, struck: 31 })));
 }

@@ -1,7 +1,7 @@
 //! Document 01's examples, and books like them.
 
 use crate::book::{Book, Table};
-use crate::filter::NO_ANSWER as NONE;
+use crate::sheet::NO_ANSWER as NONE;
 
 pub fn e1() -> Book {
     let first = Table { fields: vec![0, 2], rows: vec![vec![0, 0], vec![0, 1], vec![1, 2], vec![0, 1]] };
@@ -26,6 +26,22 @@ pub const E1_ROWS: [RowAsked; 11] = [
     ([0, 1, NONE], [3, 0, 2], Err(15)),
     ([NONE, 1, NONE], [0, 1, 0], Ok([1, 2])),
     ([NONE, 1, NONE], [1, 2, 1], Ok([1, 3])),
+];
+
+/// Calls of a list on E1 and the number of each. Fields 0 and 1 are answered by 0 and 1 then, and field 0 is photographed.
+pub const E1_PHOTOGRAPHED: [([u8; 3], u64); 12] = [
+    ([0, 0, 0], 0),
+    ([3, 0, 0], 0),
+    ([0, 0, 0], 22),
+    ([0, 0, 1], 22),
+    ([1, 0, 0], 22),
+    ([0, 0, 2], 16),
+    ([3, 1, 0], 17),
+    ([3, 3, 0], 15),
+    ([0, 1, 2], 0),
+    ([1, 1, 0], 0),
+    ([0, 1, 1], 0),
+    ([3, 0, 9], 0),
 ];
 
 /// Three fields of two codes, and each pair of fields differs.

@@ -1,8 +1,7 @@
 //! The largest arc-consistent subdomain, straight from document 01's definition and with no care for speed.
 
 use crate::book::{Book, Table};
-
-pub const NO_ANSWER: u8 = 255;
+use crate::sheet::{Sheet, NO_ANSWER};
 
 /// For each field, whether each of its codes is in the subdomain.
 pub type Subdomain = Vec<Vec<bool>>;
@@ -90,11 +89,15 @@ impl PassCase {
     }
 }
 
-/// Nothing lifted, then each answered field lifted by itself.
-pub fn pass_cases(book: &Book, answers: &[u8], largest: Filter) -> Vec<PassCase> {
-    let answered = (0..book.counts.len()).filter(|&f| answers[f] != NO_ANSWER);
-    let lifted = answered.map(|f| PassCase { lifted: Some(f), domain: largest(book, &relaxed(answers, f)) });
-    [PassCase { lifted: None, domain: largest(book, answers) }].into_iter().chain(lifted).collect()
+/// This field lifted by itself.
+pub fn lifting(book: &Book, answers: &[u8], largest: Filter, f: usize) -> PassCase {
+    PassCase { lifted: Some(f), domain: largest(book, &relaxed(answers, f)) }
+}
+
+/// Nothing lifted, then each answered field lifted by itself, but for a photographed one, which "gets no case of its own".
+pub fn pass_cases(book: &Book, sheet: &Sheet, largest: Filter) -> Vec<PassCase> {
+    let lifted = (0..book.counts.len()).filter(|&f| sheet.is_in_doubt(f)).map(|f| lifting(book, &sheet.answers, largest, f));
+    [PassCase { lifted: None, domain: largest(book, &sheet.answers) }].into_iter().chain(lifted).collect()
 }
 
 /// What the one pass answers.
@@ -106,22 +109,31 @@ pub struct Alternatives {
 
 /// "A field's alternatives are listed only if, with it lifted, no field at all is empty. Otherwise it has none." What is struck counts
 /// in every case.
-pub fn alternatives(book: &Book, answers: &[u8], largest: Filter) -> Alternatives {
-    let cases = pass_cases(book, answers, largest);
+pub fn alternatives(book: &Book, sheet: &Sheet, largest: Filter) -> Alternatives {
+    in_cases(&pass_cases(book, sheet, largest))
+}
+
+/// What these cases list and strike.
+pub fn in_cases(cases: &[PassCase]) -> Alternatives {
     let listed = cases.iter().filter(|case| !has_empty(&case.domain));
     Alternatives { lines: listed.flat_map(PassCase::lines).collect(), struck: cases.iter().map(PassCase::struck).sum() }
 }
 
 #[cfg(test)]
 mod tests {
-    use super::{alternatives, largest, NO_ANSWER};
+    use super::{alternatives, largest};
     use crate::book::{Book, Table};
     use crate::examples::{e1, e4, e6, two_pairs};
+    use crate::sheet::{Sheet, NO_ANSWER};
 
-    /// The lines and the struck count are these.
-    fn lists(book: &Book, answers: &[u8], lines: &[(u8, u8)], struck: u64) {
-        let found = alternatives(book, answers, largest);
+    /// The lines and the struck count are these, with these fields photographed.
+    fn lists_with(photographed: &[usize], book: &Book, answers: &[u8], lines: &[(u8, u8)], struck: u64) {
+        let found = alternatives(book, &Sheet::of(answers).with_photographs(photographed), largest);
         assert_eq!((&found.lines[..], found.struck), (lines, struck));
+    }
+
+    fn lists(book: &Book, answers: &[u8], lines: &[(u8, u8)], struck: u64) {
+        lists_with(&[], book, answers, lines, struck);
     }
 
     #[test]
@@ -147,5 +159,23 @@ mod tests {
         lists(&two_pairs(), &[0, 1, 0, NO_ANSWER], &[(0, 1), (1, 0)], 6 + 4 + 4 + 4);
         lists(&two_pairs(), &[0, 1, 0, 1], &[], 8 + 4 * 6);
         lists(&two_pairs(), &[0, 0, 1, 1], &[(0, 0), (1, 0), (2, 1), (3, 1)], 5 * 4);
+    }
+
+    /// E1's cases strike 5 with nothing lifted, 3 with field 0 and 3 with field 1.
+    #[test]
+    fn photographed_fields_of_e1() {
+        let answers = [0, 1, NO_ANSWER];
+        lists_with(&[0], &e1(), &answers, &[(1, 0), (1, 1)], 5 + 3);
+        lists_with(&[1], &e1(), &answers, &[(0, 0), (0, 1)], 5 + 3);
+        lists_with(&[0, 1], &e1(), &answers, &[], 5);
+    }
+
+    /// A contradiction stays where the field that would mend it is photographed; what is photographed still rules codes out.
+    #[test]
+    fn photographed_fields_that_contradict() {
+        lists_with(&[0], &two_pairs(), &[0, 1, 0, NO_ANSWER], &[(1, 0)], 6 + 4 + 4);
+        lists_with(&[0, 1], &two_pairs(), &[0, 1, 0, NO_ANSWER], &[], 6 + 4);
+        lists_with(&[2], &two_pairs(), &[0, 1, 0, NO_ANSWER], &[(0, 1), (1, 0)], 6 + 4 + 4);
+        lists_with(&[0], &e6(), &[0, NO_ANSWER], &[], 3);
     }
 }

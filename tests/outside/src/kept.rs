@@ -136,10 +136,11 @@ impl Aim {
 #[cfg(test)]
 mod tests {
     use super::book;
-    use crate::filter::{largest, NO_ANSWER};
+    use crate::filter::largest;
     use crate::random::Random;
     use crate::reader::Reader;
     use crate::row::{first_row, Pointed};
+    use crate::sheet::NO_ANSWER;
 
     #[test]
     fn rows_far_down_are_kept_and_none() {

@@ -2,9 +2,10 @@
 
 use sighting::{ffi, Alternatives, Refusal};
 
-use crate::calls::{Call, Sheet};
+use crate::calls::{Call, CHANGING, MAKING};
 use crate::memory::Part;
 use crate::row;
+use crate::sheet::Sheet;
 
 /// The memory lent to one call; what it has no use for is empty.
 pub struct Lent {
@@ -28,7 +29,13 @@ impl Lent {
     /// # Safety
     /// A sheet is lent.
     pub unsafe fn sheet(&self) -> Sheet {
-        self.sheet.elements().try_into().expect("a sheet has its places")
+        Sheet::from_bytes(self.sheet.elements().try_into().expect("a sheet has its bytes"))
+    }
+}
+
+impl From<Sheet> for sighting::Sheet {
+    fn from(sheet: Sheet) -> sighting::Sheet {
+        sighting::Sheet::from(sheet.bytes())
     }
 }
 
@@ -59,6 +66,7 @@ impl Library for Exported {
             }
             Call::Enter { field, code } => ffi::sighting_enter(s, b, n, *field, *code, o),
             Call::Withdraw { field } => ffi::sighting_withdraw(s, b, n, *field, o),
+            Call::Photograph { field } => ffi::sighting_photograph(s, b, n, *field, o),
             Call::Filtered { relaxed } => ffi::sighting_filtered(s, b, n, *relaxed, lent.numbers.at, lent.numbers.len, o),
             Call::Alternatives => ffi::sighting_alternatives(s, b, n, out, lent_len, o),
             Call::Row { field, code, table } => ffi::sighting_row(s, b, n, *field, *code, *table, o),
@@ -79,7 +87,8 @@ impl Library for Wrapper {
     unsafe fn call(&self, call: &Call, lent: &Lent) -> u64 {
         let (book, list) = (lent.book.elements(), lent.list.elements());
         let (bytes, numbers) = (lent.bytes.elements_mut(), lent.numbers.elements_mut());
-        let mut sheet = sighting::Sheet::from(lent.sheet());
+        let given = sighting::Sheet::from(lent.sheet());
+        let mut sheet = given;
         let result = match call {
             Call::Read => sighting::read(book).map(|c| vec![c.fields, c.tables, c.rows, c.different_rows]),
             Call::Fresh => {
@@ -92,6 +101,7 @@ impl Library for Wrapper {
             }
             Call::Enter { field, code } => nothing_counted(sheet.enter(book, *field, *code)),
             Call::Withdraw { field } => nothing_counted(sheet.withdraw(book, *field)),
+            Call::Photograph { field } => nothing_counted(sheet.photograph(book, *field)),
             Call::Filtered { relaxed } => {
                 let relaxed = Some(*relaxed).filter(|&f| f != sighting::NO_ANSWER as usize);
                 nothing_counted(sheet.filtered(book, relaxed, numbers))
@@ -113,7 +123,9 @@ impl Library for Wrapper {
             Call::Show => sighting::show(book, lent.shown.elements_mut()).map(|written| vec![written]),
             Call::Write { .. } => sighting::write(lent.listing.elements(), bytes).map(|written| vec![written]),
         };
-        if !call.only_reads_sheet() {
+        // the wrapper's sheet has 1 for any byte of a photograph but 0, so one that stays as it was given is not written
+        let is_changed = CHANGING.contains(&call.name()) && (result.is_ok() || sheet != given);
+        if is_changed || MAKING.contains(&call.name()) {
             lent.sheet.elements_mut().copy_from_slice(sheet.bytes());
         }
         told(result, lent.cells.elements_mut())
@@ -149,15 +161,15 @@ impl Library for OneByOne {
         };
         let book = lent.book.elements();
         let (_, reached) = one_by_one(book, calls);
-        lent.sheet.elements_mut().copy_from_slice(&reached);
-        let found = sighting::Sheet::from(reached).alternatives(book, lent.bytes.elements_mut());
+        lent.sheet.elements_mut().copy_from_slice(reached.bytes());
+        let found = reached.alternatives(book, lent.bytes.elements_mut());
         told(counts(found), lent.cells.elements_mut())
     }
 }
 
 /// The calls of a list one by one, each on the sheet handed back before and the first on a fresh one: the number of each, and the last
 /// sheet.
-pub fn one_by_one(book: &[u8], calls: &[u8]) -> (Vec<u64>, Sheet) {
+pub fn one_by_one(book: &[u8], calls: &[u8]) -> (Vec<u64>, sighting::Sheet) {
     let mut sheet = sighting::Sheet::fresh();
     let mut numbers = Vec::new();
     for call in calls.chunks_exact(3) {
@@ -169,11 +181,12 @@ pub fn one_by_one(book: &[u8], calls: &[u8]) -> (Vec<u64>, Sheet) {
                 sheet.clear();
                 Ok(())
             }
+            3 => sheet.photograph(book, field),
             _ => Ok(()),
         };
         numbers.push(result.map_or_else(|r| r.number, |()| 0));
     }
-    (numbers, *sheet.bytes())
+    (numbers, sheet)
 }
 
 /// The listing that the library shows for a book.
@@ -196,12 +209,12 @@ pub fn written(listing: &[u16]) -> Result<Vec<u8>, Refusal> {
 mod tests {
     use super::{Exported, Library, Wrapper};
     use crate::book::{Book, Table};
-    use crate::calls::{Call, FRESH};
+    use crate::calls::Call;
     use crate::cases::Case;
     use crate::compare::{trials, Rooms};
-    use crate::filter::NO_ANSWER;
     use crate::random::Random;
     use crate::reader::Reader;
+    use crate::sheet::{FRESH, NO_ANSWER};
 
     /// Different rows of four codes from 0 to 31, rising.
     fn rows(how_many: usize) -> Vec<Vec<u8>> {

@@ -3,11 +3,12 @@
 use std::collections::BTreeSet;
 
 use crate::book::{field_limit, Book, Table};
-use crate::filter::{largest, relaxed, NO_ANSWER};
+use crate::filter::{largest, relaxed};
 use crate::kept;
 use crate::many;
 use crate::parts;
 use crate::repeats;
+use crate::sheet::NO_ANSWER;
 
 /// SplitMix64.
 pub struct Random(pub u64);

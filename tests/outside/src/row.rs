@@ -48,10 +48,11 @@ pub fn told(row: Option<u64>) -> Vec<u64> {
 mod tests {
     use super::{first_row, Pointed};
     use crate::book::{Book, Table};
-    use crate::calls::{Call, FRESH};
+    use crate::calls::Call;
     use crate::desk::Desk;
     use crate::examples::{e1, e6, two_pairs, E1_ROWS};
-    use crate::filter::{largest, NO_ANSWER};
+    use crate::filter::largest;
+    use crate::sheet::{Sheet, NO_ANSWER};
 
     fn row(book: &Book, answers: &[u8], [field, code, table]: [usize; 3]) -> Option<usize> {
         first_row(book, answers, largest, Pointed { field, code, table })
@@ -61,8 +62,7 @@ mod tests {
     fn examples_of_e1() {
         let (desk, book) = (Desk::default(), Ok(e1()));
         for (answers, [field, code, table], expected) in E1_ROWS {
-            let mut sheet = FRESH;
-            sheet[..3].copy_from_slice(&answers);
+            let sheet = Sheet::of(&answers);
             let call = Call::Row { field, code, table };
             let answer = desk.answer(&call, &book, &sheet);
             let (number, [found, row]) = expected.map_or_else(|number| (number, [0, 0]), |cells| (0, cells));

@@ -3,8 +3,8 @@
 use sighting::{Refusal, Sheet, NO_ANSWER};
 
 use crate::book::{Book, Table};
-use crate::calls::{FRESH, PLACES};
 use crate::examples::{e1, E1_ROWS};
+use crate::sheet::{self, FRESH, PLACES};
 
 const NO_SUCH_TABLE: Result<Option<u64>, Refusal> = refused(21, 0);
 
@@ -13,9 +13,7 @@ const fn refused(number: u64, place: u64) -> Result<Option<u64>, Refusal> {
 }
 
 fn sheet(answers: &[u8]) -> Sheet {
-    let mut places = FRESH;
-    places[..answers.len()].copy_from_slice(answers);
-    Sheet::from(places)
+    sheet::Sheet::of(answers).into()
 }
 
 /// A table on one field with these codes.
@@ -93,7 +91,7 @@ fn each_field_in_each_column() {
             assert_eq!(rows(&Sheet::fresh()), [Ok(other), Ok(Some(column as u64))]);
             for beside in (0..arity).filter(|&beside| beside != column) {
                 let mut places = FRESH;
-                places[table * arity + beside] = 1;
+                places.answers[table * arity + beside] = 1;
                 assert_eq!(rows(&Sheet::from(places)), [Ok(Some(beside as u64)), Ok(None)]);
             }
             let elsewhere = (table + 1) % (PLACES / arity);

@@ -4,11 +4,12 @@
 use std::ops::RangeInclusive;
 
 use crate::book::{Book, Table};
-use crate::calls::{Call, Left, Sheet};
+use crate::calls::{Call, Left};
 use crate::compare::Trial;
 use crate::desk::faults;
-use crate::filter::{has_empty, largest, Subdomain, NO_ANSWER};
+use crate::filter::{has_empty, largest, Subdomain};
 use crate::row::Pointed;
+use crate::sheet::{Sheet, NO_ANSWER};
 
 /// A call for a row as it was made on an accepted book.
 pub struct Asked<'a> {
@@ -21,7 +22,7 @@ pub struct Asked<'a> {
     left: &'a Left,
 }
 
-/// A shape: its name, how often it has to be reached in a run of 32,500 cases, and what has it.
+/// A shape: its name, how often it has to be reached in a run of 35,000 cases, and what has it.
 type Shape = (&'static str, u64, fn(&Asked) -> bool);
 
 const ANSWERS: [Shape; 26] = [
@@ -173,7 +174,7 @@ pub fn standing(book: &Book, sheet: &Sheet) -> Subdomain {
     if faults(book, sheet).next().is_some() {
         return Vec::new();
     }
-    largest(book, sheet)
+    largest(book, &sheet.answers)
 }
 
 fn next(number: usize, count: usize) -> bool {
@@ -267,7 +268,7 @@ impl<'a> Asked<'a> {
 
     /// The answer of an answered call's field.
     fn held(&self) -> Option<usize> {
-        Some(self.sheet[self.pointed.field]).filter(|&code| code != NO_ANSWER).map(usize::from)
+        Some(self.sheet.answers[self.pointed.field]).filter(|&code| code != NO_ANSWER).map(usize::from)
     }
 
     fn is_held(&self) -> bool {
@@ -361,16 +362,15 @@ impl<'a> Asked<'a> {
 mod tests {
     use super::{standing, Asked};
     use crate::book::{Book, Table};
-    use crate::calls::{Call, FRESH, PLACES};
+    use crate::calls::Call;
     use crate::cases::Case;
     use crate::compare::trials;
     use crate::examples::{e1, E1_ROWS};
+    use crate::sheet::{Sheet, PLACES};
 
     /// The shapes of a call for a row on this book, with these answers.
     fn names(book: &Book, answers: &[u8], [field, code, table]: [usize; 3]) -> Vec<&'static str> {
-        let mut sheet = FRESH;
-        sheet[..answers.len()].copy_from_slice(answers);
-        let case = Case::new(book.write(), sheet, vec![Call::Row { field, code, table }]);
+        let case = Case::new(book.write(), Sheet::of(answers), vec![Call::Row { field, code, table }]);
         let (standing, trials) = (standing(book, &case.sheet), trials(&case, &Ok(book.clone()), 1, 0));
         let asked = Asked::by(book, &case.sheet, &standing, &trials[0]).expect("it is a call for a row");
         asked.shapes().collect()

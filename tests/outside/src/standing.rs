@@ -2,16 +2,16 @@
 
 use crate::asking::some_code;
 use crate::book::Book;
-use crate::calls::{Call, Sheet};
+use crate::calls::Call;
 use crate::cases::Case;
 use crate::compare::{hex, Rooms};
 use crate::desk::{opened, Reading};
-use crate::filter::NO_ANSWER;
 use crate::library::Library;
 use crate::listing::{ListedTable, Listing};
 use crate::memory::End;
 use crate::random::Random;
 use crate::row::told;
+use crate::sheet::{Sheet, NO_ANSWER};
 
 /// How many codes of a case are looked at.
 const CODES: usize = 3;
@@ -39,7 +39,7 @@ fn some_point(r: &mut Random, book: &Book, sheet: &Sheet) -> (usize, usize) {
     let tied = if book.tables.is_empty() { &[] } else { &book.tables[r.from(0, book.tables.len() - 1)].fields[..] };
     let any = r.from(0, book.counts.len() - 1);
     let field = if tied.is_empty() || r.one_in(8) { any } else { r.one_of(tied) as usize };
-    match sheet[field] {
+    match sheet.answers[field] {
         held if held != NO_ANSWER && r.one_in(2) => (field, held as usize),
         _ => (field, some_code(r, book, field)),
     }
@@ -95,7 +95,7 @@ impl Rooms {
         };
         OfCode {
             stands: said.stands(field, code),
-            is_allowed: [NO_ANSWER, code as u8].contains(&case.sheet[field]),
+            is_allowed: [NO_ANSWER, code as u8].contains(&case.sheet.answers[field]),
             by_hand: said.tables_with(field).map(|table| said.by_hand(table, field, code)).collect(),
             shown: said.tables_with(field).map(shown).collect(),
         }
@@ -112,7 +112,7 @@ impl Rooms {
             let (field, code) = some_point(r, book, &case.sheet);
             let of_code = self.of_code(library, case, &said, field, code);
             of_code.problem().map(|problem| {
-                let (book, sheet, OfCode { by_hand, shown, .. }) = (hex(&case.book), hex(&case.sheet), &of_code);
+                let (book, sheet, OfCode { by_hand, shown, .. }) = (hex(&case.book), hex(&case.sheet.bytes()), &of_code);
                 format!("book {book}\nsheet {sheet}\nfield {field} code {code}: {problem}\nby hand {by_hand:?}\nshown {shown:?}")
             })
         })

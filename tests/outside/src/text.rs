@@ -2,20 +2,20 @@
 
 use crate::book::Book;
 use crate::desk::{accepted, Desk, Reading};
-use crate::filter::NO_ANSWER;
+use crate::sheet::Sheet;
 
 /// The lines for a book and a sheet that are accepted.
-fn lines(desk: &Desk, book: &Book, answers: &[u8]) -> String {
+fn lines(desk: &Desk, book: &Book, sheet: &Sheet) -> String {
     let different = (desk.different_rows)(book);
     let mut text = format!("book {} {} {} {different}\n", book.counts.len(), book.tables.len(), book.rows());
-    let answered = answers.iter().filter(|&&a| a != NO_ANSWER).count();
-    let found = (desk.alternatives)(book, answers, desk.largest);
+    let answered = (0..book.counts.len()).filter(|&f| sheet.is_answered(f)).count();
+    let found = (desk.alternatives)(book, sheet, desk.largest);
     text += &format!("sheet {} {} {}\n", answered, found.lines.len(), found.struck);
     for (f, c) in &found.lines {
         text += &format!("alt {f} {c}\n");
     }
-    let standing = (desk.largest)(book, answers);
-    for f in (0..book.counts.len()).filter(|&f| answers[f] == NO_ANSWER) {
+    let standing = (desk.largest)(book, &sheet.answers);
+    for f in (0..book.counts.len()).filter(|&f| !sheet.is_answered(f)) {
         for c in (0..book.counts[f] as usize).filter(|&c| standing[f][c]) {
             text += &format!("open {f} {c}\n");
         }
@@ -27,7 +27,7 @@ fn lines(desk: &Desk, book: &Book, answers: &[u8]) -> String {
 pub fn report(desk: &Desk, reading: &Reading, form: &[u8]) -> String {
     let loaded = accepted(reading).and_then(|book| Ok((book, desk.loaded(reading, form)?)));
     match loaded {
-        Ok((book, answers)) => lines(desk, book, &answers),
+        Ok((book, sheet)) => lines(desk, book, &sheet),
         Err(r) => format!("refused {} {}\n", r.number, r.place),
     }
 }

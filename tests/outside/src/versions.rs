@@ -4,28 +4,17 @@
 use std::ops::RangeInclusive;
 
 use crate::book::Refusal;
-use crate::calls::{Call, Sheet, LISTING, OF_A_BOOK, OF_A_FIELD, OF_A_SHEET};
-use crate::compare::Trial;
-use crate::desk::{after, Desk, Reading};
-use crate::filter::NO_ANSWER;
-
-/// A call as it was made on a book.
-pub struct Made<'a> {
-    pub book: &'a [u8],
-    pub reading: &'a Reading,
-    pub trial: &'a Trial<'a>,
-}
-
-/// A shape: its name, how often each of its calls has to reach it in a run of 32,500 cases, these calls, and what has it.
-type Shape = (&'static str, u64, &'static [&'static str], fn(&Made) -> bool);
+use crate::calls::{Call, LISTING, OF_A_BOOK, OF_A_FIELD, OF_A_SHEET, WITH_PAIRS};
+use crate::desk::Desk;
+use crate::made::{Made, Shape};
+use crate::sheet::{Sheet, NO_ANSWER};
 
 const OF_A_FORM: &[&str] = &["load", "report"];
 const ONE_FOR_EACH: &[&str] = &["filtered", "store"];
-const WITH_PAIRS: &[&str] = &["alternatives", "replay"];
 
 const ALL: RangeInclusive<u8> = 0..=255;
 
-const SHAPES: [Shape; 68] = [
+pub const SHAPES: &[Shape] = &[
     ("version 1, fewer than 32 fields", 5_000, OF_A_BOOK, |made| made.reads(1, 1..=31)),
     ("version 1, 32 fields", 350, OF_A_BOOK, |made| made.reads(1, 32..=32)),
     ("version 2, fewer than 32 fields", 2_500, OF_A_BOOK, |made| made.reads(2, 1..=31)),
@@ -100,28 +89,7 @@ const SHAPES: [Shape; 68] = [
     ("16,898 bytes asked, one less lent", 8, &["write"], |made| made.lent_of(16_898) == Some(16_897)),
 ];
 
-/// The names of the shapes that a call has, made with one length lent or another.
-pub fn shapes<'a>(made: &'a [Made<'a>]) -> impl Iterator<Item = &'static str> + 'a {
-    let of_call = move |calls: &[&str]| made.first().is_some_and(|made| calls.contains(&made.trial.call.name()));
-    let had = SHAPES.iter().filter(move |(_, _, calls, has)| of_call(calls) && made.iter().any(has));
-    had.map(|(name, ..)| *name)
-}
-
-/// What the shapes of a call are, and how often each has to be reached.
-pub fn asked(call: &'static str) -> impl Iterator<Item = (&'static str, u64)> {
-    SHAPES.iter().filter(move |(_, _, calls, _)| calls.contains(&call)).map(|(name, least, ..)| (*name, *least))
-}
-
 impl Made<'_> {
-    fn number(&self) -> u64 {
-        self.trial.left.number
-    }
-
-    /// The fields of the book; none where it is refused.
-    fn fields(&self) -> usize {
-        self.reading.as_ref().map_or(0, |book| book.counts.len())
-    }
-
     fn is_version(&self, version: u8) -> bool {
         self.reading.as_ref().is_ok_and(|book| book.version == version)
     }
@@ -133,7 +101,7 @@ impl Made<'_> {
     /// The book is refused by 3 or 4, and has such a version and number of fields in its trailer.
     fn turns_down(&self, number: u64, versions: RangeInclusive<u8>, fields: RangeInclusive<u8>) -> bool {
         let refused = self.reading.as_ref().is_err_and(|r| r.number == number);
-        let from_end = |back: usize| self.book[self.book.len() - back];
+        let from_end = |back: usize| self.case.book[self.case.book.len() - back];
         refused && versions.contains(&from_end(2)) && fields.contains(&from_end(4))
     }
 
@@ -215,13 +183,13 @@ impl Made<'_> {
 
     /// The list of calls reaches an answer in such a field.
     fn reached(&self, fields: RangeInclusive<usize>) -> bool {
-        self.trial.left.sheet[fields].iter().any(|&answer| answer != NO_ANSWER)
+        self.trial.left.sheet.answers[fields].iter().any(|&answer| answer != NO_ANSWER)
     }
 
     /// The list of calls withdraws an answer from such a field.
     fn withdraws(&self, fields: RangeInclusive<u8>) -> bool {
         let calls = self.trial.call.list();
-        let (numbers, _) = after(self.reading, calls);
+        let (numbers, _) = Desk::default().after(self.reading, calls);
         calls.chunks_exact(3).zip(numbers).any(|(call, number)| call[0] == 1 && number == 0 && fields.contains(&call[1]))
     }
 
@@ -237,21 +205,15 @@ impl Made<'_> {
 
 #[cfg(test)]
 mod tests {
-    use super::{shapes, Made};
+    use super::SHAPES;
     use crate::book::Book;
-    use crate::calls::{Call, Sheet, FRESH, PLACES};
-    use crate::cases::Case;
-    use crate::compare::trials;
-    use crate::filter::NO_ANSWER;
-    use crate::reader::Reader;
+    use crate::calls::Call;
+    use crate::made::names_of;
+    use crate::sheet::{Sheet, FRESH, NO_ANSWER, PLACES};
 
     /// The shapes of a call on such a book without tables and on this sheet.
     fn names(version: u8, counts: Vec<u8>, sheet: Sheet, call: Call) -> Vec<&'static str> {
-        let case = Case::new(Book { version, ..Book::new(counts, Vec::new()) }.write(), sheet, vec![call]);
-        let reading = Reader::default().read(&case.book);
-        let trials = trials(&case, &reading, 1, 0);
-        let made: Vec<Made> = trials.iter().map(|trial| Made { book: &case.book, reading: &reading, trial }).collect();
-        shapes(&made).collect()
+        names_of(SHAPES, &Book { version, ..Book::new(counts, Vec::new()) }, sheet, call)
     }
 
     #[test]
@@ -268,7 +230,7 @@ mod tests {
     #[test]
     fn shapes_of_sheets() {
         let mut sheet = FRESH;
-        sheet[PLACES - 1] = 1;
+        sheet.answers[PLACES - 1] = 1;
         let store = |version, fields| names(version, vec![1; fields], sheet, Call::Store);
         assert_eq!(store(1, 1), ["version 1, fewer than 32 fields", "14 at 59 for version 1"]);
         assert_eq!(store(2, 59), ["version 2, 59 fields", "14 at 59 behind the fields of version 2"]);
@@ -281,7 +243,7 @@ mod tests {
 
     #[test]
     fn shapes_of_lists() {
-        let of_all = |call| names(2, vec![32; 60], [0; PLACES], call);
+        let of_all = |call| names(2, vec![32; 60], Sheet::of(&[0; PLACES]), call);
         let lines = ["a line of a field from 32 to 58", "a line of field 59", "more than 1,024 lines", "1,920 lines"];
         let struck = ["more than 33,792 struck", "more than 65,535 struck", "more than 99,999 struck"];
         let expected = [&["version 2, 60 fields"], &lines[..], &["3,840 bytes asked, 3,839 lent"], &struck].concat();

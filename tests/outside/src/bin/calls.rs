@@ -3,10 +3,10 @@
 //! `calls CASES [SEED]` runs the cases of a seed, 1 if none is given; `calls case INDEX SEED` repeats one of them. Each call is made
 //! bare and by the safe wrapper, with buffers one short, exact, longer, as long as the header says suffices, and of length 0, and with
 //! its memory flush against a page that nobody may touch, in front and behind; a list of calls is also made one by one, alternatives are
-//! held against plain filtering with each answered field relaxed, rows against plain filtering and the listing, a book that is shown or
-//! written goes the way back too, and an accepted book is turned into the other version. The run prints how often each refusal of each
-//! call was reached and what else the cases had, and fails if something was missed; some of it has to be had so often that it takes
-//! 32,500 cases.
+//! held against plain filtering with each answered field relaxed, photographed or not, rows against plain filtering and the listing, a
+//! book that is shown or written goes the way back too, and an accepted book is turned into the other version. The run prints how often
+//! each refusal of each call was reached and what else the cases had, and fails if something was missed; some of it has to be had so
+//! often that it takes 35,000 cases.
 
 use std::ffi::c_int;
 use std::io::Write;
@@ -18,9 +18,10 @@ use outside::calls::Call;
 use outside::cases::{case, random, Case};
 use outside::compare::{trials, Rooms, Trial};
 use outside::coverage::Coverage;
-use outside::desk::{after, Desk, Reading};
+use outside::desk::{Desk, Reading};
 use outside::library::{one_by_one, shown, written, Exported, Library, OneByOne, Wrapper};
 use outside::random::Random;
+use outside::sheet::Sheet;
 use outside::turned::turned;
 
 extern "C" {
@@ -51,7 +52,8 @@ fn list_agrees(case: &Case, reading: &Reading, call: &Call) -> bool {
     let Call::Replay { calls } = call else {
         return true;
     };
-    let (expected, got) = (after(reading, calls), one_by_one(&case.book, calls));
+    let (expected, (numbers, reached)) = (Desk::default().after(reading, calls), one_by_one(&case.book, calls));
+    let got = (numbers, Sheet::from_bytes(*reached.bytes()));
     if expected != got {
         println!("{call:?} one by one\nexpected {expected:?}\ngot      {got:?}");
     }

@@ -5,13 +5,16 @@ use super::{
     Wrong::{Left, Part},
 };
 use crate::book::{refuse, Book, Refusal};
-use crate::calls::{self, Call, FRESH, OF_A_CODE, OF_A_FIELD, OF_A_SHEET, TELLING};
+use crate::calls::{self, Call, CHANGING, OF_A_CODE, OF_A_FIELD, OF_A_SHEET, TELLING};
 use crate::compare::UNWRITTEN;
 use crate::desk::{faults, Desk};
-use crate::filter::{largest, NO_ANSWER};
+use crate::filter::largest;
 use crate::reader::field_list;
+use crate::sheet::{Sheet, FRESH, NO_ANSWER};
 
 const WRITING: &[&str] = &["filtered", "alternatives", "store", "replay", "report", "show", "write"];
+/// The calls that refuse a field without an answer.
+const OF_AN_ANSWER: &[&str] = &["withdraw", "photograph", "filtered"];
 /// The calls that write and have a count.
 const COUNTING: &[&str] = &["alternatives", "replay", "report", "show", "write"];
 
@@ -30,8 +33,8 @@ pub const SLIPS: &[Listed] = &[
     ("14 names the last place at fault", OF_A_SHEET, Left(last_fault_named)),
     ("15 tested before 14", OF_A_FIELD, Left(|seen, left| before(left, 14, 15, || seen.has_no_field()))),
     ("16 tested before 14", OF_A_CODE, Left(|seen, left| before(left, 14, 16, || seen.has_no_code()))),
-    ("17 tested before 14", &["withdraw", "filtered"], Left(|seen, left| before(left, 14, 17, || seen.has_no_answer()))),
-    ("17 tested before 15", &["withdraw", "filtered"], Left(|_, left| before(left, 15, 17, || true))),
+    ("17 tested before 14", OF_AN_ANSWER, Left(|seen, left| before(left, 14, 17, || seen.has_no_answer()))),
+    ("17 tested before 15", OF_AN_ANSWER, Left(|_, left| before(left, 15, 17, || true))),
     ("18 tested before 14", &["filtered", "store"], Left(|seen, left| before(left, 14, 18, || seen.lacks_room()))),
     ("18 tested before 15", &["filtered"], Left(|seen, left| before(left, 15, 18, || seen.lacks_room()))),
     ("18 tested before 17", &["filtered"], Left(|seen, left| before(left, 17, 18, || seen.lacks_room()))),
@@ -40,7 +43,8 @@ pub const SLIPS: &[Listed] = &[
     ("18 only after what fits was written", WRITING, Left(written_as_it_fits)),
     ("18 with its counts", COUNTING, Left(counted_and_refused)),
     ("zeros behind what is written", WRITING, Left(cleared_behind)),
-    ("a refusal clears the sheet", &["enter", "withdraw", "replay"], Left(|_, left| if_refused(left, |left| left.sheet = FRESH))),
+    ("a refusal clears the sheet", CHANGING, Left(|_, left| if_refused(left, |left| left.sheet = FRESH))),
+    ("a refusal clears the sheet", &["replay"], Left(|_, left| if_refused(left, |left| left.sheet = FRESH))),
     ("a refusal leaves the sheet", &["load"], Left(|seen, left| if_refused(left, |left| left.sheet = *seen.sheet))),
     ("a refusal's place not written", TELLING, Left(|_, left| if_refused(left, |left| left.cells[0] = UNWRITTEN))),
     ("an accepted call's place not written", TELLING, Left(place_unwritten)),
@@ -67,6 +71,7 @@ pub fn taken(call: &Call, field_as: fn(usize) -> usize, code_as: fn(usize) -> us
     match *call {
         Call::Enter { field, code } => Call::Enter { field: field_as(field), code: code_as(code) },
         Call::Withdraw { field } => Call::Withdraw { field: field_as(field) },
+        Call::Photograph { field } => Call::Photograph { field: field_as(field) },
         Call::Filtered { relaxed } => Call::Filtered { relaxed: field_as(relaxed) },
         Call::Row { field, code, table } => Call::Row { field: field_as(field), code: code_as(code), table },
         _ => call.clone(),
@@ -85,9 +90,9 @@ fn completed(call: &Call) -> Call {
     Call::Replay { calls }
 }
 
-fn fault_first(book: &Book, form: &[u8]) -> Result<Vec<u8>, Refusal> {
+fn fault_first(book: &Book, form: &[u8]) -> Result<Sheet, Refusal> {
     let fields = form.len().min(book.counts.len());
-    match faults(book, &form[..fields]).next() {
+    match faults(book, &Sheet::of(&form[..fields])).next() {
         Some(place) => refuse(14, place),
         None => (Desk::default().load)(book, form),
     }
@@ -95,7 +100,7 @@ fn fault_first(book: &Book, form: &[u8]) -> Result<Vec<u8>, Refusal> {
 
 impl Seen<'_> {
     pub fn accepted(&self) -> &Book {
-        self.reading.as_ref().expect("14 to 18 and 21 come after the book was read")
+        self.reading.as_ref().expect("14 to 18, 21 and 22 come after the book was read")
     }
 
     pub fn field(&self) -> usize {
@@ -113,11 +118,11 @@ impl Seen<'_> {
     }
 
     pub fn has_no_answer(&self) -> bool {
-        self.field() < self.accepted().counts.len() && self.sheet[self.field()] == NO_ANSWER
+        self.field() < self.accepted().counts.len() && !self.sheet.is_answered(self.field())
     }
 
     /// Fewer elements are lent than the book has fields.
-    fn lacks_room(&self) -> bool {
+    pub fn lacks_room(&self) -> bool {
         self.lent < self.accepted().counts.len()
     }
 }
@@ -140,7 +145,7 @@ fn last_fault_named(seen: &Seen, left: &mut calls::Left) {
 
 fn standing_codes_only(seen: &Seen, left: &mut calls::Left) {
     if let (0, &Call::Enter { field, code }) = (left.number, seen.call) {
-        if !largest(seen.accepted(), seen.sheet)[field][code] {
+        if !largest(seen.accepted(), &seen.sheet.answers)[field][code] {
             left.number = 16;
             left.sheet = *seen.sheet;
         }
@@ -151,6 +156,14 @@ fn standing_codes_only(seen: &Seen, left: &mut calls::Left) {
 pub fn before(left: &mut calls::Left, number: u64, other: u64, holds: impl Fn() -> bool) {
     if left.number == number && holds() {
         left.number = other;
+        left.cells.fill(0);
+    }
+}
+
+/// Refuses an accepted call where it is so.
+pub fn refuse_where(left: &mut calls::Left, number: u64, so: impl Fn() -> bool) {
+    if left.number == 0 && so() {
+        left.number = number;
         left.cells.fill(0);
     }
 }

@@ -5,8 +5,9 @@ use super::{Listed, Wrong::Part};
 use crate::book::{Book, Table};
 use crate::desk::Desk;
 use crate::filter::{
-    allowed, alternatives, has_empty, largest, relaxed, remove, round, unsupported, Alternatives, Filter, Subdomain, NO_ANSWER,
+    allowed, alternatives, has_empty, largest, relaxed, remove, round, unsupported, Alternatives, Filter, Subdomain,
 };
+use crate::sheet::{Sheet, NO_ANSWER, PLACES};
 
 const fn wrong_lines(what: &'static str, exchange: fn(&mut Desk)) -> Listed {
     (what, &["alternatives"], Part(exchange))
@@ -33,14 +34,14 @@ pub const SLIPS: &[Listed] = &[
     wrong_filter("tables without rows not filtered by", |desk| desk.largest = rows_only),
 ];
 
-fn answered(book: &Book, answers: &[u8]) -> Vec<usize> {
-    (0..book.counts.len()).filter(|&f| answers[f] != NO_ANSWER).collect()
+fn in_doubt(book: &Book, sheet: &Sheet) -> Vec<usize> {
+    (0..book.counts.len()).filter(|&f| sheet.is_in_doubt(f)).collect()
 }
 
-/// The lines of the answered fields, all from one domain.
-fn lines_from(book: &Book, answers: &[u8], domain: &Subdomain) -> Vec<(u8, u8)> {
+/// The lines of the fields in doubt, all from one domain.
+fn lines_from(book: &Book, sheet: &Sheet, domain: &Subdomain) -> Vec<(u8, u8)> {
     let line = |f: usize| (0..book.counts[f]).filter(move |&c| domain[f][c as usize]).map(move |c| (f as u8, c));
-    answered(book, answers).into_iter().flat_map(line).collect()
+    in_doubt(book, sheet).into_iter().flat_map(line).collect()
 }
 
 /// The rows of the table that keep the code of this field.
@@ -55,11 +56,11 @@ fn keeping_rows(table: &Table, domain: &Subdomain, field: u8, code: u8) -> usize
     }
 }
 
-fn line_for_each_row(book: &Book, answers: &[u8], largest: Filter) -> Alternatives {
-    let mut found = alternatives(book, answers, largest);
+fn line_for_each_row(book: &Book, sheet: &Sheet, largest: Filter) -> Alternatives {
+    let mut found = alternatives(book, sheet, largest);
     let mut lines = Vec::new();
     for &(f, c) in &found.lines {
-        let domain = largest(book, &relaxed(answers, f as usize));
+        let domain = largest(book, &relaxed(&sheet.answers, f as usize));
         let rows: usize = book.tables.iter().map(|table| keeping_rows(table, &domain, f, c)).sum();
         lines.extend(vec![(f, c); rows.max(1)]);
     }
@@ -67,34 +68,36 @@ fn line_for_each_row(book: &Book, answers: &[u8], largest: Filter) -> Alternativ
     found
 }
 
-fn held_code_listed(book: &Book, answers: &[u8], largest: Filter) -> Alternatives {
-    let mut found = alternatives(book, answers, largest);
-    found.lines.extend(answered(book, answers).iter().map(|&f| (f as u8, answers[f])));
+fn held_code_listed(book: &Book, sheet: &Sheet, largest: Filter) -> Alternatives {
+    let mut found = alternatives(book, sheet, largest);
+    found.lines.extend(in_doubt(book, sheet).iter().map(|&f| (f as u8, sheet.answers[f])));
     found.lines.sort();
     found.lines.dedup();
     found
 }
 
-fn standing_now(book: &Book, answers: &[u8], largest: Filter) -> Alternatives {
-    let lines = lines_from(book, answers, &largest(book, answers));
-    Alternatives { lines, ..alternatives(book, answers, largest) }
+fn standing_now(book: &Book, sheet: &Sheet, largest: Filter) -> Alternatives {
+    let lines = lines_from(book, sheet, &largest(book, &sheet.answers));
+    Alternatives { lines, ..alternatives(book, sheet, largest) }
 }
 
-fn lifted_together(book: &Book, answers: &[u8], largest: Filter) -> Alternatives {
-    let lines = lines_from(book, answers, &largest(book, &vec![NO_ANSWER; answers.len()]));
-    Alternatives { lines, ..alternatives(book, answers, largest) }
+fn lifted_together(book: &Book, sheet: &Sheet, largest: Filter) -> Alternatives {
+    let lines = lines_from(book, sheet, &largest(book, &[NO_ANSWER; PLACES]));
+    Alternatives { lines, ..alternatives(book, sheet, largest) }
 }
 
-fn forbidden_not_counted(book: &Book, answers: &[u8], largest: Filter) -> Alternatives {
-    let found = alternatives(book, answers, largest);
-    let answered = answered(book, answers);
-    let forbidden: u64 = answered.iter().map(|&f| book.counts[f] as u64 - 1).sum();
-    // each answer holds in all cases but its own
-    Alternatives { struck: found.struck - forbidden * answered.len() as u64, ..found }
+fn forbidden_not_counted(book: &Book, sheet: &Sheet, largest: Filter) -> Alternatives {
+    let found = alternatives(book, sheet, largest);
+    let cases = 1 + in_doubt(book, sheet).len();
+    // an answer holds in all cases but its own
+    let holds = |f: usize| (cases - sheet.is_in_doubt(f) as usize) as u64;
+    let answered = (0..book.counts.len()).filter(|&f| sheet.is_answered(f));
+    let forbidden: u64 = answered.map(|f| (book.counts[f] as u64 - 1) * holds(f)).sum();
+    Alternatives { struck: found.struck - forbidden, ..found }
 }
 
-fn lines_by_code(book: &Book, answers: &[u8], largest: Filter) -> Alternatives {
-    let mut found = alternatives(book, answers, largest);
+fn lines_by_code(book: &Book, sheet: &Sheet, largest: Filter) -> Alternatives {
+    let mut found = alternatives(book, sheet, largest);
     found.lines.sort_by_key(|&(f, c)| (c, f));
     found
 }
@@ -176,16 +179,11 @@ fn rows_only(book: &Book, answers: &[u8]) -> Subdomain {
 mod tests {
     use super::SLIPS;
     use crate::book::Book;
-    use crate::calls::{Answer, Call, Sheet, FRESH};
+    use crate::calls::{Answer, Call};
     use crate::desk::Desk;
     use crate::examples::{e1, e4};
+    use crate::sheet::Sheet;
     use crate::slips::Wrong;
-
-    fn sheet(answers: [u8; 3]) -> Sheet {
-        let mut sheet = FRESH;
-        sheet[..3].copy_from_slice(&answers);
-        sheet
-    }
 
     /// What the desk lists and what it filters.
     fn shown(desk: &Desk, book: &Book, sheet: &Sheet) -> [Answer; 2] {
@@ -200,14 +198,14 @@ mod tests {
             let (right, mut slipping) = (Desk::default(), Desk::default());
             let Wrong::Part(exchange) = wrong else { panic!("{name}") };
             exchange(&mut slipping);
-            assert_ne!(shown(&slipping, book, &sheet(*answers)), shown(&right, book, &sheet(*answers)), "{name}");
+            assert_ne!(shown(&slipping, book, &Sheet::of(answers)), shown(&right, book, &Sheet::of(answers)), "{name}");
         }
     }
 
     #[test]
     fn the_repeat_makes_five_lines() {
         let slipping = Desk { alternatives: super::line_for_each_row, ..Desk::default() };
-        let [listed, _] = shown(&slipping, &e1(), &sheet([0, 1, 255]));
+        let [listed, _] = shown(&slipping, &e1(), &Sheet::of(&[0, 1, 255]));
         assert_eq!(listed.written.bytes.len(), 2 * 5);
     }
 }

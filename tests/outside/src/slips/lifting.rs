@@ -9,9 +9,10 @@ use super::{
     Wrong::{Left, Part},
 };
 use crate::book::Book;
-use crate::calls::{self, Answer, Call, LISTING, PLACES};
+use crate::calls::{self, Answer, Call, LISTING};
 use crate::desk::Desk;
-use crate::filter::{alternatives, has_empty, largest, pass_cases, Alternatives, Filter, PassCase, Subdomain, NO_ANSWER};
+use crate::filter::{alternatives, has_empty, largest, pass_cases, Alternatives, Filter, PassCase, Subdomain};
+use crate::sheet::{Sheet, NO_ANSWER, PLACES};
 
 pub const fn listing(what: &'static str, exchange: fn(&mut Desk)) -> Listed {
     (what, LISTING, Part(exchange))
@@ -86,15 +87,15 @@ pub const SLIPS: &[Listed] = &[
 ];
 
 /// The lines of the cases that are listed by this rule, from the number of a case and all cases.
-pub fn listed_where(book: &Book, answers: &[u8], largest: Filter, rule: impl Fn(usize, &[PassCase]) -> bool) -> Alternatives {
-    let cases = pass_cases(book, answers, largest);
+pub fn listed_where(book: &Book, sheet: &Sheet, largest: Filter, rule: impl Fn(usize, &[PassCase]) -> bool) -> Alternatives {
+    let cases = pass_cases(book, sheet, largest);
     let listed = (1..cases.len()).filter(|&k| rule(k, &cases));
     Alternatives { lines: listed.flat_map(|k| cases[k].lines()).collect(), struck: struck_in(&cases, |_| true) }
 }
 
 /// The rule before M-101.
-pub fn listed_although_empty(book: &Book, answers: &[u8], largest: Filter) -> Alternatives {
-    listed_where(book, answers, largest, |_, _| true)
+pub fn listed_although_empty(book: &Book, sheet: &Sheet, largest: Filter) -> Alternatives {
+    listed_where(book, sheet, largest, |_, _| true)
 }
 
 pub fn mended(case: &PassCase) -> bool {
@@ -102,22 +103,22 @@ pub fn mended(case: &PassCase) -> bool {
 }
 
 /// A rule that sees only the subdomain of a field's own case.
-fn by_domain(book: &Book, answers: &[u8], largest: Filter, rule: impl Fn(&Subdomain) -> bool) -> Alternatives {
-    listed_where(book, answers, largest, |k, cases| rule(&cases[k].domain))
+fn by_domain(book: &Book, sheet: &Sheet, largest: Filter, rule: impl Fn(&Subdomain) -> bool) -> Alternatives {
+    listed_where(book, sheet, largest, |k, cases| rule(&cases[k].domain))
 }
 
 /// Looks for empty fields only among some.
-pub fn looking_at(book: &Book, answers: &[u8], largest: Filter, looked_at: impl Fn(usize) -> bool) -> Alternatives {
+pub fn looking_at(book: &Book, sheet: &Sheet, largest: Filter, looked_at: impl Fn(usize) -> bool) -> Alternatives {
     let fields = || (0..book.counts.len()).filter(|&f| looked_at(f));
-    by_domain(book, answers, largest, |domain| fields().all(|f| domain[f].contains(&true)))
+    by_domain(book, sheet, largest, |domain| fields().all(|f| domain[f].contains(&true)))
 }
 
-fn answered_looked_at(book: &Book, answers: &[u8], largest: Filter) -> Alternatives {
-    looking_at(book, answers, largest, |f| answers[f] != NO_ANSWER)
+fn answered_looked_at(book: &Book, sheet: &Sheet, largest: Filter) -> Alternatives {
+    looking_at(book, sheet, largest, |f| sheet.is_answered(f))
 }
 
-fn unanswered_looked_at(book: &Book, answers: &[u8], largest: Filter) -> Alternatives {
-    looking_at(book, answers, largest, |f| answers[f] == NO_ANSWER)
+fn unanswered_looked_at(book: &Book, sheet: &Sheet, largest: Filter) -> Alternatives {
+    looking_at(book, sheet, largest, |f| !sheet.is_answered(f))
 }
 
 /// Each field has a code that stands among some of its own.
@@ -125,14 +126,14 @@ fn each(domain: &Subdomain, some: fn(&[bool]) -> &[bool]) -> bool {
     domain.iter().all(|codes| some(codes).contains(&true))
 }
 
-fn tables_asked(book: &Book, answers: &[u8], largest: Filter) -> Alternatives {
+fn tables_asked(book: &Book, sheet: &Sheet, largest: Filter) -> Alternatives {
     let has_table = |f: usize| book.tables.iter().any(|table| table.fields.contains(&(f as u8)));
-    by_domain(book, answers, largest, |domain| !has_empty(domain) && (0..domain.len()).all(has_table))
+    by_domain(book, sheet, largest, |domain| !has_empty(domain) && (0..domain.len()).all(has_table))
 }
 
-fn all_lifted(book: &Book, answers: &[u8], largest: Filter) -> Alternatives {
-    let lifted = largest(book, &vec![NO_ANSWER; answers.len()]);
-    listed_where(book, answers, largest, |_, _| !has_empty(&lifted))
+fn all_lifted(book: &Book, sheet: &Sheet, largest: Filter) -> Alternatives {
+    let lifted = largest(book, &[NO_ANSWER; PLACES]);
+    listed_where(book, sheet, largest, |_, _| !has_empty(&lifted))
 }
 
 fn none_always_empty(cases: &[PassCase]) -> bool {
@@ -140,19 +141,19 @@ fn none_always_empty(cases: &[PassCase]) -> bool {
 }
 
 /// As if all fields before it were answered; behind the last case nothing is empty.
-fn case_by_number(book: &Book, answers: &[u8], largest: Filter) -> Alternatives {
+fn case_by_number(book: &Book, sheet: &Sheet, largest: Filter) -> Alternatives {
     let number = |case: &PassCase| case.lifted.map_or(0, |f| f + 1);
-    listed_where(book, answers, largest, |k, cases| cases.get(number(&cases[k])).is_none_or(mended))
+    listed_where(book, sheet, largest, |k, cases| cases.get(number(&cases[k])).is_none_or(mended))
 }
 
-fn held_code_asked(book: &Book, answers: &[u8], largest: Filter) -> Alternatives {
-    let holds = |case: &PassCase| case.lifted.is_some_and(|f| case.domain[f][answers[f] as usize]);
-    listed_where(book, answers, largest, |k, cases| mended(&cases[k]) && holds(&cases[k]))
+fn held_code_asked(book: &Book, sheet: &Sheet, largest: Filter) -> Alternatives {
+    let holds = |case: &PassCase| case.lifted.is_some_and(|f| case.domain[f][sheet.answers[f] as usize]);
+    listed_where(book, sheet, largest, |k, cases| mended(&cases[k]) && holds(&cases[k]))
 }
 
-fn held_code_added(book: &Book, answers: &[u8], largest: Filter) -> Alternatives {
-    let mut found = alternatives(book, answers, largest);
-    let held: Vec<_> = found.lines.iter().map(|&(f, _)| (f, answers[f as usize])).collect();
+fn held_code_added(book: &Book, sheet: &Sheet, largest: Filter) -> Alternatives {
+    let mut found = alternatives(book, sheet, largest);
+    let held: Vec<_> = found.lines.iter().map(|&(f, _)| (f, sheet.answers[f as usize])).collect();
     found.lines.extend(held);
     found.lines.sort();
     found.lines.dedup();
@@ -164,18 +165,18 @@ pub fn struck_in(cases: &[PassCase], counted: impl Fn(&&PassCase) -> bool) -> u6
     cases.iter().filter(counted).map(PassCase::struck).sum()
 }
 
-fn mended_cases_counted(book: &Book, answers: &[u8], largest: Filter) -> Alternatives {
-    let struck = struck_in(&pass_cases(book, answers, largest), |case| mended(case));
-    Alternatives { struck, ..alternatives(book, answers, largest) }
+fn mended_cases_counted(book: &Book, sheet: &Sheet, largest: Filter) -> Alternatives {
+    let struck = struck_in(&pass_cases(book, sheet, largest), |case| mended(case));
+    Alternatives { struck, ..alternatives(book, sheet, largest) }
 }
 
-fn mended_liftings_counted(book: &Book, answers: &[u8], largest: Filter) -> Alternatives {
-    let struck = struck_in(&pass_cases(book, answers, largest), |case| case.lifted.is_none() || mended(case));
-    Alternatives { struck, ..alternatives(book, answers, largest) }
+fn mended_liftings_counted(book: &Book, sheet: &Sheet, largest: Filter) -> Alternatives {
+    let struck = struck_in(&pass_cases(book, sheet, largest), |case| case.lifted.is_none() || mended(case));
+    Alternatives { struck, ..alternatives(book, sheet, largest) }
 }
 
-fn unlisted_counted(book: &Book, answers: &[u8], largest: Filter) -> Alternatives {
-    let (found, wider) = (alternatives(book, answers, largest), listed_although_empty(book, answers, largest));
+fn unlisted_counted(book: &Book, sheet: &Sheet, largest: Filter) -> Alternatives {
+    let (found, wider) = (alternatives(book, sheet, largest), listed_although_empty(book, sheet, largest));
     Alternatives { struck: found.struck + (wider.lines.len() - found.lines.len()) as u64, ..found }
 }
 
@@ -216,7 +217,7 @@ pub fn leave_text(seen: &Seen, left: &mut calls::Left, lines: Vec<&[u8]>) {
 fn no_open_codes(seen: &Seen, left: &mut calls::Left) {
     let loaded = Desk::default().loaded(seen.reading, seen.call.list());
     if let (0, Ok(book), Ok(sheet)) = (left.number, seen.reading, loaded) {
-        if has_empty(&largest(book, &sheet)) {
+        if has_empty(&largest(book, &sheet.answers)) {
             leave_text(seen, left, lines_of(seen.answer).filter(|line| !line.starts_with(b"open")).collect());
         }
     }

@@ -3,9 +3,11 @@
 
 mod calling;
 mod counting;
+mod doubting;
 mod filtering;
 mod lifting;
 mod listing;
+mod photographs;
 mod places;
 mod pointing;
 mod reading;
@@ -16,10 +18,11 @@ mod versions;
 use std::cell::RefCell;
 
 use crate::book::Book;
-use crate::calls::{Answer, Buffers, Call, Left, Sheet};
+use crate::calls::{Answer, Buffers, Call, Left};
 use crate::desk::{Desk, Reading};
 use crate::library::{Lent, Library};
 use crate::row::Search;
+use crate::sheet::Sheet;
 pub use lifting::listed_although_empty;
 pub use straying::Stray;
 
@@ -69,7 +72,8 @@ pub fn all() -> Vec<Slip> {
     let of_document_01 = [reading::SLIPS, filtering::SLIPS, calling::SLIPS].concat();
     let of_rows = [counting::SLIPS, pointing::SLIPS].concat();
     let of_versions = [versions::SLIPS, places::SLIPS].concat();
-    let listed = [&of_document_01, &of_rows[..], &of_versions, lifting::SLIPS, listing::SLIPS].concat();
+    let of_photographs = [photographs::SLIPS, doubting::SLIPS].concat();
+    let listed = [&of_document_01, &of_rows[..], &of_versions, &of_photographs, lifting::SLIPS, listing::SLIPS].concat();
     let in_each = |(what, calls, wrong): Listed| calls.iter().map(move |call| Slip::new(call, what, wrong));
     listed.into_iter().flat_map(in_each).chain(straying::slips()).collect()
 }
@@ -135,7 +139,7 @@ impl Library for SlowLibrary {
         }
         self.last.replace(Some(answered));
         if !call.only_reads_sheet() {
-            lent.sheet.elements_mut().copy_from_slice(&left.sheet);
+            lent.sheet.elements_mut().copy_from_slice(&left.sheet.bytes());
         }
         lent.cells.elements_mut().copy_from_slice(&left.cells);
         lent.bytes.elements_mut().copy_from_slice(&left.out.bytes);
@@ -177,8 +181,14 @@ mod tests {
     fn a_list_that_plain_filtering_does_not_give_is_seen() {
         let seen = |library| in_first_cases(|rooms, case, reading| rooms.disagreement(&library, case, reading)).is_some();
         assert!(!seen(SlowLibrary::default()));
-        for name in ["a field listed although another is empty", "empty fields looked for with nothing lifted"] {
-            assert!(seen(named(&format!("alternatives: {name}"))), "{name}");
+        for name in [
+            "alternatives: a field listed although another is empty",
+            "alternatives: empty fields looked for with nothing lifted",
+            "alternatives: photographed fields listed, their cases not counted",
+            "alternatives: nothing listed beside a photograph",
+            "filtered: a photographed field refused by 22",
+        ] {
+            assert!(seen(named(name)), "{name}");
         }
     }
 

@@ -9,11 +9,10 @@ use super::{
     Wrong::{Left, Part},
 };
 use crate::book::{field_limit, refuse, Book, Refusal};
-use crate::calls::{self, Call, OF_A_FIELD, OF_A_SHEET, PLACES};
-use crate::desk::{faults, Desk};
-use crate::filter::{
-    allowed, alternatives, largest, pass_cases, remove, unsupported, Alternatives, Filter, PassCase, Subdomain, NO_ANSWER,
-};
+use crate::calls::{self, Call, OF_A_FIELD, OF_A_SHEET};
+use crate::desk::{faults, is_on_field, step, Desk};
+use crate::filter::{allowed, alternatives, largest, pass_cases, remove, unsupported, Alternatives, Filter, PassCase, Subdomain};
+use crate::sheet::{Sheet, NO_ANSWER, PLACES};
 
 /// The first place, field and case behind version 1's limit.
 const BEHIND: usize = field_limit(1);
@@ -32,7 +31,7 @@ const fn loading(what: &'static str, exchange: fn(&mut Desk)) -> Listed {
     (what, &["load", "report"], Part(exchange))
 }
 
-const fn replaying(what: &'static str, exchange: fn(&mut Desk)) -> Listed {
+pub const fn replaying(what: &'static str, exchange: fn(&mut Desk)) -> Listed {
     (what, &["replay"], Part(exchange))
 }
 
@@ -55,7 +54,7 @@ pub const SLIPS: &[Listed] = &[
     of_a_sheet("14 names place 31 at most", |_, left| with_place(left, 14, |place| place.min(31))),
     of_a_sheet("14 names a place by five bits", |_, left| with_place(left, 14, |place| place % 32)),
     of_a_sheet("14 names the first of eight places", |_, left| with_place(left, 14, |place| place / 8 * 8)),
-    of_a_sheet("14 sees no byte above 127", |seen, left| unseen(seen, left, |_, byte, _| byte > 127)),
+    of_a_sheet("14 sees no byte above 127", |seen, left| unseen(seen, left, |place, sheet, _| sheet.answers[place] > 127)),
     ("only the first 32 places made 255", &["fresh", "clear"], Left(|seen, left| kept(seen, left, BEHIND))),
     ("the last place not made 255", &["fresh", "clear"], Left(|seen, left| kept(seen, left, LAST))),
     (
@@ -101,9 +100,11 @@ pub const SLIPS: &[Listed] = &[
         desk.taken = |call| each_call(call, |c| vec![c[0], c[1] % 64, c[2]])
     }),
     replaying("a clear that takes the first 32 answers away", |desk| {
-        desk.taken = |call| each_call(call, |c| cleared_up_to(c, BEHIND))
+        desk.step = |book, sheet, call| cleared_up_to(book, sheet, call, BEHIND)
     }),
-    replaying("a clear that leaves the last answer", |desk| desk.taken = |call| each_call(call, |c| cleared_up_to(c, LAST))),
+    replaying("a clear that leaves the last answer", |desk| {
+        desk.step = |book, sheet, call| cleared_up_to(book, sheet, call, LAST)
+    }),
     wrong_filter("tables on fields from 32 on not filtered by", |desk| {
         desk.largest = |book, answers| largest(&without_tables(book, |f| f >= BEHIND), answers)
     }),
@@ -161,20 +162,20 @@ pub const SLIPS: &[Listed] = &[
     reporting("what is struck by its last five digits", |seen, left| in_header(seen, left, |numbers| numbers[2] %= 100_000)),
 ];
 
-/// What the call leaves where 14 does not see faults in such places and bytes.
-pub fn unseen(seen: &Seen, left: &mut calls::Left, is_unseen: fn(usize, u8, &Book) -> bool) {
+/// What the call leaves where 14 does not see faults in such places of the sheet.
+pub fn unseen(seen: &Seen, left: &mut calls::Left, is_unseen: fn(usize, &Sheet, &Book) -> bool) {
     if left.number == 14 {
         let (book, mut sheet) = (seen.accepted(), *seen.sheet);
-        faults(book, seen.sheet)
-            .filter(|&place| is_unseen(place, seen.sheet[place], book))
-            .for_each(|place| sheet[place] = NO_ANSWER);
+        for place in faults(book, seen.sheet).filter(|&place| is_unseen(place, seen.sheet, book)) {
+            (sheet.answers[place], sheet.photographs[place]) = (NO_ANSWER, 0);
+        }
         *left = Desk::default().answer(seen.call, seen.reading, &sheet).left(seen.call, &left.out);
     }
 }
 
-/// The places from this one on stay as they were.
+/// The answers from this place on stay as they were.
 fn kept(seen: &Seen, left: &mut calls::Left, from: usize) {
-    left.sheet[from..].copy_from_slice(&seen.sheet[from..]);
+    left.sheet.answers[from..].copy_from_slice(&seen.sheet.answers[from..]);
 }
 
 /// The same, but only behind the fields of the book.
@@ -205,7 +206,7 @@ fn place_for_field(seen: &Seen, left: &mut calls::Left) {
     if left.number == 15 && seen.field() < PLACES {
         left.number = match *seen.call {
             Call::Enter { field, code } => {
-                left.sheet[field] = code as u8;
+                left.sheet.answers[field] = code as u8;
                 0
             }
             Call::Row { .. } => 16,
@@ -247,7 +248,7 @@ fn for_each_place(seen: &Seen, left: &mut calls::Left) {
     }
 }
 
-fn load_if(book: &Book, form: &[u8], taken: bool) -> Result<Vec<u8>, Refusal> {
+fn load_if(book: &Book, form: &[u8], taken: bool) -> Result<Sheet, Refusal> {
     if taken {
         (Desk::default().load)(book, form)
     } else {
@@ -256,31 +257,31 @@ fn load_if(book: &Book, form: &[u8], taken: bool) -> Result<Vec<u8>, Refusal> {
 }
 
 /// Loads the bytes of the book's fields, where the others are so.
-fn load_front(book: &Book, form: &[u8], rule: impl Fn(&[u8]) -> bool) -> Result<Vec<u8>, Refusal> {
+fn load_front(book: &Book, form: &[u8], rule: impl Fn(&[u8]) -> bool) -> Result<Sheet, Refusal> {
     match form.split_at_checked(book.counts.len()) {
         Some((front, behind)) if rule(behind) => (Desk::default().load)(book, front),
         _ => (Desk::default().load)(book, form),
     }
 }
 
-fn one_byte_a_place(book: &Book, form: &[u8]) -> Result<Vec<u8>, Refusal> {
+fn one_byte_a_place(book: &Book, form: &[u8]) -> Result<Sheet, Refusal> {
     load_front(book, form, |behind| form.len() == PLACES && behind.iter().all(|&byte| byte == NO_ANSWER))
 }
 
-fn by_remainder(book: &Book, form: &[u8], modulus: usize) -> Result<Vec<u8>, Refusal> {
+fn by_remainder(book: &Book, form: &[u8], modulus: usize) -> Result<Sheet, Refusal> {
     load_front(book, form, |behind| behind.len().is_multiple_of(modulus))
 }
 
-fn first_bytes(book: &Book, form: &[u8]) -> Result<Vec<u8>, Refusal> {
+fn first_bytes(book: &Book, form: &[u8]) -> Result<Sheet, Refusal> {
     let mut loaded = (Desk::default().load)(book, form)?;
-    loaded.iter_mut().skip(BEHIND).for_each(|byte| *byte = NO_ANSWER);
+    loaded.answers[BEHIND..].fill(NO_ANSWER);
     Ok(loaded)
 }
 
-fn first_bytes_looked_at(book: &Book, form: &[u8]) -> Result<Vec<u8>, Refusal> {
+fn first_bytes_looked_at(book: &Book, form: &[u8]) -> Result<Sheet, Refusal> {
     (Desk::default().load)(book, form).or_else(|r| {
         if r.number == 14 && r.place >= BEHIND as u64 {
-            Ok(form.to_vec())
+            Ok(Sheet::of(form))
         } else {
             Err(r)
         }
@@ -288,24 +289,35 @@ fn first_bytes_looked_at(book: &Book, form: &[u8]) -> Result<Vec<u8>, Refusal> {
 }
 
 /// The call with each call of its list taken so.
-fn each_call(call: &Call, taken: fn(&[u8]) -> Vec<u8>) -> Call {
+pub fn each_call(call: &Call, taken: fn(&[u8]) -> Vec<u8>) -> Call {
     let whole = call.list().chunks_exact(3);
     let rest = whole.remainder().to_vec();
     Call::Replay { calls: whole.flat_map(taken).chain(rest).collect() }
 }
 
-/// The call of a list, if it is on such a field or is a clear.
+/// The call of a list, if it is on such a field or on none.
 fn of_fields(call: &[u8], these: fn(usize) -> bool) -> Vec<u8> {
-    let kept = call[0] > 1 || these(call[1] as usize);
-    call[..if kept { 3 } else { 0 }].to_vec()
+    unless(call, is_on_field(call) && !these(call[1] as usize))
 }
 
-/// A clear as withdrawals from the first fields.
-fn cleared_up_to(call: &[u8], fields: usize) -> Vec<u8> {
-    match call[0] {
-        2 => (0..fields as u8).flat_map(|field| [1, field, 0]).collect(),
-        _ => call.to_vec(),
+/// The call of a list, unless it is left out.
+pub fn unless(call: &[u8], left_out: bool) -> Vec<u8> {
+    if left_out {
+        Vec::new()
+    } else {
+        call.to_vec()
     }
+}
+
+/// A clear leaves the answers from this place on, photographed or not.
+fn cleared_up_to(book: &Book, sheet: &mut Sheet, call: &[u8], from: usize) -> u64 {
+    let before = *sheet;
+    let number = step(book, sheet, call);
+    if call[0] == 2 {
+        sheet.answers[from..].copy_from_slice(&before.answers[from..]);
+        sheet.photographs[from..].copy_from_slice(&before.photographs[from..]);
+    }
+    number
 }
 
 fn without_tables(book: &Book, on: fn(usize) -> bool) -> Book {
@@ -365,43 +377,43 @@ fn first_strikes(book: &Book, answers: &[u8]) -> Subdomain {
     }
 }
 
-fn lines_where(book: &Book, answers: &[u8], largest: Filter, listed: fn(usize) -> bool) -> Alternatives {
-    let mut found = alternatives(book, answers, largest);
+pub fn lines_where(book: &Book, sheet: &Sheet, largest: Filter, listed: impl Fn(usize) -> bool) -> Alternatives {
+    let mut found = alternatives(book, sheet, largest);
     found.lines.retain(|&(f, _)| listed(f as usize));
     found
 }
 
 /// The codes of a case are taken from another.
-fn cases_again(book: &Book, answers: &[u8], largest: Filter) -> Alternatives {
-    let mut cases = pass_cases(book, answers, largest);
+fn cases_again(book: &Book, sheet: &Sheet, largest: Filter) -> Alternatives {
+    let mut cases = pass_cases(book, sheet, largest);
     for k in BEHIND..cases.len() {
         cases[k].domain = cases[k - BEHIND].domain.clone();
     }
     let listed = cases.iter().filter(|case| mended(case));
-    Alternatives { lines: listed.flat_map(PassCase::lines).collect(), ..alternatives(book, answers, largest) }
+    Alternatives { lines: listed.flat_map(PassCase::lines).collect(), ..alternatives(book, sheet, largest) }
 }
 
-fn marks_where(book: &Book, answers: &[u8], largest: Filter, counted: fn(usize) -> bool) -> Alternatives {
-    let mut cases = pass_cases(book, answers, largest);
+pub fn marks_where(book: &Book, sheet: &Sheet, largest: Filter, counted: impl Fn(usize) -> bool) -> Alternatives {
+    let mut cases = pass_cases(book, sheet, largest);
     for case in &mut cases {
         let fields = std::mem::take(&mut case.domain).into_iter().enumerate();
         case.domain = fields.filter(|(f, _)| counted(*f)).map(|(_, codes)| codes).collect();
     }
-    Alternatives { struck: struck_in(&cases, |_| true), ..alternatives(book, answers, largest) }
+    Alternatives { struck: struck_in(&cases, |_| true), ..alternatives(book, sheet, largest) }
 }
 
-fn marks_of_first(book: &Book, answers: &[u8], largest: Filter, cases: usize) -> Alternatives {
-    let all = pass_cases(book, answers, largest);
-    Alternatives { struck: struck_in(&all[..all.len().min(cases)], |_| true), ..alternatives(book, answers, largest) }
+fn marks_of_first(book: &Book, sheet: &Sheet, largest: Filter, cases: usize) -> Alternatives {
+    let all = pass_cases(book, sheet, largest);
+    Alternatives { struck: struck_in(&all[..all.len().min(cases)], |_| true), ..alternatives(book, sheet, largest) }
 }
 
-fn counted(book: &Book, answers: &[u8], largest: Filter, told: fn(u64) -> u64) -> Alternatives {
-    let found = alternatives(book, answers, largest);
+fn counted(book: &Book, sheet: &Sheet, largest: Filter, told: fn(u64) -> u64) -> Alternatives {
+    let found = alternatives(book, sheet, largest);
     Alternatives { struck: told(found.struck), ..found }
 }
 
-fn first_lines(book: &Book, answers: &[u8], largest: Filter, most: usize) -> Alternatives {
-    let mut found = alternatives(book, answers, largest);
+fn first_lines(book: &Book, sheet: &Sheet, largest: Filter, most: usize) -> Alternatives {
+    let mut found = alternatives(book, sheet, largest);
     found.lines.truncate(most);
     found
 }

@@ -3,7 +3,7 @@
 
 use std::collections::HashSet;
 
-use super::calling::{before, if_accepted, if_refused, with_place};
+use super::calling::{before, if_accepted, if_refused, refuse_where, with_place};
 use super::places::unseen;
 use super::{
     Listed, Seen,
@@ -13,8 +13,9 @@ use crate::book::{Book, Table};
 use crate::calls::{self, Call};
 use crate::compare::UNWRITTEN;
 use crate::desk::Desk;
-use crate::filter::{allowed, has_empty, largest, relaxed, round, Filter, Subdomain, NO_ANSWER};
+use crate::filter::{allowed, has_empty, largest, relaxed, round, Filter, Subdomain};
 use crate::row::{first_row, Pointed, Search};
+use crate::sheet::NO_ANSWER;
 
 const ROW: &[&str] = &["row"];
 
@@ -148,10 +149,10 @@ pub const SLIPS: &[Listed] = &[
     telling("15 in the place of 21", |_, left| before(left, 21, 15, || true)),
     telling("15 for a field not in the table", |seen, left| before(left, 21, 15, || seen.is_outside())),
     telling("16 for a field not in the table", |seen, left| before(left, 21, 16, || seen.is_outside())),
-    telling("16 for a code that does not stand", |seen, left| refuse(left, 16, || !seen.stands())),
-    telling("17 for a field without an answer", |seen, left| refuse(left, 17, || seen.has_no_answer())),
+    telling("16 for a code that does not stand", |seen, left| refuse_where(left, 16, || !seen.stands())),
+    telling("17 for a field without an answer", |seen, left| refuse_where(left, 17, || seen.has_no_answer())),
     telling("21 where there is no row", |_, left| if_none(left, |left| left.number = 21)),
-    telling("21 for a table without rows", |seen, left| refuse(left, 21, || seen.table().rows.is_empty())),
+    telling("21 for a table without rows", |seen, left| refuse_where(left, 21, || seen.table().rows.is_empty())),
     taking("a table taken as a byte", |desk| desk.taken = |call| with_table(call, |table| table as u8 as usize)),
     taking("a table taken as 16 bits", |desk| desk.taken = |call| with_table(call, |table| table as u16 as usize)),
     taking("a table taken as 32 bits", |desk| desk.taken = |call| with_table(call, |table| table as u32 as usize)),
@@ -334,7 +335,7 @@ impl Seen<'_> {
 
     fn stands(&self) -> bool {
         let Pointed { field, code, .. } = self.pointed();
-        largest(self.accepted(), self.sheet)[field][code]
+        largest(self.accepted(), &self.sheet.answers)[field][code]
     }
 }
 
@@ -351,20 +352,12 @@ fn none_for(left: &mut calls::Left, number: u64, so: impl Fn() -> bool) {
     }
 }
 
-/// Refuses an accepted call where it is so.
-fn refuse(left: &mut calls::Left, number: u64, so: impl Fn() -> bool) {
-    if left.number == 0 && so() {
-        left.number = number;
-        left.cells.fill(0);
-    }
-}
-
 fn rows_told(seen: &Seen, left: &mut calls::Left) {
     if_none(left, |left| left.cells[2] = seen.table().rows.len() as u64);
 }
 
 fn kept_counted(seen: &Seen, left: &mut calls::Left) {
-    if_accepted(left, |left| left.cells[1] = kept(seen.accepted(), seen.sheet, largest, seen.pointed()).len() as u64);
+    if_accepted(left, |left| left.cells[1] = kept(seen.accepted(), &seen.sheet.answers, largest, seen.pointed()).len() as u64);
 }
 
 /// The call with its table taken so.

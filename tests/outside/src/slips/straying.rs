@@ -2,7 +2,7 @@
 //! lent to be read only. Most of them die by it, so each needs a process of its own.
 
 use super::{Slip, Wrong};
-use crate::calls::{OF_A_BOOK, TELLING};
+use crate::calls::{MAKING, OF_A_BOOK, OF_A_SHEET, TELLING};
 use crate::library::Lent;
 
 #[derive(Clone, Copy, Debug)]
@@ -67,11 +67,12 @@ impl Stray {
 }
 
 /// The calls that each memory is lent to.
-const LENT: [(Memory, &[&str]); 8] = [
+const LENT: [(Memory, &[&str]); 9] = [
     (Memory::Book, OF_A_BOOK),
     (Memory::List, &["load", "replay", "report"]),
     (Memory::Listing, &["write"]),
-    (Memory::Sheet, &["fresh", "clear", "enter", "withdraw", "filtered", "alternatives", "row", "load", "store", "replay"]),
+    (Memory::Sheet, MAKING),
+    (Memory::Sheet, OF_A_SHEET),
     (Memory::Outcome, TELLING),
     (Memory::Bytes, &["alternatives", "store", "replay", "report", "write"]),
     (Memory::Shown, &["show"]),

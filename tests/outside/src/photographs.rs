@@ -1,0 +1,152 @@
+//! Seeded photographs: on sheets, some of them at fault, and in lists of calls.
+
+use crate::book::Book;
+use crate::desk::step;
+use crate::random::Random;
+use crate::sheet::{Sheet, FRESH, NO_ANSWER, PLACES};
+
+/// Of so many calls of a list one is refused.
+const REFUSED: u64 = 10;
+
+/// Mostly 1; else another byte that counts as 1.
+pub fn byte(r: &mut Random) -> u8 {
+    let any = r.from(2, 255) as u8;
+    if r.one_in(6) {
+        r.one_of(&[2, 7, 128, 254, 255, any])
+    } else {
+        1
+    }
+}
+
+/// Photographs none of the answers, one of them, or from a few of them to all.
+pub fn take(r: &mut Random, sheet: &mut Sheet) {
+    let mut answered: Vec<u8> = (0..PLACES as u8).filter(|&place| sheet.is_answered(place as usize)).collect();
+    match r.from(0, 11) {
+        0..=6 => answered.clear(),
+        7 => answered = one_of(r, &answered).into_iter().collect(),
+        quarters => answered.retain(|_| r.from(8, 11) <= quarters),
+    }
+    answered.into_iter().for_each(|place| sheet.photographs[place as usize] = byte(r));
+}
+
+/// The fields of the book that have a place on a sheet and are so.
+fn fields(book: &Book, so: impl Fn(usize) -> bool) -> Vec<u8> {
+    (0..book.counts.len().min(PLACES)).filter(|&field| so(field)).map(|field| field as u8).collect()
+}
+
+/// One of them, mostly any, else the last.
+fn one_of(r: &mut Random, fields: &[u8]) -> Option<u8> {
+    let &last = fields.last()?;
+    Some(if r.one_in(4) { last } else { r.one_of(fields) })
+}
+
+pub fn some_photographed(r: &mut Random, book: &Book, sheet: &Sheet) -> Option<u8> {
+    one_of(r, &fields(book, |field| sheet.is_photographed(field)))
+}
+
+/// The calls of a beginning, and others on the sheet that those before them reach, with photographs anywhere among them; about one in
+/// ten of all is refused.
+pub fn history(r: &mut Random, book: &Book, beginning: Vec<[u8; 3]>) -> Vec<u8> {
+    let (mut calls, mut sheet) = (Vec::new(), FRESH);
+    let most = r.one_of(&[0, 2, 10, 10, 30, 100]);
+    let mut left = beginning.len() + r.from(0, most);
+    let mut beginning = beginning.into_iter();
+    while left > 0 {
+        let call = if r.one_in(REFUSED) {
+            refused(r, book, &sheet)
+        } else {
+            left -= 1;
+            beginning.next().unwrap_or_else(|| accepted(r, book, &sheet))
+        };
+        step(book, &mut sheet, &call);
+        calls.extend(call);
+    }
+    calls
+}
+
+fn some_code(r: &mut Random, book: &Book, field: u8) -> u8 {
+    r.from(0, book.counts[field as usize] as usize - 1) as u8
+}
+
+/// A call that is accepted on this sheet; few are a clear or of no kind.
+fn accepted(r: &mut Random, book: &Book, sheet: &Sheet) -> [u8; 3] {
+    let free = one_of(r, &fields(book, |field| !sheet.is_photographed(field)));
+    let in_doubt = one_of(r, &fields(book, |field| sheet.is_in_doubt(field)));
+    let photographed = some_photographed(r, book, sheet);
+    let any = r.word() as u8;
+    match (r.from(0, 29), free, in_doubt, photographed) {
+        (0, ..) => [2, any, any],
+        (1, ..) => [r.one_of(&[4, 5, 7, 131, 255, any.max(4)]), any, any],
+        (2..=5, _, Some(field), _) => [1, field, any],
+        (6..=12, _, Some(field), _) | (13..=14, _, _, Some(field)) | (_, None, _, Some(field)) => [3, field, any],
+        (_, Some(field), ..) => [0, field, some_code(r, book, field)],
+        _ => [2, any, any],
+    }
+}
+
+/// A call that is refused on this sheet: by 15, 16 or 17, and wherever some field is photographed mostly by 22, or by 16 before it.
+fn refused(r: &mut Random, book: &Book, sheet: &Sheet) -> [u8; 3] {
+    let open = one_of(r, &fields(book, |field| !sheet.is_answered(field)));
+    let known = one_of(r, &fields(book, |_| true)).unwrap_or(0);
+    let none = r.from(book.counts.len(), 255) as u8;
+    let any = r.word() as u8;
+    let lacking = |r: &mut Random, field: u8| r.from(book.counts[field as usize] as usize, 255) as u8;
+    match (r.from(0, 11), some_photographed(r, book, sheet), open) {
+        (0..=1, Some(field), _) => [0, field, sheet.answers[field as usize]],
+        (2..=3, Some(field), _) => [0, field, some_code(r, book, field)],
+        (4..=6, Some(field), _) => [1, field, any],
+        (7, Some(field), _) => [0, field, lacking(r, field)],
+        (8, ..) => [r.one_of(&[0, 1, 3]), none, any],
+        (9, _, Some(field)) => [1, field, any],
+        (10, _, Some(field)) => [3, field, any],
+        _ => [0, known, lacking(r, known)],
+    }
+}
+
+/// A photograph without an answer at this place.
+pub fn misplace(r: &mut Random, sheet: &mut Sheet, place: usize) {
+    sheet.answers[place] = NO_ANSWER;
+    sheet.photographs[place] = byte(r);
+}
+
+#[cfg(test)]
+mod tests {
+    use super::{history, take};
+    use crate::desk::Desk;
+    use crate::random::{book, form, Random};
+    use crate::sheet::Sheet;
+
+    #[test]
+    fn about_one_call_in_ten_is_refused() {
+        let (desk, mut r) = (Desk::default(), Random(1));
+        let mut numbers = Vec::new();
+        let mut photographs = 0;
+        for _ in 0..500 {
+            let book = book(&mut r);
+            let calls = history(&mut r, &book, Vec::new());
+            let (told, reached) = desk.after(&Ok(book), &calls);
+            numbers.extend(told);
+            photographs += reached.has_photograph() as usize;
+        }
+        let times = |so: fn(u64) -> bool| numbers.iter().filter(|&&number| so(number)).count();
+        let share = times(|number| number != 0) as f64 / numbers.len() as f64;
+        assert!((0.08..=0.12).contains(&share), "{share}");
+        assert!([15, 16, 17, 22].iter().all(|number| numbers.contains(number)));
+        assert!(times(|number| number == 22) > numbers.len() / 50);
+        assert!(photographs > 200, "{photographs}");
+    }
+
+    #[test]
+    fn answers_alone_are_photographed() {
+        let mut r = Random(1);
+        let mut shares = [0; 3];
+        for _ in 0..500 {
+            let book = book(&mut r);
+            let mut sheet = Sheet::of(&form(&mut r, &book));
+            take(&mut r, &mut sheet);
+            assert!(sheet.photographed().all(|place| sheet.is_answered(place)));
+            shares[sheet.has_photograph() as usize + sheet.is_all_photographed() as usize] += 1;
+        }
+        assert!(shares.iter().all(|&times| times > 30), "{shares:?}");
+    }
+}
