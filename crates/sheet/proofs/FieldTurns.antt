@@ -12,7 +12,7 @@ use Rattle.format.specs.Format.{codeLimit, byte, bookOf}
 use Rattle.format.proofs.Storing.{sets-append}
 use Rattle.format.proofs.Verdict.{verdict-promise}
 use Rattle.consistency.specs.Counting.{howMany}
-use Rattle.consistency.specs.Consistency.{places, Sheet, codes, answer, backed}
+use Rattle.consistency.specs.Consistency.{places, Sheet, codes, backed}
 use Rattle.consistency.specs.Emptiness.{noneEmpty}
 use Rattle.consistency.specs.Counts.{bit, inDoubt, listed, total, Line, lines, lineBytes}
 use Rattle.consistency.proofs.Sums.{many-ext, those-ext}

@@ -1,4 +1,5 @@
 pub mod Upward
+pub mod Fronts
 pub mod Fields
 pub mod FieldTurns
 pub mod OwnCases

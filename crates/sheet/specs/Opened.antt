@@ -1,17 +1,17 @@
 -- Refusals 1 to 14, with which every call on a sheet and a book begins, and what the code finds in their place. Assumes nothing.
 use Prim.Native.Nat.{ℕ}
 use mathlib.Core.Path.{_≡_}
-use mathlib.Core.Bool.{Bool}
+use mathlib.Core.Bool.{Bool, _||_}
 use mathlib.Core.List.{List}
 use lib.ListN.{getD}
-use lib.Dec.{ltb}
+use lib.Dec.{ltb, eqb}
 use Rattle.format.specs.Basics.{pick}
 use Rattle.format.specs.Format.{Book, listPlace, fieldCount, bookOf}
 use Rattle.format.specs.Reading.{Verdict, pass, fail, andThen, verdict}
 use Rattle.book.specs.View.{Viewed}
 use Rattle.consistency.specs.Counting.{tabulate}
-use Rattle.consistency.specs.Consistency.{places, Sheet, codes, backed}
-use Rattle.calls.specs.Calls.{mayHold, faultOf}
+use Rattle.consistency.specs.Consistency.{places, Sheet, codes, answer, backed}
+use Rattle.calls.specs.Calls.{faultOf}
 use Rattle.sheet.specs.Shown.{numberOf}
 use Rattle.sheet.specs.declared.opened.Opened.{Opened}
 use Rattle.sheet.specs.declared.opened.Opened.the-variants.{Ready, Turned}
@@ -22,9 +22,20 @@ use Rattle.sheet.specs.declared.opened.Opened.the-variants.{Ready, Turne
 abbrev pub codeCounts : Book → List ℕ
 codeCounts b = tabulate (codes b) places 0
 
--- place p of the sheet s may hold what it holds, by these numbers of codes
-abbrev pub heldOk : List ℕ → Sheet → ℕ → Bool
-heldOk counts s p = mayHold (getD (s .answers) p 0) (backed s p) (getD counts p 0)
+-- what the code looks at in a place: its byte; for a photograph without an answer 254, which no place may hold
+abbrev pub seenByte : ℕ → Bool → ℕ
+seenByte x p = pick (eqb x 255) (pick p 254 255) x
+
+abbrev pub seenBytes : Sheet → List ℕ
+seenBytes s = tabulate (λ f. seenByte (answer (s .answers) f) (backed s f)) places 0
+
+-- a place may hold this byte, if its field has k codes
+abbrev pub fits : ℕ → ℕ → Bool
+fits x k = eqb x 255 || ltb x k
+
+-- so with place p, by these bytes and numbers of codes
+abbrev pub seenOk : List ℕ → List ℕ → ℕ → Bool
+seenOk bytes counts p = fits (getD bytes p 0) (getD counts p 0)
 
 -- where fault is the first place at fault, or the number of places
 abbrev pub faultTest : ℕ → Verdict

@@ -2,8 +2,8 @@
 ghost use mathlib.Core.Path.{_≡_};
 ghost use Rattle.format.specs.Format.{bookOf};
 ghost use Rattle.consistency.specs.Consistency.{sheetWith};
-ghost use Rattle.calls.specs.Calls.{mayHold, faultOf};
-ghost use Rattle.sheet.specs.Opened.{codeCounts, FieldsAt, Opens};
+ghost use Rattle.calls.specs.Calls.{faultOf};
+ghost use Rattle.sheet.specs.Opened.{seenByte, seenBytes, fits, codeCounts, FieldsAt, Opens};
 use super::Reason;
 use book::Checked;
 use book::PLACES;
@@ -19,12 +19,36 @@ pub(crate) enum Opened {
     Turned(Reason, usize),
 }
 
-// Whether a place may hold this byte: 255 without a photograph, or a code of its field, which has so many.
-fn may_hold(byte: u8, photographed: bool, count: u8) -> bool
-    ensures { λ r. ⌜ r ≡ mayHold byte photographed count ⌝ }
+// What 14 looks at in a place: its byte; for a photograph without an answer 254, which no place may hold.
+fn seen(byte: u8, photographed: bool) -> u8
+    ensures { λ r. ⌜ r ≡ seenByte byte photographed ⌝ }
+{
+    if byte != 255 {
+        return byte;
+    }
+    if photographed {
+        return 254;
+    }
+    255
+}
+
+// The same of all places.
+fn seen_bytes(answers: [u8; PLACES], photographed: [bool; PLACES]) -> [u8; PLACES]
+    ensures { λ r. ⌜ r ≡ seenBytes (sheetWith answers photographed) ⌝ }
+{
+    let mut bytes = [0; PLACES];
+    for p in 0..PLACES {
+        bytes[p] = seen(answers[p], photographed[p]);
+    }
+    bytes
+}
+
+// Whether a place may hold what is seen there: 255, or a code of its field, which has so many.
+fn may_hold(byte: u8, count: u8) -> bool
+    ensures { λ r. ⌜ r ≡ fits byte count ⌝ }
 {
     if byte == 255 {
-        return !photographed;
+        return true;
     }
     byte < count
 }
@@ -41,8 +65,8 @@ fn code_counts(book: &[u8], list: usize, fields: usize) -> [u8; PLACES]
     counts
 }
 
-// The first place that holds neither 255 nor a code of its field, or has a photograph and no answer; or the number of places. The book is
-// not looked at in the loop, so that several places are tested at a time.
+// The first place that holds neither 255 nor a code of its field, or has a photograph and no answer; or the number of places. The loop
+// compares two arrays and looks at nothing else, so that several places are tested at a time.
 pub(crate) fn first_fault(
     book: &[u8],
     list: usize,
@@ -54,9 +78,10 @@ pub(crate) fn first_fault(
     ensures { λ r. ⌜ r ≡ faultOf (bookOf (now (book .entry))) (sheetWith answers photographed) ⌝ }
 {
     let counts = code_counts(book, list, fields);
+    let bytes = seen_bytes(answers, photographed);
     let mut p = 0;
     while p < PLACES {
-        if !may_hold(answers[p], photographed[p], counts[p]) {
+        if !may_hold(bytes[p], counts[p]) {
             return p;
         }
         p += 1;

@@ -14,7 +14,7 @@ use Rattle.calls.specs.Histories.{Call, sheetAfter}
 use Rattle.calls.proofs.Kept.{alternatives-keeps}
 use Rattle.sheet.specs.Replayed.{Replayed}
 use Rattle.sheet.proofs.Replayed.{replayed}
-use Rattle.sighting.specs.Exported.{sheetIn, sheetBytes, bytesAfter, Holds, cellsOf, Tells, Exports, Makes, Changes, Replies, resultTold}
+use Rattle.sighting.specs.Exported.{sheetIn, sheetBytes, bytesAfter, Holds, Tells, Exports, Makes, Changes, Replies, resultTold}
 
 -- what tells an outcome tells an equal one
 pub tells-along : {number : ℕ} {cells : List ℕ} {o o′ : Outcome} → Tells number cells o → o ≡ o′ → Tells number cells o′

@@ -1,5 +1,6 @@
 //! Seeded photographs: on sheets, some of them at fault, and in lists of calls.
 
+use crate::asking::some_code;
 use crate::book::Book;
 use crate::desk::step;
 use crate::random::Random;
@@ -9,7 +10,7 @@ use crate::sheet::{Sheet, FRESH, NO_ANSWER, PLACES};
 const REFUSED: u64 = 10;
 
 /// Mostly 1; else another byte that counts as 1.
-pub fn byte(r: &mut Random) -> u8 {
+fn byte(r: &mut Random) -> u8 {
     let any = r.from(2, 255) as u8;
     if r.one_in(6) {
         r.one_of(&[2, 7, 128, 254, 255, any])
@@ -64,10 +65,6 @@ pub fn history(r: &mut Random, book: &Book, beginning: Vec<[u8; 3]>) -> Vec<u8> 
     calls
 }
 
-fn some_code(r: &mut Random, book: &Book, field: u8) -> u8 {
-    r.from(0, book.counts[field as usize] as usize - 1) as u8
-}
-
 /// A call that is accepted on this sheet; few are a clear or of no kind.
 fn accepted(r: &mut Random, book: &Book, sheet: &Sheet) -> [u8; 3] {
     let free = one_of(r, &fields(book, |field| !sheet.is_photographed(field)));
@@ -79,7 +76,7 @@ fn accepted(r: &mut Random, book: &Book, sheet: &Sheet) -> [u8; 3] {
         (1, ..) => [r.one_of(&[4, 5, 7, 131, 255, any.max(4)]), any, any],
         (2..=5, _, Some(field), _) => [1, field, any],
         (6..=12, _, Some(field), _) | (13..=14, _, _, Some(field)) | (_, None, _, Some(field)) => [3, field, any],
-        (_, Some(field), ..) => [0, field, some_code(r, book, field)],
+        (_, Some(field), ..) => [0, field, some_code(r, book, field as usize) as u8],
         _ => [2, any, any],
     }
 }
@@ -87,13 +84,13 @@ fn accepted(r: &mut Random, book: &Book, sheet: &Sheet) -> [u8; 3] {
 /// A call that is refused on this sheet: by 15, 16 or 17, and wherever some field is photographed mostly by 22, or by 16 before it.
 fn refused(r: &mut Random, book: &Book, sheet: &Sheet) -> [u8; 3] {
     let open = one_of(r, &fields(book, |field| !sheet.is_answered(field)));
-    let known = one_of(r, &fields(book, |_| true)).unwrap_or(0);
+    let known = one_of(r, &fields(book, |_| true)).expect("a book has a field");
     let none = r.from(book.counts.len(), 255) as u8;
     let any = r.word() as u8;
     let lacking = |r: &mut Random, field: u8| r.from(book.counts[field as usize] as usize, 255) as u8;
     match (r.from(0, 11), some_photographed(r, book, sheet), open) {
         (0..=1, Some(field), _) => [0, field, sheet.answers[field as usize]],
-        (2..=3, Some(field), _) => [0, field, some_code(r, book, field)],
+        (2..=3, Some(field), _) => [0, field, some_code(r, book, field as usize) as u8],
         (4..=6, Some(field), _) => [1, field, any],
         (7, Some(field), _) => [0, field, lacking(r, field)],
         (8, ..) => [r.one_of(&[0, 1, 3]), none, any],

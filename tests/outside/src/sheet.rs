@@ -63,7 +63,7 @@ impl Sheet {
         self.photographed().next().is_some()
     }
 
-    /// Some place is photographed, and no answer is not.
+    /// Some place is photographed, and each answer is.
     pub fn is_all_photographed(&self) -> bool {
         self.has_photograph() && !(0..PLACES).any(|place| self.is_in_doubt(place))
     }

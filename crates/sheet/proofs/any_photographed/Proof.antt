@@ -10,8 +10,6 @@ use Rattle.sheet.proofs.Upward.{none-more, one-found}
 use borrow.Author.Needs.{needs}
 use Rattle.sheet.proofs.any_photographed.Statement.{statement}
 use Rattle.sheet.proofs.any_photographed.Tie as tie
-use Rattle.sheet.proofs.any_photographed.Reads as reads
-use Rattle.sheet.proofs.any_photographed.Lts as lts
 
 abbrev Inv-loop : tie.InvT-loop
 Inv-loop photographed p₀ p = (p ≤ places) × (anyBelow p (λ i. getD photographed i false) ≡ false)
@@ -19,31 +17,24 @@ Inv-loop photographed p₀ p = (p ≤ places) × (anyBelow p (λ i. getD photogr
 abbrev μ-loop : tie.MeasureT-loop
 μ-loop photographed p₀ p = places - p
 
--- src/lib.rt:145:5
 loop-holds : tie.Need-loop-holds Inv-loop μ-loop
 loop-holds c = (omega arith, refl)
 
--- src/lib.rt:146:12
 array-read-if1 : tie.Need-array-read-if1 Inv-loop μ-loop
 array-read-if1 c = search needs
 
--- src/lib.rt:147:13
 returns : tie.Need-returns Inv-loop μ-loop
 returns c = one-found (λ i. getD (c .before .before .before .args .t1) i false) places _ (c .before .loop-test .taken) (c .if1 .taken)
 
--- src/lib.rt:145:9
 add-p : tie.Need-add-p Inv-loop μ-loop
 add-p c = search needs
 
--- src/lib.rt:145:5
 loop-less : tie.Need-loop-less Inv-loop μ-loop
 loop-less c = search needs
 
--- src/lib.rt:145:5
 loop-again : tie.Need-loop-again Inv-loop μ-loop
 loop-again c = (omega arith, none-more (λ i. getD (c .before .before .before .args .t1) i false) _ (c .before .before .loop .inv .1) (c .if1 .left))
 
--- src/lib.rt:142:1
 returns-2 : tie.Need-returns-2 Inv-loop μ-loop
 returns-2 c = sym (ap (λ (n : ℕ). anyBelow n (λ i. getD (c .before .before .args .t1) i false)) (let e : places ≡ c .before .loop .p = omega arith in e) ∙ c .before .loop .inv .1)
 

@@ -5,87 +5,61 @@ use Rattle.book.proofs.Checks.{checks-bad}
 use Rattle.sheet.proofs.Openings.{checks-good}
 use Rattle.sheet.proofs.LoadCases.{turned-fresh, loaded-book, loaded-19, loaded-14, loaded-done}
 use borrow.Author.Needs.{needs}
-use native.Mathlib.Omega.{arith}
 use Rattle.sheet.proofs.load.Statement.{statement}
 use Rattle.sheet.proofs.load.Tie as tie
-use Rattle.sheet.proofs.load.Reads as reads
-use Rattle.sheet.proofs.load.Lts as lts
-use Rattle.book.proofs.check.Reads as check-reads
-use Rattle.book.proofs.copy.Reads as copy-reads
-use Rattle.sheet.proofs.Sheet.fresh.Reads as fresh-reads
-use Rattle.sheet.proofs.hand.Reads as hand-reads
-use Rattle.sheet.proofs.opened.first_fault.Reads as first-fault-reads
-use Rattle.sheet.proofs.refuse.Reads as refuse-reads
 
--- src/lib.rt:425:9
 check-requires : tie.Need-check-requires
 check-requires c κs = search needs
 
--- src/lib.rt:427:26
 enum-known-checked : tie.Need-enum-known-checked
 enum-known-checked c = search needs
 
--- src/lib.rt:427:49
 fresh-requires : tie.Need-fresh-requires
 fresh-requires c κs = search needs
 
--- src/lib.rt:427:42
 refuse-requires : tie.Need-refuse-requires
 refuse-requires c κs = search needs
 
--- src/lib.rt:429:13
 enum-known-checked-2 : tie.Need-enum-known-checked-2
 enum-known-checked-2 c = search needs
 
--- src/lib.rt:435:31
 fresh-requires-2 : tie.Need-fresh-requires-2
 fresh-requires-2 c κs = search needs
 
--- src/lib.rt:435:17
 refuse-requires-2 : tie.Need-refuse-requires-2
 refuse-requires-2 c κs = search needs
 
--- src/lib.rt:435:17
 returns : tie.Need-returns
 returns c = let at = checks-good _ _ (c .before .before .before .before .before .before .check .ensures) _ _ _ _ (c .before .before .before .before .checked2 .given .1) in
     c .refuse2 .ensures [] ∙ turned-fresh _ 19 0 (c .before .fresh2 .ensures) ∙ loaded-19 _ _ _ _ at (c .before .before .if1 .taken)
 
--- src/lib.rt:438:30
 slice-aggregate-copy : tie.Need-slice-aggregate-copy
 slice-aggregate-copy c = search needs
 
--- src/lib.rt:438:13
 copy-requires : tie.Need-copy-requires
 copy-requires c κs = search needs
 
--- src/lib.rt:440:17
 first-fault-requires : tie.Need-first-fault-requires
 first-fault-requires c κs = checks-good _ _ (c .before .before .before .before .before .before .before .check .ensures) _ _ _ _ (c .before .before .before .before .before .checked2 .given .1)
 
--- src/lib.rt:442:31
 fresh-requires-3 : tie.Need-fresh-requires-3
 fresh-requires-3 c κs = search needs
 
--- src/lib.rt:442:17
 refuse-requires-3 : tie.Need-refuse-requires-3
 refuse-requires-3 c κs = search needs
 
--- src/lib.rt:442:17
 returns-2 : tie.Need-returns-2
 returns-2 c = let at = checks-good _ _ (c .before .before .before .before .before .before .before .before .before .before .before .check .ensures) _ _ _ _ (c .before .before .before .before .before .before .before .before .before .checked2 .given .1) in
     c .refuse3 .ensures [] ∙ turned-fresh _ 14 _ (c .before .fresh3 .ensures)
     ∙ loaded-14 _ _ _ _ at (c .before .before .before .before .before .before .before .if1 .left) _ (c .before .before .before .before .before .copy .ensures) _ (c .before .before .before .first-fault .ensures) (c .before .before .if2 .taken)
 
--- src/lib.rt:444:13
 hand-requires : tie.Need-hand-requires
 hand-requires c κs = search needs
 
--- src/lib.rt:422:1
 returns-3 : tie.Need-returns-3
 returns-3 c = let no = checks-bad _ _ (c .before .before .before .before .before .check .ensures) _ _ (c .before .before .before .checked .given .1) in
     c .refuse .ensures [] ∙ turned-fresh _ _ _ (c .before .fresh .ensures) ∙ loaded-book _ _ _ _ no
 
--- src/lib.rt:422:1
 returns-4 : tie.Need-returns-4
 returns-4 c = let at = checks-good _ _ (c .before .before .before .before .before .before .before .before .before .before .check .ensures) _ _ _ _ (c .before .before .before .before .before .before .before .before .checked2 .given .1) in
     c .hand .ensures ∙ loaded-done _ _ _ _ at (c .before .before .before .before .before .before .if1 .left) _ (c .before .before .before .before .copy .ensures) _ (c .before .before .first-fault .ensures) (c .before .if2 .left)

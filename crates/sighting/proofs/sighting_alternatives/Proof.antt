@@ -6,32 +6,21 @@ use Rattle.calls.proofs.Kept.{alternatives-keeps}
 use Rattle.sighting.specs.Exported.{sheetIn}
 use Rattle.sighting.proofs.Along.{exports-kept}
 use borrow.Author.Needs.{needs}
-use native.Mathlib.Omega.{arith}
 use Rattle.sighting.proofs.sighting_alternatives.Statement.{statement}
 use Rattle.sighting.proofs.sighting_alternatives.Tie as tie
-use Rattle.sighting.proofs.sighting_alternatives.Reads as reads
-use Rattle.sighting.proofs.sighting_alternatives.Lts as lts
-use Rattle.sheet.proofs.Sheet.alternatives.Reads as alternatives-reads
-use Rattle.sighting.proofs.handed.tell_list.Reads as tell-list-reads
-use Rattle.sighting.proofs.sheets.held.Reads as held-reads
 
--- src/lib.rt:187:9
 held-requires : tie.Need-held-requires
 held-requires c κs = search needs
 
--- src/lib.rt:188:9
 alternatives-requires : tie.Need-alternatives-requires
 alternatives-requires c κs = search needs
 
--- src/lib.rt:190:5
 tell-list-requires : tie.Need-tell-list-requires
 tell-list-requires c κs = search needs
 
--- src/lib.rt:178:1
 same-length : tie.Need-same-length
 same-length c = search needs
 
--- src/lib.rt:178:1
 returns : tie.Need-returns
 returns c = exports-kept (c .tell-list .ensures) (c .before .before .before .before .alternatives .ensures ∙ ap (λ (s : Sheet). alternatives (c .before .before .before .before .before .before .before .before .before .before .args .book .now) s (c .before .before .before .before .before .before .before .before .before .before .args .out .now)) (c .before .before .before .before .before .before .held .ensures)) (alternatives-keeps (c .before .before .before .before .before .before .before .before .before .before .args .book .now) (sheetIn (c .before .before .before .before .before .before .before .before .before .before .args .sheet .now)) (c .before .before .before .before .before .before .before .before .before .before .args .out .now))
 

@@ -7,28 +7,18 @@ use Rattle.calls.proofs.Condition1.{condition1}
 use Rattle.sighting.specs.Exported.{sheetIn}
 use Rattle.sighting.proofs.Along.{changes-along}
 use borrow.Author.Needs.{needs}
-use native.Mathlib.Omega.{arith}
 use Rattle.sighting.proofs.sighting_enter.Statement.{statement}
 use Rattle.sighting.proofs.sighting_enter.Tie as tie
-use Rattle.sighting.proofs.sighting_enter.Reads as reads
-use Rattle.sighting.proofs.sighting_enter.Lts as lts
-use Rattle.sheet.proofs.Sheet.enter.Reads as enter-reads
-use Rattle.sighting.proofs.handed.change.Reads as change-reads
-use Rattle.sighting.proofs.sheets.held.Reads as held-reads
 
--- src/lib.rt:126:9
 held-requires : tie.Need-held-requires
 held-requires c κs = search needs
 
--- src/lib.rt:127:12
 enter-requires : tie.Need-enter-requires
 enter-requires c κs = search needs
 
--- src/lib.rt:127:5
 change-requires : tie.Need-change-requires
 change-requires c κs = search needs
 
--- src/lib.rt:115:1
 returns : tie.Need-returns
 returns c = changes-along (c .change .ensures) (c .before .before .before .enter .ensures ∙ ap (λ (s : Sheet). entered (c .before .before .before .before .before .before .before .args .book .now) s (c .before .before .before .before .before .before .before .args .field) (c .before .before .before .before .before .before .before .args .code)) (c .before .before .before .before .held .ensures))
     (λ n. condition1 (c .before .before .before .before .before .before .before .args .book .now) (sheetIn (c .before .before .before .before .before .before .before .args .sheet .now)) (to-enter (c .before .before .before .before .before .before .before .args .field) (c .before .before .before .before .before .before .before .args .code)) n .sheet)

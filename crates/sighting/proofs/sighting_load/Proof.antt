@@ -2,23 +2,15 @@
 use mathlib.Core.List.{[]}
 use Rattle.sighting.proofs.Along.{makes-along}
 use borrow.Author.Needs.{needs}
-use native.Mathlib.Omega.{arith}
 use Rattle.sighting.proofs.sighting_load.Statement.{statement}
 use Rattle.sighting.proofs.sighting_load.Tie as tie
-use Rattle.sighting.proofs.sighting_load.Reads as reads
-use Rattle.sighting.proofs.sighting_load.Lts as lts
-use Rattle.sheet.proofs.load.Reads as load-reads
-use Rattle.sighting.proofs.handed.hand.Reads as hand-reads
 
--- src/lib.rt:222:10
 load-requires : tie.Need-load-requires
 load-requires c κs = search needs
 
--- src/lib.rt:222:5
 hand-requires : tie.Need-hand-requires
 hand-requires c κs = search needs
 
--- src/lib.rt:212:1
 returns : tie.Need-returns
 returns c = makes-along (c .hand .ensures []) (c .before .before .before .load .ensures)
 

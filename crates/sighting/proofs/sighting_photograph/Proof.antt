@@ -7,28 +7,18 @@ use Rattle.calls.proofs.Condition1.{condition1}
 use Rattle.sighting.specs.Exported.{sheetIn}
 use Rattle.sighting.proofs.Along.{changes-along}
 use borrow.Author.Needs.{needs}
-use native.Mathlib.Omega.{arith}
 use Rattle.sighting.proofs.sighting_photograph.Statement.{statement}
 use Rattle.sighting.proofs.sighting_photograph.Tie as tie
-use Rattle.sighting.proofs.sighting_photograph.Reads as reads
-use Rattle.sighting.proofs.sighting_photograph.Lts as lts
-use Rattle.sheet.proofs.Sheet.photograph.Reads as photograph-reads
-use Rattle.sighting.proofs.handed.change.Reads as change-reads
-use Rattle.sighting.proofs.sheets.held.Reads as held-reads
 
--- src/lib.rt:156:9
 held-requires : tie.Need-held-requires
 held-requires c κs = search needs
 
--- src/lib.rt:157:12
 photograph-requires : tie.Need-photograph-requires
 photograph-requires c κs = search needs
 
--- src/lib.rt:157:5
 change-requires : tie.Need-change-requires
 change-requires c κs = search needs
 
--- src/lib.rt:146:1
 returns : tie.Need-returns
 returns c = changes-along (c .change .ensures) (c .before .before .before .photograph .ensures ∙ ap (λ (s : Sheet). photographed (c .before .before .before .before .before .before .before .args .book .now) s (c .before .before .before .before .before .before .before .args .field)) (c .before .before .before .before .held .ensures))
     (λ n. condition1 (c .before .before .before .before .before .before .before .args .book .now) (sheetIn (c .before .before .before .before .before .before .before .args .sheet .now)) (to-photograph (c .before .before .before .before .before .before .before .args .field)) n .sheet)

@@ -6,28 +6,18 @@ use Rattle.calls.proofs.Kept.{row-keeps}
 use Rattle.sighting.specs.Exported.{sheetIn}
 use Rattle.sighting.proofs.Along.{exports-kept}
 use borrow.Author.Needs.{needs}
-use native.Mathlib.Omega.{arith}
 use Rattle.sighting.proofs.sighting_row.Statement.{statement}
 use Rattle.sighting.proofs.sighting_row.Tie as tie
-use Rattle.sighting.proofs.sighting_row.Reads as reads
-use Rattle.sighting.proofs.sighting_row.Lts as lts
-use Rattle.sheet.proofs.Sheet.row.Reads as row-reads
-use Rattle.sighting.proofs.handed.tell_row.Reads as tell-row-reads
-use Rattle.sighting.proofs.sheets.held.Reads as held-reads
 
--- src/lib.rt:205:9
 held-requires : tie.Need-held-requires
 held-requires c κs = search needs
 
--- src/lib.rt:206:9
 row-requires : tie.Need-row-requires
 row-requires c κs = search needs
 
--- src/lib.rt:208:5
 tell-row-requires : tie.Need-tell-row-requires
 tell-row-requires c κs = search needs
 
--- src/lib.rt:194:1
 returns : tie.Need-returns
 returns c = exports-kept (c .tell-row .ensures) (c .before .before .row .ensures ∙ ap (λ (s : Sheet). rowBehind (c .before .before .before .before .before .before .args .book .now) s (c .before .before .before .before .before .before .args .field) (c .before .before .before .before .before .before .args .code) (c .before .before .before .before .before .before .args .table)) (c .before .before .before .held .ensures)) (row-keeps (c .before .before .before .before .before .before .args .book .now) (sheetIn (c .before .before .before .before .before .before .args .sheet .now)) (c .before .before .before .before .before .before .args .field) (c .before .before .before .before .before .before .args .code) (c .before .before .before .before .before .before .args .table))
 

@@ -6,32 +6,21 @@ use Rattle.calls.proofs.Kept.{stored-keeps}
 use Rattle.sighting.specs.Exported.{sheetIn}
 use Rattle.sighting.proofs.Along.{exports-kept}
 use borrow.Author.Needs.{needs}
-use native.Mathlib.Omega.{arith}
 use Rattle.sighting.proofs.sighting_store.Statement.{statement}
 use Rattle.sighting.proofs.sighting_store.Tie as tie
-use Rattle.sighting.proofs.sighting_store.Reads as reads
-use Rattle.sighting.proofs.sighting_store.Lts as lts
-use Rattle.sheet.proofs.Sheet.store.Reads as store-reads
-use Rattle.sighting.proofs.handed.tell.Reads as tell-reads
-use Rattle.sighting.proofs.sheets.held.Reads as held-reads
 
--- src/lib.rt:235:9
 held-requires : tie.Need-held-requires
 held-requires c κs = search needs
 
--- src/lib.rt:236:9
 store-requires : tie.Need-store-requires
 store-requires c κs = search needs
 
--- src/lib.rt:238:5
 tell-requires : tie.Need-tell-requires
 tell-requires c κs = search needs
 
--- src/lib.rt:226:1
 same-length : tie.Need-same-length
 same-length c = search needs
 
--- src/lib.rt:226:1
 returns : tie.Need-returns
 returns c = exports-kept (c .tell .ensures) (c .before .before .before .before .store .ensures ∙ ap (λ (s : Sheet). stored (c .before .before .before .before .before .before .before .before .before .before .args .book .now) s (c .before .before .before .before .before .before .before .before .before .before .args .out .now)) (c .before .before .before .before .before .before .held .ensures)) (stored-keeps (c .before .before .before .before .before .before .before .before .before .before .args .book .now) (sheetIn (c .before .before .before .before .before .before .before .before .before .before .args .sheet .now)) (c .before .before .before .before .before .before .before .before .before .before .args .out .now))
 

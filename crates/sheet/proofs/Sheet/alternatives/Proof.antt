@@ -7,71 +7,49 @@ use Rattle.sheet.proofs.ListCases.{alternatives-turned, alternatives-18
 use borrow.Author.Needs.{needs}
 use Rattle.sheet.proofs.Sheet.alternatives.Statement.{statement}
 use Rattle.sheet.proofs.Sheet.alternatives.Tie as tie
-use Rattle.sheet.proofs.Sheet.alternatives.Reads as reads
-use Rattle.sheet.proofs.Sheet.alternatives.Lts as lts
-use Rattle.filter.proofs.empty_cases.Reads as empty-cases-reads
-use Rattle.filter.proofs.one_pass.Reads as one-pass-reads
-use Rattle.sheet.proofs.lists.count_lines.Reads as count-lines-reads
-use Rattle.sheet.proofs.lists.write_lines.Reads as write-lines-reads
-use Rattle.sheet.proofs.opened.open.Reads as open-reads
-use Rattle.sheet.proofs.refuse_list.Reads as refuse-list-reads
 
--- src/lib.rt:312:13
 open-requires : tie.Need-open-requires
 open-requires c κs = search needs
 
--- src/lib.rt:314:28
 enum-known-opened : tie.Need-enum-known-opened
 enum-known-opened c = search needs
 
--- src/lib.rt:314:46
 refuse-list-requires : tie.Need-refuse-list-requires
 refuse-list-requires c κs = search needs
 
--- src/lib.rt:316:17
 enum-known-opened-2 : tie.Need-enum-known-opened-2
 enum-known-opened-2 c = search needs
 
--- src/lib.rt:322:21
 one-pass-requires : tie.Need-one-pass-requires
 one-pass-requires c κs = opens-viewed _ _ _ (c .before .before .before .before .before .before .«open» .ensures) _ _ _ _ (c .before .before .before .before .opened2 .given .1)
 
--- src/lib.rt:332:21
 empty-cases-requires : tie.Need-empty-cases-requires
 empty-cases-requires c κs = search needs
 
--- src/lib.rt:333:21
 count-lines-requires : tie.Need-count-lines-requires
 count-lines-requires c κs = let o = opens-ready _ _ _ (c .before .before .before .before .before .before .before .before .before .before .«open» .ensures) _ _ _ _ (c .before .before .before .before .before .before .before .before .opened2 .given .1) in
     passed _ _ _ _ _ _ (o .at) (c .before .before .before .one-pass .ensures .0) (c .before .empty-cases .ensures)
 
--- src/lib.rt:334:32
 mul-if1 : tie.Need-mul-if1
 mul-if1 c = search needs
 
--- src/lib.rt:335:21
 refuse-list-requires-2 : tie.Need-refuse-list-requires-2
 refuse-list-requires-2 c κs = search needs
 
--- src/lib.rt:335:21
 returns : tie.Need-returns
 returns c = let o = opens-ready _ _ _ (c .before .before .before .before .before .before .before .before .before .before .before .before .before .«open» .ensures) _ _ _ _ (c .before .before .before .before .before .before .before .before .before .before .before .opened2 .given .1) in
     c .refuse-list2 .ensures _ ∙ alternatives-18 _ _ _ o (c .before .before .count-lines .ensures .0) (c .before .if1 .taken)
 
--- src/lib.rt:337:17
 write-lines-requires : tie.Need-write-lines-requires
 write-lines-requires c κs = let o = opens-ready _ _ _ (c .before .before .before .before .before .before .before .before .before .before .before .before .before .before .«open» .ensures) _ _ _ _ (c .before .before .before .before .before .before .before .before .before .before .before .before .opened2 .given .1) in
     (passed _ _ _ _ _ _ (o .at) (c .before .before .before .before .before .before .before .one-pass .ensures .0) (c .before .before .before .before .before .empty-cases .ensures), omega (arith, c .before .before .before .count-lines .ensures .0, c .before .before .if1 .left))
 
--- src/lib.rt:307:5
 returns-2 : tie.Need-returns-2
 returns-2 c = c .refuse-list .ensures _ ∙ alternatives-turned _ _ _ _ _ (opens-turned _ _ _ (c .before .before .before .before .«open» .ensures) _ _ (c .before .before .opened .given .1))
 
--- src/lib.rt:307:5
 same-length : tie.Need-same-length
 same-length c = search needs
 
--- src/lib.rt:307:5
 returns-3 : tie.Need-returns-3
 returns-3 c = let o = opens-ready _ _ _ (c .before .before .before .before .before .before .before .before .before .before .before .before .before .before .before .before .before .«open» .ensures) _ _ _ _ (c .before .before .before .before .before .before .before .before .before .before .before .before .before .before .before .opened2 .given .1) in
     alternatives-done _ _ _ o (c .before .before .before .before .before .before .count-lines .ensures .0) (c .before .before .before .before .before .if1 .left) (c .before .before .before .before .before .before .before .before .before .before .one-pass .ensures .1) (c .before .before .write-lines .ensures)

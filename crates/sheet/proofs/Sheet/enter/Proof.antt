@@ -8,94 +8,69 @@ use Rattle.sheet.proofs.CallCases.{entered-turned, entered-15, entered-
 use borrow.Author.Needs.{needs}
 use Rattle.sheet.proofs.Sheet.enter.Statement.{statement}
 use Rattle.sheet.proofs.Sheet.enter.Tie as tie
-use Rattle.sheet.proofs.Sheet.enter.Reads as reads
-use Rattle.sheet.proofs.Sheet.enter.Lts as lts
-use Rattle.sheet.proofs.hand.Reads as hand-reads
-use Rattle.sheet.proofs.lists.wide.Reads as wide-reads
-use Rattle.sheet.proofs.opened.open.Reads as open-reads
-use Rattle.sheet.proofs.refuse.Reads as refuse-reads
 
--- src/lib.rt:191:13
 open-requires : tie.Need-open-requires
 open-requires c κs = search needs
 
--- src/lib.rt:193:28
 enum-known-opened : tie.Need-enum-known-opened
 enum-known-opened c = search needs
 
--- src/lib.rt:193:46
 refuse-requires : tie.Need-refuse-requires
 refuse-requires c κs = search needs
 
--- src/lib.rt:195:17
 enum-known-opened-2 : tie.Need-enum-known-opened-2
 enum-known-opened-2 c = search needs
 
--- src/lib.rt:201:21
 refuse-requires-2 : tie.Need-refuse-requires-2
 refuse-requires-2 c κs = search needs
 
--- src/lib.rt:201:21
 returns : tie.Need-returns
 returns c = let o = opens-ready _ _ _ (c .before .before .before .before .before .«open» .ensures) _ _ _ _ (c .before .before .before .opened2 .given .1) in
     c .refuse2 .ensures [] ∙ entered-15 _ _ _ _ _ _ o (c .before .if1 .taken)
 
--- src/lib.rt:203:37
 add-wide : tie.Need-add-wide
 add-wide c = let o = opens-ready _ _ _ (c .before .before .before .before .«open» .ensures) _ _ _ _ (c .before .before .opened2 .given .1) in
     omega (arith, fields-end _ _ _ (o .at))
 
--- src/lib.rt:203:32
 shared-slice-read-wide : tie.Need-shared-slice-read-wide
 shared-slice-read-wide c = let o = opens-ready _ _ _ (c .before .before .before .before .before .«open» .ensures) _ _ _ _ (c .before .before .before .opened2 .given .1) in
     omega (arith, fields-end _ _ _ (o .at))
 
--- src/lib.rt:203:20
 wide-requires : tie.Need-wide-requires
 wide-requires c κs = search needs
 
--- src/lib.rt:204:21
 refuse-requires-3 : tie.Need-refuse-requires-3
 refuse-requires-3 c κs = search needs
 
--- src/lib.rt:204:21
 returns-2 : tie.Need-returns-2
 returns-2 c = let o = opens-ready _ _ _ (c .before .before .before .before .before .before .before .before .«open» .ensures) _ _ _ _ (c .before .before .before .before .before .before .opened2 .given .1) in
     c .refuse3 .ensures [] ∙ entered-16 _ _ _ _ _ _ o (c .before .before .before .before .if1 .left) (subst (λ (n : ℕ). n ≤ c .before .before .before .before .before .before .before .before .before .before .before .before .args .code) (c .before .before .wide .ensures) (c .before .if2 .taken))
 
--- src/lib.rt:206:20
 array-read-if3 : tie.Need-array-read-if3
 array-read-if3 c = let o = opens-ready _ _ _ (c .before .before .before .before .before .before .before .«open» .ensures) _ _ _ _ (c .before .before .before .before .before .opened2 .given .1) in
     omega (arith, fields-few _ _ _ (o .at))
 
--- src/lib.rt:207:21
 refuse-requires-4 : tie.Need-refuse-requires-4
 refuse-requires-4 c κs = search needs
 
--- src/lib.rt:207:21
 returns-3 : tie.Need-returns-3
 returns-3 c = let o = opens-ready _ _ _ (c .before .before .before .before .before .before .before .before .before .«open» .ensures) _ _ _ _ (c .before .before .before .before .before .before .before .opened2 .given .1) in
     c .refuse4 .ensures [] ∙ entered-22 _ _ _ _ _ _ o (c .before .before .before .before .before .if1 .left) (subst (λ (n : ℕ). c .before .before .before .before .before .before .before .before .before .before .before .before .before .args .code < n) (c .before .before .before .wide .ensures) (c .before .before .if2 .left)) (c .before .if3 .taken)
 
--- src/lib.rt:210:31
 cast-next : tie.Need-cast-next
 cast-next c = let o = opens-ready _ _ _ (c .before .before .before .before .before .before .before .before .«open» .ensures) _ _ _ _ (c .before .before .before .before .before .before .opened2 .given .1) in
     omega (arith, entered-byte _ _ _ _ _ _ o (c .before .before .before .before .if1 .left) (subst (λ (n : ℕ). c .before .before .before .before .before .before .before .before .before .before .before .before .args .code < n) (c .before .before .wide .ensures) (c .before .if2 .left)))
 
--- src/lib.rt:210:17
 array-write-next : tie.Need-array-write-next
 array-write-next c = let o = opens-ready _ _ _ (c .before .before .before .before .before .before .before .before .«open» .ensures) _ _ _ _ (c .before .before .before .before .before .before .opened2 .given .1) in
     omega (arith, fields-few _ _ _ (o .at))
 
--- src/lib.rt:211:17
 hand-requires : tie.Need-hand-requires
 hand-requires c κs = search needs
 
--- src/lib.rt:186:5
 returns-4 : tie.Need-returns-4
 returns-4 c = c .refuse .ensures [] ∙ entered-turned _ _ _ _ _ _ (opens-turned _ _ _ (c .before .before .before .before .«open» .ensures) _ _ (c .before .before .opened .given .1))
 
--- src/lib.rt:186:5
 returns-5 : tie.Need-returns-5
 returns-5 c = let o = opens-ready _ _ _ (c .before .before .before .before .before .before .before .before .before .«open» .ensures) _ _ _ _ (c .before .before .before .before .before .before .before .opened2 .given .1) in
     c .hand .ensures ∙ entered-done _ _ _ _ _ _ o (c .before .before .before .before .before .if1 .left) (subst (λ (n : ℕ). c .before .before .before .before .before .before .before .before .before .before .before .before .before .args .code < n) (c .before .before .before .wide .ensures) (c .before .before .if2 .left)) (c .before .if3 .left)

@@ -9,83 +9,61 @@ use Rattle.sheet.proofs.ListCases.{filtered-turned, filtered-none, filt
 use borrow.Author.Needs.{needs}
 use Rattle.sheet.proofs.Sheet.filtered.Statement.{statement}
 use Rattle.sheet.proofs.Sheet.filtered.Tie as tie
-use Rattle.sheet.proofs.Sheet.filtered.Reads as reads
-use Rattle.sheet.proofs.Sheet.filtered.Lts as lts
-use Rattle.sheet.proofs.masks.write_masks.Reads as write-masks-reads
-use Rattle.sheet.proofs.opened.open.Reads as open-reads
-use Rattle.sheet.proofs.refuse.Reads as refuse-reads
 
--- src/lib.rt:281:13
 open-requires : tie.Need-open-requires
 open-requires c κs = search needs
 
--- src/lib.rt:283:28
 enum-known-opened : tie.Need-enum-known-opened
 enum-known-opened c = search needs
 
--- src/lib.rt:283:46
 refuse-requires : tie.Need-refuse-requires
 refuse-requires c κs = search needs
 
--- src/lib.rt:285:17
 enum-known-opened-2 : tie.Need-enum-known-opened-2
 enum-known-opened-2 c = search needs
 
--- src/lib.rt:291:21
 write-masks-requires : tie.Need-write-masks-requires
 write-masks-requires c κs = opens-viewed _ _ _ (c .before .before .before .before .before .«open» .ensures) _ _ _ _ (c .before .before .before .opened2 .given .1)
 
--- src/lib.rt:291:21
 same-length : tie.Need-same-length
 same-length c = search needs
 
--- src/lib.rt:291:21
 returns : tie.Need-returns
 returns c = let o = opens-ready _ _ _ (c .before .before .before .before .before .before .before .before .«open» .ensures) _ _ _ _ (c .before .before .before .before .before .before .opened2 .given .1) in
     filtered-none _ _ _ _ o (c .before .before .before .before .if1 .taken) (c .before .before .write-masks .ensures)
 
--- src/lib.rt:294:21
 refuse-requires-2 : tie.Need-refuse-requires-2
 refuse-requires-2 c κs = search needs
 
--- src/lib.rt:294:21
 returns-2 : tie.Need-returns-2
 returns-2 c = let o = opens-ready _ _ _ (c .before .before .before .before .before .before .«open» .ensures) _ _ _ _ (c .before .before .before .before .opened2 .given .1) in
     c .refuse2 .ensures _ ∙ filtered-15 _ _ _ _ o (c .before .before .if1 .left) (c .before .if2 .taken)
 
--- src/lib.rt:296:20
 array-read-if3 : tie.Need-array-read-if3
 array-read-if3 c = let o = opens-ready _ _ _ (c .before .before .before .before .before .«open» .ensures) _ _ _ _ (c .before .before .before .opened2 .given .1) in
     omega (arith, fields-few _ _ _ (o .at))
 
--- src/lib.rt:297:21
 refuse-requires-3 : tie.Need-refuse-requires-3
 refuse-requires-3 c κs = search needs
 
--- src/lib.rt:297:21
 returns-3 : tie.Need-returns-3
 returns-3 c = let o = opens-ready _ _ _ (c .before .before .before .before .before .before .before .«open» .ensures) _ _ _ _ (c .before .before .before .before .before .opened2 .given .1) in
     let long : length (c .before .before .before .before .before .before .before .before .before .before .before .before .args .self .answers) ≡ places = search needs in
     c .refuse3 .ensures _ ∙ filtered-17 _ _ _ _ o (c .before .before .before .if1 .left) long (c .before .before .if2 .left) (c .before .if3 .taken)
 
--- src/lib.rt:300:17
 array-write-rest : tie.Need-array-write-rest
 array-write-rest c = let o = opens-ready _ _ _ (c .before .before .before .before .before .before .«open» .ensures) _ _ _ _ (c .before .before .before .before .opened2 .given .1) in
     omega (arith, fields-few _ _ _ (o .at))
 
--- src/lib.rt:301:17
 write-masks-requires-2 : tie.Need-write-masks-requires-2
 write-masks-requires-2 c κs = opens-viewed _ _ _ (c .before .before .before .before .before .before .before .«open» .ensures) _ _ _ _ (c .before .before .before .before .before .opened2 .given .1)
 
--- src/lib.rt:276:5
 returns-4 : tie.Need-returns-4
 returns-4 c = c .refuse .ensures _ ∙ filtered-turned _ _ _ _ _ _ (opens-turned _ _ _ (c .before .before .before .before .«open» .ensures) _ _ (c .before .before .opened .given .1))
 
--- src/lib.rt:276:5
 same-length-2 : tie.Need-same-length-2
 same-length-2 c = search needs
 
--- src/lib.rt:276:5
 returns-5 : tie.Need-returns-5
 returns-5 c = let o = opens-ready _ _ _ (c .before .before .before .before .before .before .before .before .before .before .«open» .ensures) _ _ _ _ (c .before .before .before .before .before .before .before .before .opened2 .given .1) in
     let long : length (c .before .before .before .before .before .before .before .before .before .before .before .before .before .before .before .args .self .answers) ≡ places = search needs in

@@ -7,65 +7,47 @@ use Rattle.sheet.proofs.CallCases.{photographed-turned, photographed-15
 use borrow.Author.Needs.{needs}
 use Rattle.sheet.proofs.Sheet.photograph.Statement.{statement}
 use Rattle.sheet.proofs.Sheet.photograph.Tie as tie
-use Rattle.sheet.proofs.Sheet.photograph.Reads as reads
-use Rattle.sheet.proofs.Sheet.photograph.Lts as lts
-use Rattle.sheet.proofs.hand.Reads as hand-reads
-use Rattle.sheet.proofs.opened.open.Reads as open-reads
-use Rattle.sheet.proofs.refuse.Reads as refuse-reads
 
--- src/lib.rt:253:13
 open-requires : tie.Need-open-requires
 open-requires c κs = search needs
 
--- src/lib.rt:255:28
 enum-known-opened : tie.Need-enum-known-opened
 enum-known-opened c = search needs
 
--- src/lib.rt:255:46
 refuse-requires : tie.Need-refuse-requires
 refuse-requires c κs = search needs
 
--- src/lib.rt:258:17
 enum-known-opened-2 : tie.Need-enum-known-opened-2
 enum-known-opened-2 c = search needs
 
--- src/lib.rt:263:21
 refuse-requires-2 : tie.Need-refuse-requires-2
 refuse-requires-2 c κs = search needs
 
--- src/lib.rt:263:21
 returns : tie.Need-returns
 returns c = let o = opens-ready _ _ _ (c .before .before .before .before .before .«open» .ensures) _ _ _ _ (c .before .before .before .opened2 .given .1) in
     c .refuse2 .ensures [] ∙ photographed-15 _ _ _ _ _ o (c .before .if1 .taken)
 
--- src/lib.rt:265:20
 array-read-if2 : tie.Need-array-read-if2
 array-read-if2 c = let o = opens-ready _ _ _ (c .before .before .before .before .«open» .ensures) _ _ _ _ (c .before .before .opened2 .given .1) in
     omega (arith, fields-few _ _ _ (o .at))
 
--- src/lib.rt:266:21
 refuse-requires-3 : tie.Need-refuse-requires-3
 refuse-requires-3 c κs = search needs
 
--- src/lib.rt:266:21
 returns-2 : tie.Need-returns-2
 returns-2 c = let o = opens-ready _ _ _ (c .before .before .before .before .before .before .«open» .ensures) _ _ _ _ (c .before .before .before .before .opened2 .given .1) in
     c .refuse3 .ensures [] ∙ photographed-17 _ _ _ _ _ o (search needs) (c .before .before .if1 .left) (c .before .if2 .taken)
 
--- src/lib.rt:269:17
 array-write-backed : tie.Need-array-write-backed
 array-write-backed c = let o = opens-ready _ _ _ (c .before .before .before .before .before .«open» .ensures) _ _ _ _ (c .before .before .before .opened2 .given .1) in
     omega (arith, fields-few _ _ _ (o .at))
 
--- src/lib.rt:270:17
 hand-requires : tie.Need-hand-requires
 hand-requires c κs = search needs
 
--- src/lib.rt:248:5
 returns-3 : tie.Need-returns-3
 returns-3 c = c .refuse .ensures [] ∙ photographed-turned _ _ _ _ _ (opens-turned _ _ _ (c .before .before .before .before .«open» .ensures) _ _ (c .before .before .opened .given .1))
 
--- src/lib.rt:248:5
 returns-4 : tie.Need-returns-4
 returns-4 c = let o = opens-ready _ _ _ (c .before .before .before .before .before .before .«open» .ensures) _ _ _ _ (c .before .before .before .before .opened2 .given .1) in
     c .hand .ensures ∙ photographed-done _ _ _ _ _ o (search needs) (c .before .before .if1 .left) (c .before .if2 .left)

@@ -10,75 +10,53 @@ use Rattle.sheet.proofs.RowCases.{rowBehind-turned, rowBehind-15, rowBe
 use borrow.Author.Needs.{needs}
 use Rattle.sheet.proofs.Sheet.row.Statement.{statement}
 use Rattle.sheet.proofs.Sheet.row.Tie as tie
-use Rattle.sheet.proofs.Sheet.row.Reads as reads
-use Rattle.sheet.proofs.Sheet.row.Lts as lts
-use Rattle.filter.proofs.supporting_row.Reads as supporting-row-reads
-use Rattle.sheet.proofs.lists.wide.Reads as wide-reads
-use Rattle.sheet.proofs.opened.open.Reads as open-reads
-use Rattle.sheet.proofs.refuse_row.Reads as refuse-row-reads
-use Rattle.sheet.proofs.row_answer.Reads as row-answer-reads
 
--- src/lib.rt:355:13
 open-requires : tie.Need-open-requires
 open-requires c κs = search needs
 
--- src/lib.rt:357:28
 enum-known-opened : tie.Need-enum-known-opened
 enum-known-opened c = search needs
 
--- src/lib.rt:357:46
 refuse-row-requires : tie.Need-refuse-row-requires
 refuse-row-requires c κs = search needs
 
--- src/lib.rt:359:17
 enum-known-opened-2 : tie.Need-enum-known-opened-2
 enum-known-opened-2 c = search needs
 
--- src/lib.rt:365:21
 refuse-row-requires-2 : tie.Need-refuse-row-requires-2
 refuse-row-requires-2 c κs = search needs
 
--- src/lib.rt:365:21
 returns : tie.Need-returns
 returns c = let o = opens-ready _ _ _ (c .before .before .before .before .before .«open» .ensures) _ _ _ _ (c .before .before .before .opened2 .given .1) in
     c .refuse-row2 .ensures ∙ rowBehind-15 _ _ _ _ _ _ _ o (c .before .if1 .taken)
 
--- src/lib.rt:367:46
 add-wide : tie.Need-add-wide
 add-wide c = let o = opens-ready _ _ _ (c .before .before .before .before .«open» .ensures) _ _ _ _ (c .before .before .opened2 .given .1) in
     omega (arith, fields-end _ _ _ (o .at))
 
--- src/lib.rt:367:41
 shared-slice-read-wide : tie.Need-shared-slice-read-wide
 shared-slice-read-wide c = let o = opens-ready _ _ _ (c .before .before .before .before .before .«open» .ensures) _ _ _ _ (c .before .before .before .opened2 .given .1) in
     omega (arith, fields-end _ _ _ (o .at))
 
--- src/lib.rt:367:21
 wide-requires : tie.Need-wide-requires
 wide-requires c κs = search needs
 
--- src/lib.rt:369:21
 refuse-row-requires-3 : tie.Need-refuse-row-requires-3
 refuse-row-requires-3 c κs = search needs
 
--- src/lib.rt:369:21
 returns-2 : tie.Need-returns-2
 returns-2 c = let o = opens-ready _ _ _ (c .before .before .before .before .before .before .before .before .«open» .ensures) _ _ _ _ (c .before .before .before .before .before .before .opened2 .given .1) in
     c .refuse-row3 .ensures ∙ rowBehind-16 _ _ _ _ _ _ _ o (c .before .before .before .before .if1 .left) (subst (λ (n : ℕ). n ≤ c .before .before .before .before .before .before .before .before .before .before .before .before .args .code) (c .before .before .wide .ensures) (c .before .if2 .taken))
 
--- src/lib.rt:371:21
 supporting-row-requires : tie.Need-supporting-row-requires
 supporting-row-requires c κs = opens-viewed _ _ _ (c .before .before .before .before .before .before .before .before .«open» .ensures) _ _ _ _ (c .before .before .before .before .before .before .opened2 .given .1) .numbers
 
--- src/lib.rt:381:21
 row-answer-requires : tie.Need-row-answer-requires
 row-answer-requires c κs = search needs
 
--- src/lib.rt:350:5
 returns-3 : tie.Need-returns-3
 returns-3 c = c .refuse-row .ensures ∙ rowBehind-turned _ _ _ _ _ _ _ (opens-turned _ _ _ (c .before .before .before .before .«open» .ensures) _ _ (c .before .before .opened .given .1))
 
--- src/lib.rt:350:5
 returns-4 : tie.Need-returns-4
 returns-4 c = let o = opens-ready _ _ _ (c .before .before .before .before .before .before .before .before .before .before .«open» .ensures) _ _ _ _ (c .before .before .before .before .before .before .before .before .opened2 .given .1) in
     ap (λ (x : RowAnswer). record { outcome = shownRow x; sheet = heldBy (c .before .before .before .before .before .before .before .before .before .before .before .before .before .before .args .self); buffer = [] }) (c .row-answer .ensures)

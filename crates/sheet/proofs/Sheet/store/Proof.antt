@@ -9,78 +9,57 @@ use Rattle.sheet.proofs.CallCases.{stored-turned, stored-22, stored-18,
 use borrow.Author.Needs.{needs}
 use Rattle.sheet.proofs.Sheet.store.Statement.{statement}
 use Rattle.sheet.proofs.Sheet.store.Tie as tie
-use Rattle.sheet.proofs.Sheet.store.Reads as reads
-use Rattle.sheet.proofs.Sheet.store.Lts as lts
-use Rattle.book.proofs.copy.Reads as copy-reads
-use Rattle.sheet.proofs.any_photographed.Reads as any-photographed-reads
-use Rattle.sheet.proofs.opened.open.Reads as open-reads
-use Rattle.sheet.proofs.refuse.Reads as refuse-reads
 
--- src/lib.rt:396:13
 open-requires : tie.Need-open-requires
 open-requires c κs = search needs
 
--- src/lib.rt:398:28
 enum-known-opened : tie.Need-enum-known-opened
 enum-known-opened c = search needs
 
--- src/lib.rt:398:46
 refuse-requires : tie.Need-refuse-requires
 refuse-requires c κs = search needs
 
--- src/lib.rt:401:17
 enum-known-opened-2 : tie.Need-enum-known-opened-2
 enum-known-opened-2 c = search needs
 
--- src/lib.rt:405:20
 any-photographed-requires : tie.Need-any-photographed-requires
 any-photographed-requires c κs = search needs
 
--- src/lib.rt:406:21
 refuse-requires-2 : tie.Need-refuse-requires-2
 refuse-requires-2 c κs = search needs
 
--- src/lib.rt:406:21
 returns : tie.Need-returns
 returns c = let o = opens-ready _ _ _ (c .before .before .before .before .before .before .«open» .ensures) _ _ _ _ (c .before .before .before .before .opened2 .given .1) in
     c .refuse2 .ensures _ ∙ stored-22 _ _ _ _ _ o (sym (c .before .before .any-photographed .ensures) ∙ c .before .if1 .taken)
 
--- src/lib.rt:409:21
 refuse-requires-3 : tie.Need-refuse-requires-3
 refuse-requires-3 c κs = search needs
 
--- src/lib.rt:409:21
 returns-2 : tie.Need-returns-2
 returns-2 c = let o = opens-ready _ _ _ (c .before .before .before .before .before .before .before .«open» .ensures) _ _ _ _ (c .before .before .before .before .before .opened2 .given .1) in
     c .refuse3 .ensures _ ∙ stored-18 _ _ _ _ _ o (sym (c .before .before .before .any-photographed .ensures) ∙ c .before .before .if1 .left) (c .before .if2 .taken)
 
--- src/lib.rt:411:28
 array-share-prefix-answers : tie.Need-array-share-prefix-answers
 array-share-prefix-answers c = let o = opens-ready _ _ _ (c .before .before .before .before .before .before .«open» .ensures) _ _ _ _ (c .before .before .before .before .opened2 .given .1) in
     let few = fields-few _ _ _ (o .at) in
     let long : length (c .before .before .before .before .before .before .before .before .before .before .before .args .self .answers) ≡ places = search needs in
     omega arith
 
--- src/lib.rt:411:28
 slice-aggregate-copy : tie.Need-slice-aggregate-copy
 slice-aggregate-copy c = let o = opens-ready _ _ _ (c .before .before .before .before .before .before .before .«open» .ensures) _ _ _ _ (c .before .before .before .before .before .opened2 .given .1) in
     let few = fields-few _ _ _ (o .at) in
     let long : length (c .before .before .before .before .before .before .before .before .before .before .before .before .args .self .answers) ≡ places = search needs in
     sym (length-take-le _ (c .before .before .before .before .before .before .before .before .before .before .before .before .args .self .answers) (omega arith))
 
--- src/lib.rt:411:17
 copy-requires : tie.Need-copy-requires
 copy-requires c κs = search needs
 
--- src/lib.rt:391:5
 returns-3 : tie.Need-returns-3
 returns-3 c = c .refuse .ensures _ ∙ stored-turned _ _ _ _ _ (opens-turned _ _ _ (c .before .before .before .before .«open» .ensures) _ _ (c .before .before .opened .given .1))
 
--- src/lib.rt:391:5
 same-length : tie.Need-same-length
 same-length c = search needs
 
--- src/lib.rt:391:5
 returns-4 : tie.Need-returns-4
 returns-4 c = let o = opens-ready _ _ _ (c .before .before .before .before .before .before .before .before .before .before .before .«open» .ensures) _ _ _ _ (c .before .before .before .before .before .before .before .before .before .opened2 .given .1) in
     let few = fields-few _ _ _ (o .at) in

@@ -7,79 +7,58 @@ use Rattle.sheet.proofs.CallCases.{withdrawn-turned, withdrawn-15, with
 use borrow.Author.Needs.{needs}
 use Rattle.sheet.proofs.Sheet.withdraw.Statement.{statement}
 use Rattle.sheet.proofs.Sheet.withdraw.Tie as tie
-use Rattle.sheet.proofs.Sheet.withdraw.Reads as reads
-use Rattle.sheet.proofs.Sheet.withdraw.Lts as lts
-use Rattle.sheet.proofs.hand.Reads as hand-reads
-use Rattle.sheet.proofs.opened.open.Reads as open-reads
-use Rattle.sheet.proofs.refuse.Reads as refuse-reads
 
--- src/lib.rt:222:13
 open-requires : tie.Need-open-requires
 open-requires c κs = search needs
 
--- src/lib.rt:224:28
 enum-known-opened : tie.Need-enum-known-opened
 enum-known-opened c = search needs
 
--- src/lib.rt:224:46
 refuse-requires : tie.Need-refuse-requires
 refuse-requires c κs = search needs
 
--- src/lib.rt:227:17
 enum-known-opened-2 : tie.Need-enum-known-opened-2
 enum-known-opened-2 c = search needs
 
--- src/lib.rt:232:21
 refuse-requires-2 : tie.Need-refuse-requires-2
 refuse-requires-2 c κs = search needs
 
--- src/lib.rt:232:21
 returns : tie.Need-returns
 returns c = let o = opens-ready _ _ _ (c .before .before .before .before .before .«open» .ensures) _ _ _ _ (c .before .before .before .opened2 .given .1) in
     c .refuse2 .ensures [] ∙ withdrawn-15 _ _ _ _ _ o (c .before .if1 .taken)
 
--- src/lib.rt:234:20
 array-read-if2 : tie.Need-array-read-if2
 array-read-if2 c = let o = opens-ready _ _ _ (c .before .before .before .before .«open» .ensures) _ _ _ _ (c .before .before .opened2 .given .1) in
     omega (arith, fields-few _ _ _ (o .at))
 
--- src/lib.rt:235:21
 refuse-requires-3 : tie.Need-refuse-requires-3
 refuse-requires-3 c κs = search needs
 
--- src/lib.rt:235:21
 returns-2 : tie.Need-returns-2
 returns-2 c = let o = opens-ready _ _ _ (c .before .before .before .before .before .before .«open» .ensures) _ _ _ _ (c .before .before .before .before .opened2 .given .1) in
     c .refuse3 .ensures [] ∙ withdrawn-17 _ _ _ _ _ o (search needs) (c .before .before .if1 .left) (c .before .if2 .taken)
 
--- src/lib.rt:237:20
 array-read-if3 : tie.Need-array-read-if3
 array-read-if3 c = let o = opens-ready _ _ _ (c .before .before .before .before .before .«open» .ensures) _ _ _ _ (c .before .before .before .opened2 .given .1) in
     omega (arith, fields-few _ _ _ (o .at))
 
--- src/lib.rt:238:21
 refuse-requires-4 : tie.Need-refuse-requires-4
 refuse-requires-4 c κs = search needs
 
--- src/lib.rt:238:21
 returns-3 : tie.Need-returns-3
 returns-3 c = let o = opens-ready _ _ _ (c .before .before .before .before .before .before .before .«open» .ensures) _ _ _ _ (c .before .before .before .before .before .opened2 .given .1) in
     c .refuse4 .ensures [] ∙ withdrawn-22 _ _ _ _ _ o (search needs) (c .before .before .before .if1 .left) (c .before .before .if2 .left) (c .before .if3 .taken)
 
--- src/lib.rt:241:17
 array-write-rest : tie.Need-array-write-rest
 array-write-rest c = let o = opens-ready _ _ _ (c .before .before .before .before .before .before .«open» .ensures) _ _ _ _ (c .before .before .before .before .opened2 .given .1) in
     omega (arith, fields-few _ _ _ (o .at))
 
--- src/lib.rt:242:17
 hand-requires : tie.Need-hand-requires
 hand-requires c κs = search needs
 
--- src/lib.rt:217:5
 returns-4 : tie.Need-returns-4
 returns-4 c = c .refuse .ensures [] ∙ withdrawn-turned _ _ _ _ _ (opens-turned _ _ _ (c .before .before .before .before .«open» .ensures) _ _ (c .before .before .opened .given .1))
 
--- src/lib.rt:217:5
 returns-5 : tie.Need-returns-5
 returns-5 c = let o = opens-ready _ _ _ (c .before .before .before .before .before .before .before .«open» .ensures) _ _ _ _ (c .before .before .before .before .before .opened2 .given .1) in
     c .hand .ensures ∙ withdrawn-done _ _ _ _ _ o (search needs) (c .before .before .before .if1 .left) (c .before .before .if2 .left) (c .before .if3 .left)

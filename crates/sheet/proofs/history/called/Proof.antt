@@ -1,49 +1,33 @@
 -- `called` meets its contract: each kind of call, and no call. Assumes nothing.
 use Rattle.sheet.proofs.Replays.{called-enter, called-withdraw, called-clear, called-photograph, called-none}
 use borrow.Author.Needs.{needs}
-use native.Mathlib.Omega.{arith}
 use Rattle.sheet.proofs.history.called.Statement.{statement}
 use Rattle.sheet.proofs.history.called.Tie as tie
-use Rattle.sheet.proofs.history.called.Reads as reads
-use Rattle.sheet.proofs.history.called.Lts as lts
-use Rattle.sheet.proofs.Sheet.clear.Reads as clear-reads
-use Rattle.sheet.proofs.Sheet.enter.Reads as enter-reads
-use Rattle.sheet.proofs.Sheet.photograph.Reads as photograph-reads
-use Rattle.sheet.proofs.Sheet.withdraw.Reads as withdraw-reads
 
--- src/history.rt:13:13
 enter-requires : tie.Need-enter-requires
 enter-requires c κs = search needs
 
--- src/history.rt:14:9
 returns : tie.Need-returns
 returns c = called-enter _ _ _ _ _ (c .before .before .if1 .taken) (c .before .enter .ensures)
 
--- src/history.rt:17:13
 withdraw-requires : tie.Need-withdraw-requires
 withdraw-requires c κs = search needs
 
--- src/history.rt:18:9
 returns-2 : tie.Need-returns-2
 returns-2 c = called-withdraw _ _ _ _ _ (c .before .before .before .if1 .left) (c .before .before .if2 .taken) (c .before .withdraw .ensures)
 
--- src/history.rt:21:13
 clear-requires : tie.Need-clear-requires
 clear-requires c κs = search needs
 
--- src/history.rt:22:9
 returns-3 : tie.Need-returns-3
 returns-3 c = called-clear _ _ _ _ _ (c .before .before .before .before .if1 .left) (c .before .before .before .if2 .left) (c .before .before .if3 .taken) (c .before .clear .ensures)
 
--- src/history.rt:25:13
 photograph-requires : tie.Need-photograph-requires
 photograph-requires c κs = search needs
 
--- src/history.rt:26:9
 returns-4 : tie.Need-returns-4
 returns-4 c = called-photograph _ _ _ _ _ (c .before .before .before .before .before .if1 .left) (c .before .before .before .before .if2 .left) (c .before .before .before .if3 .left) (c .before .before .if4 .taken) (c .before .photograph .ensures)
 
--- src/history.rt:9:1
 returns-5 : tie.Need-returns-5
 returns-5 c = called-none _ _ _ _ _ (c .before .before .before .if1 .left) (c .before .before .if2 .left) (c .before .if3 .left) (c .if4 .left)
 

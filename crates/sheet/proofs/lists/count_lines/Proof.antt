@@ -15,11 +15,6 @@ use Rattle.sheet.proofs.FieldTurns.{few-below, counted-all, field-byte,
 use borrow.Author.Needs.{needs}
 use Rattle.sheet.proofs.lists.count_lines.Statement.{statement}
 use Rattle.sheet.proofs.lists.count_lines.Tie as tie
-use Rattle.sheet.proofs.lists.count_lines.Reads as reads
-use Rattle.sheet.proofs.lists.count_lines.Lts as lts
-use Rattle.sheet.proofs.lists.count_codes.Reads as count-codes-reads
-use Rattle.sheet.proofs.lists.in_doubt.Reads as in-doubt-reads
-use Rattle.sheet.proofs.lists.wide.Reads as wide-reads
 
 abbrev Inv-loop : tie.InvT-loop
 Inv-loop book marks empty list fields answers photographed sum₀ k₀ f₀ sum k f = (f ≤ fields) × (k ≡ ownCase (sheetWith answers photographed) f) × (sum ≡ totalBelow (bookOf book) (sheetWith answers photographed) f)
@@ -27,31 +22,24 @@ Inv-loop book marks empty list fields answers photographed sum₀ k₀ f₀ sum 
 abbrev μ-loop : tie.MeasureT-loop
 μ-loop book marks empty list fields answers photographed sum₀ k₀ f₀ sum k f = fields - f
 
--- src/lists.rt:85:5
 loop-holds : tie.Need-loop-holds Inv-loop μ-loop
 loop-holds c = (omega arith, refl, refl)
 
--- src/lists.rt:86:22
 array-read-in-doubt : tie.Need-array-read-in-doubt Inv-loop μ-loop
 array-read-in-doubt c = omega (arith, fields-few _ _ _ (c .before .before .before .pre .at))
 
--- src/lists.rt:86:34
 array-read-in-doubt-2 : tie.Need-array-read-in-doubt-2 Inv-loop μ-loop
 array-read-in-doubt-2 c = omega (arith, fields-few _ _ _ (c .before .before .before .pre .at))
 
--- src/lists.rt:86:13
 in-doubt-requires : tie.Need-in-doubt-requires Inv-loop μ-loop
 in-doubt-requires c κs = search needs
 
--- src/lists.rt:87:13
 add-f : tie.Need-add-f Inv-loop μ-loop
 add-f c = search needs
 
--- src/lists.rt:85:5
 loop-less : tie.Need-loop-less Inv-loop μ-loop
 loop-less c = search needs
 
--- src/lists.rt:85:5
 loop-again : tie.Need-loop-again Inv-loop μ-loop
 loop-again c = let x = (c .before .before .before .before .before .pre) in
     let l = c .before .before .loop-test .taken in
@@ -59,23 +47,18 @@ loop-again c = let x = (c .before .before .before .before .before .pre) in
     let e = doubt-here x l long (c .before .in-doubt .ensures) ∙ not-true _ (c .if1 .taken) in
     (omega arith, same-case x l e (c .before .before .before .loop .inv .1), total-without x l (other-lineless x l e) (c .before .before .before .loop .inv .2))
 
--- src/lists.rt:88:20
 shr-if2 : tie.Need-shr-if2 Inv-loop μ-loop
 shr-if2 c = case-few ((c .before .before .before .before .before .pre)) (c .before .before .loop-test .taken) (c .before .before .before .loop .inv .1)
 
--- src/lists.rt:89:13
 add-k : tie.Need-add-k Inv-loop μ-loop
 add-k c = omega (arith, case-few ((c .before .before .before .before .before .before .pre)) (c .before .before .before .loop-test .taken) (c .before .before .before .before .loop .inv .1))
 
--- src/lists.rt:90:13
 add-f-2 : tie.Need-add-f-2 Inv-loop μ-loop
 add-f-2 c = search needs
 
--- src/lists.rt:85:5
 loop-less-2 : tie.Need-loop-less-2 Inv-loop μ-loop
 loop-less-2 c = search needs
 
--- src/lists.rt:85:5
 loop-again-2 : tie.Need-loop-again-2 Inv-loop μ-loop
 loop-again-2 c = let x = (c .before .before .before .before .before .before .pre) in
     let l = c .before .before .before .loop-test .taken in
@@ -86,39 +69,30 @@ loop-again-2 c = let x = (c .before .before .before .before .before .before .pre
       total-without x l (unmended-lineless x l (c .before .before .before .before .loop .inv .1) e (eq-eqb _ _ (c .if2 .taken))) (c .before .before .before .before .loop .inv .2),
     )
 
--- src/lists.rt:92:31
 add-wide : tie.Need-add-wide Inv-loop μ-loop
 add-wide c = omega (arith, field-byte ((c .before .before .before .before .before .before .pre)) (c .before .before .before .loop-test .taken), verdict-promise _ (c .before .before .before .before .before .before .pre .at .passes) .short)
 
--- src/lists.rt:92:26
 shared-slice-read-wide : tie.Need-shared-slice-read-wide Inv-loop μ-loop
 shared-slice-read-wide c = field-byte ((c .before .before .before .before .before .before .before .pre)) (c .before .before .before .before .loop-test .taken)
 
--- src/lists.rt:92:17
 wide-requires : tie.Need-wide-requires Inv-loop μ-loop
 wide-requires c κs = search needs
 
--- src/lists.rt:93:20
 count-codes-requires : tie.Need-count-codes-requires Inv-loop μ-loop
 count-codes-requires c κs = in-marks ((c .before .before .before .before .before .before .before .before .pre)) (c .before .before .before .before .before .loop-test .taken) (c .before .before .before .before .before .before .loop .inv .1) (c .wide .ensures)
 
--- src/lists.rt:93:13
 add-sum : tie.Need-add-sum Inv-loop μ-loop
 add-sum c = omega (arith, few-below ((c .before .before .before .before .before .before .before .before .before .pre)) (c .before .before .before .before .before .before .before .loop .f), c .before .before .before .before .before .before .before .loop .inv .2, fields-few _ _ _ (c .before .before .before .before .before .before .before .before .before .pre .at), in-marks ((c .before .before .before .before .before .before .before .before .before .pre)) (c .before .before .before .before .before .before .loop-test .taken) (c .before .before .before .before .before .before .before .loop .inv .1) (c .before .wide .ensures) .codes-in, c .count-codes .ensures .1)
 
--- src/lists.rt:94:13
 add-k-2 : tie.Need-add-k-2 Inv-loop μ-loop
 add-k-2 c = omega (arith, case-few ((c .before .before .before .before .before .before .before .before .before .pre)) (c .before .before .before .before .before .before .loop-test .taken) (c .before .before .before .before .before .before .before .loop .inv .1))
 
--- src/lists.rt:95:13
 add-f-3 : tie.Need-add-f-3 Inv-loop μ-loop
 add-f-3 c = search needs
 
--- src/lists.rt:85:5
 loop-less-3 : tie.Need-loop-less-3 Inv-loop μ-loop
 loop-less-3 c = search needs
 
--- src/lists.rt:85:5
 loop-again-3 : tie.Need-loop-again-3 Inv-loop μ-loop
 loop-again-3 c = let x = (c .before .before .before .before .before .before .before .before .before .pre) in
     let l = c .before .before .before .before .before .before .loop-test .taken in
@@ -129,7 +103,6 @@ loop-again-3 c = let x = (c .before .before .before .before .before .before .bef
       total-with x l (c .before .before .before .before .before .before .before .loop .inv .1) (c .before .wide .ensures) e (ne-eqb _ _ (c .before .before .before .if2 .left)) (c .before .before .before .before .before .before .before .loop .inv .2) (c .count-codes .ensures .0),
     )
 
--- src/lists.rt:70:1
 returns : tie.Need-returns Inv-loop μ-loop
 returns c = (
   counted-all ((c .before .before .before .pre)) (c .loop-test .left) (c .before .loop .inv .0) (c .before .loop .inv .2),

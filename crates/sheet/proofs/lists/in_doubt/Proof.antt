@@ -1,17 +1,11 @@
 -- `in_doubt` meets its contract. Assumes nothing.
 use borrow.Author.Tests.{eq-eqb, ne-eqb}
-use borrow.Author.Needs.{needs}
-use native.Mathlib.Omega.{arith}
 use Rattle.sheet.proofs.lists.in_doubt.Statement.{statement}
 use Rattle.sheet.proofs.lists.in_doubt.Tie as tie
-use Rattle.sheet.proofs.lists.in_doubt.Reads as reads
-use Rattle.sheet.proofs.lists.in_doubt.Lts as lts
 
--- src/lists.rt:30:9
 returns : tie.Need-returns
 returns c = simp (eq-eqb _ _ (c .if1 .taken))
 
--- src/lists.rt:26:1
 returns-2 : tie.Need-returns-2
 returns-2 c = simp (ne-eqb _ _ (c .if1 .left))
 

@@ -16,11 +16,6 @@ use Rattle.sheet.proofs.FieldTurns.{written-all, field-byte, doubt-here
 use borrow.Author.Needs.{needs}
 use Rattle.sheet.proofs.lists.write_lines.Statement.{statement}
 use Rattle.sheet.proofs.lists.write_lines.Tie as tie
-use Rattle.sheet.proofs.lists.write_lines.Reads as reads
-use Rattle.sheet.proofs.lists.write_lines.Lts as lts
-use Rattle.sheet.proofs.lists.in_doubt.Reads as in-doubt-reads
-use Rattle.sheet.proofs.lists.wide.Reads as wide-reads
-use Rattle.sheet.proofs.lists.write_field.Reads as write-field-reads
 
 abbrev Inv-loop : tie.InvT-loop
 Inv-loop book marks empty list fields out₀ answers photographed next₀ k₀ f₀ out next k f = (f ≤ fields) × (k ≡ ownCase (sheetWith answers photographed) f) × (next ≡ 2 * totalBelow (bookOf book) (sheetWith answers photographed) f)
@@ -29,31 +24,24 @@ Inv-loop book marks empty list fields out₀ answers photographed next₀ k₀ f
 abbrev μ-loop : tie.MeasureT-loop
 μ-loop book marks empty list fields out₀ answers photographed next₀ k₀ f₀ out next k f = fields - f
 
--- src/lists.rt:118:5
 loop-holds : tie.Need-loop-holds Inv-loop μ-loop
 loop-holds c = (omega arith, refl, refl, refl)
 
--- src/lists.rt:119:22
 array-read-in-doubt : tie.Need-array-read-in-doubt Inv-loop μ-loop
 array-read-in-doubt c = omega (arith, fields-few _ _ _ (c .before .before .before .before .pre .0 .at))
 
--- src/lists.rt:119:34
 array-read-in-doubt-2 : tie.Need-array-read-in-doubt-2 Inv-loop μ-loop
 array-read-in-doubt-2 c = omega (arith, fields-few _ _ _ (c .before .before .before .before .pre .0 .at))
 
--- src/lists.rt:119:13
 in-doubt-requires : tie.Need-in-doubt-requires Inv-loop μ-loop
 in-doubt-requires c κs = search needs
 
--- src/lists.rt:120:13
 add-f : tie.Need-add-f Inv-loop μ-loop
 add-f c = search needs
 
--- src/lists.rt:118:5
 loop-less : tie.Need-loop-less Inv-loop μ-loop
 loop-less c = search needs
 
--- src/lists.rt:118:5
 loop-again : tie.Need-loop-again Inv-loop μ-loop
 loop-again c = let x = c .before .before .before .before .before .before .pre .0 in
     let l = c .before .before .loop-test .taken in
@@ -62,23 +50,18 @@ loop-again c = let x = c .before .before .before .before .before .before .pre .0
     let h = other-lineless x l e in
     (omega arith, same-case x l e (c .before .before .before .loop .inv .1), place-without x l h (c .before .before .before .loop .inv .2), lines-without x l h (c .before .before .before .before .before .before .args .out .now) (c .before .before .before .loop .inv .3))
 
--- src/lists.rt:121:20
 shr-if2 : tie.Need-shr-if2 Inv-loop μ-loop
 shr-if2 c = case-few (c .before .before .before .before .before .before .pre .0) (c .before .before .loop-test .taken) (c .before .before .before .loop .inv .1)
 
--- src/lists.rt:122:13
 add-k : tie.Need-add-k Inv-loop μ-loop
 add-k c = omega (arith, case-few (c .before .before .before .before .before .before .before .pre .0) (c .before .before .before .loop-test .taken) (c .before .before .before .before .loop .inv .1))
 
--- src/lists.rt:123:13
 add-f-2 : tie.Need-add-f-2 Inv-loop μ-loop
 add-f-2 c = search needs
 
--- src/lists.rt:118:5
 loop-less-2 : tie.Need-loop-less-2 Inv-loop μ-loop
 loop-less-2 c = search needs
 
--- src/lists.rt:118:5
 loop-again-2 : tie.Need-loop-again-2 Inv-loop μ-loop
 loop-again-2 c = let x = c .before .before .before .before .before .before .before .pre .0 in
     let l = c .before .before .before .loop-test .taken in
@@ -87,19 +70,15 @@ loop-again-2 c = let x = c .before .before .before .before .before .before .befo
     let h = unmended-lineless x l (c .before .before .before .before .loop .inv .1) e (eq-eqb _ _ (c .if2 .taken)) in
     (omega arith, next-case x l e (c .before .before .before .before .loop .inv .1), place-without x l h (c .before .before .before .before .loop .inv .2), lines-without x l h (c .before .before .before .before .before .before .before .args .out .now) (c .before .before .before .before .loop .inv .3))
 
--- src/lists.rt:125:31
 add-wide : tie.Need-add-wide Inv-loop μ-loop
 add-wide c = omega (arith, field-byte (c .before .before .before .before .before .before .before .pre .0) (c .before .before .before .loop-test .taken), verdict-promise _ (c .before .before .before .before .before .before .before .pre .0 .at .passes) .short)
 
--- src/lists.rt:125:26
 shared-slice-read-wide : tie.Need-shared-slice-read-wide Inv-loop μ-loop
 shared-slice-read-wide c = field-byte (c .before .before .before .before .before .before .before .before .pre .0) (c .before .before .before .before .loop-test .taken)
 
--- src/lists.rt:125:17
 wide-requires : tie.Need-wide-requires Inv-loop μ-loop
 wide-requires c κs = search needs
 
--- src/lists.rt:126:13
 write-field-requires : tie.Need-write-field-requires Inv-loop μ-loop
 write-field-requires c κs = let x = c .before .before .before .before .before .before .before .before .before .before .pre .0 in
     let l = c .before .before .before .before .before .before .loop-test .taken in
@@ -109,19 +88,15 @@ write-field-requires c κs = let x = c .before .before .before .before .before .
       lines-fit x l (c .before .before .before .before .before .before .before .loop .inv .1) (c .before .wide .ensures) e (ne-eqb _ _ (c .before .before .before .if2 .left)) (c .before .before .before .before .before .before .before .before .before .before .args .out .now) (c .before .before .before .before .before .before .before .before .before .before .pre .1) (c .before .before .before .before .before .before .before .loop .inv .2) (c .before .before .before .before .before .before .before .loop .inv .3),
     )
 
--- src/lists.rt:127:13
 add-k-2 : tie.Need-add-k-2 Inv-loop μ-loop
 add-k-2 c = omega (arith, case-few (c .before .before .before .before .before .before .before .before .before .before .before .before .before .pre .0) (c .before .before .before .before .before .before .before .before .before .loop-test .taken) (c .before .before .before .before .before .before .before .before .before .before .loop .inv .1))
 
--- src/lists.rt:128:13
 add-f-3 : tie.Need-add-f-3 Inv-loop μ-loop
 add-f-3 c = search needs
 
--- src/lists.rt:118:5
 loop-less-3 : tie.Need-loop-less-3 Inv-loop μ-loop
 loop-less-3 c = search needs
 
--- src/lists.rt:118:5
 loop-again-3 : tie.Need-loop-again-3 Inv-loop μ-loop
 loop-again-3 c = let x = c .before .before .before .before .before .before .before .before .before .before .before .before .before .pre .0 in
     let l = c .before .before .before .before .before .before .before .before .before .loop-test .taken in
@@ -134,11 +109,9 @@ loop-again-3 c = let x = c .before .before .before .before .before .before .befo
       lines-with x l (c .before .before .before .before .before .before .before .before .before .before .loop .inv .1) (c .before .before .before .before .wide .ensures) e d (c .before .before .before .before .before .before .before .before .before .before .before .before .before .args .out .now) (c .before .before .before .before .before .before .before .before .before .before .loop .inv .2) (c .before .before .before .before .before .before .before .before .before .before .loop .inv .3) (c .before .before .write-field .ensures .1),
     )
 
--- src/lists.rt:102:1
 same-length : tie.Need-same-length Inv-loop μ-loop
 same-length c = ap length (c .before .loop .inv .3) ∙ length-sets _ 0 (bytesBelow (bookOf (c .before .before .before .before .args .book .now)) (sheetWith (c .before .before .before .before .args .t2) (c .before .before .before .before .args .t3)) (c .before .loop .f))
 
--- src/lists.rt:102:1
 returns : tie.Need-returns Inv-loop μ-loop
 returns c = written-all (c .before .before .before .before .pre .0) (c .before .before .before .before .args .out .now) (c .loop-test .left) (c .before .loop .inv .0) (c .before .before .before .before .pre .1) (c .before .loop .inv .3)
 

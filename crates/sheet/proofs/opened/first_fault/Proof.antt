@@ -1,74 +1,60 @@
 -- `sheet::opened::first_fault` meets its contract. The loop's invariant: the first place that fails from here on is the first at fault. Assumes nothing.
-use mathlib.Core.Path.{_≡_, sym, _∙_}
+use mathlib.Core.Path.{_≡_, refl, sym, _∙_}
 use Prim.Native.Nat.{_≤_, _-_}
 use native.Mathlib.Omega.{arith}
-use lib.ListN.{length}
 use borrow.Author.Tests.{not-true, not-false}
 use Rattle.format.specs.Basics.{firstBad}
 use Rattle.format.specs.Format.{bookOf}
 use Rattle.format.proofs.Scans.{bad-on, bad-here, bad-none}
+use Rattle.format.proofs.Verdict.{verdict-promise}
 use Rattle.consistency.specs.Consistency.{places, sheetWith}
-use Rattle.calls.specs.Calls.{faultOf}
-use Rattle.sheet.specs.Opened.{heldOk}
+use Rattle.filter.proofs.Limits.{codes-few}
+use Rattle.sheet.specs.Opened.{seenOk}
 use Rattle.sheet.proofs.Places.{fault-is}
 use borrow.Author.Needs.{needs}
 use Rattle.sheet.proofs.opened.first_fault.Statement.{statement}
 use Rattle.sheet.proofs.opened.first_fault.Tie as tie
-use Rattle.sheet.proofs.opened.first_fault.Reads as reads
-use Rattle.sheet.proofs.opened.first_fault.Lts as lts
-use Rattle.sheet.proofs.opened.code_counts.Reads as code-counts-reads
-use Rattle.sheet.proofs.opened.may_hold.Reads as may-hold-reads
 
 abbrev Inv-loop : tie.InvT-loop
-Inv-loop book list fields answers photographed counts p₀ p = (p ≤ places) × (firstBad (heldOk counts (sheetWith answers photographed)) p places ≡ faultOf (bookOf book) (sheetWith answers photographed))
+Inv-loop book list fields counts bytes p₀ p = (p ≤ places) × (firstBad (seenOk bytes counts) p places ≡ firstBad (seenOk bytes counts) 0 places)
 
 abbrev μ-loop : tie.MeasureT-loop
-μ-loop book list fields answers photographed counts p₀ p = places - p
+μ-loop book list fields counts bytes p₀ p = places - p
 
--- src/opened.rt:56:18
 code-counts-requires : tie.Need-code-counts-requires Inv-loop μ-loop
 code-counts-requires c κs = search needs
 
--- src/opened.rt:58:5
-loop-holds : tie.Need-loop-holds Inv-loop μ-loop
-loop-holds c = let long : length (c .before .before .args .t4) ≡ places = search needs in
-    (omega arith, fault-is (sheetWith (c .before .before .args .t4) (c .before .before .args .t5)) long (bookOf (c .before .before .args .book .now)) _ (c .code-counts .ensures))
+seen-bytes-requires : tie.Need-seen-bytes-requires Inv-loop μ-loop
+seen-bytes-requires c κs = search needs
 
--- src/opened.rt:59:22
+loop-holds : tie.Need-loop-holds Inv-loop μ-loop
+loop-holds c = (omega arith, refl)
+
 array-read-may-hold : tie.Need-array-read-may-hold Inv-loop μ-loop
 array-read-may-hold c = search needs
 
--- src/opened.rt:59:34
 array-read-may-hold-2 : tie.Need-array-read-may-hold-2 Inv-loop μ-loop
 array-read-may-hold-2 c = search needs
 
--- src/opened.rt:59:51
-array-read-may-hold-3 : tie.Need-array-read-may-hold-3 Inv-loop μ-loop
-array-read-may-hold-3 c = search needs
-
--- src/opened.rt:59:13
 may-hold-requires : tie.Need-may-hold-requires Inv-loop μ-loop
 may-hold-requires c κs = search needs
 
--- src/opened.rt:60:13
 returns : tie.Need-returns Inv-loop μ-loop
 returns c = bad-here _ _ _ (c .before .before .loop-test .taken) (sym (c .before .may-hold .ensures) ∙ not-true _ (c .if1 .taken)) ∙ c .before .before .before .loop .inv .1
+    ∙ fault-is (sheetWith (c .before .before .before .before .before .before .before .args .answers) (c .before .before .before .before .before .before .before .args .photographed)) (bookOf (c .before .before .before .before .before .before .before .args .book .now)) (codes-few _ (verdict-promise _ (c .before .before .before .before .before .before .before .pre .passes))) _ _ (c .before .before .before .before .seen-bytes .ensures) (c .before .before .before .before .before .code-counts .ensures)
 
--- src/opened.rt:62:9
 add-p : tie.Need-add-p Inv-loop μ-loop
 add-p c = search needs
 
--- src/opened.rt:58:5
 loop-less : tie.Need-loop-less Inv-loop μ-loop
 loop-less c = search needs
 
--- src/opened.rt:58:5
 loop-again : tie.Need-loop-again Inv-loop μ-loop
 loop-again c = (omega arith, bad-on _ _ _ (c .before .before .loop-test .taken) (sym (c .before .may-hold .ensures) ∙ not-false _ (c .if1 .left)) ∙ c .before .before .before .loop .inv .1)
 
--- src/opened.rt:46:1
 returns-2 : tie.Need-returns-2 Inv-loop μ-loop
 returns-2 c = bad-none _ _ _ (c .loop-test .left) ∙ c .before .loop .inv .1
+    ∙ fault-is (sheetWith (c .before .before .before .before .before .args .answers) (c .before .before .before .before .before .args .photographed)) (bookOf (c .before .before .before .before .before .args .book .now)) (codes-few _ (verdict-promise _ (c .before .before .before .before .before .pre .passes))) _ _ (c .before .before .seen-bytes .ensures) (c .before .before .before .code-counts .ensures)
 
 pub first-fault-spec : {M : Type 1} → statement M
 first-fault-spec =
@@ -77,10 +63,10 @@ first-fault-spec =
     Inv-loop
     μ-loop
     code-counts-requires
+    seen-bytes-requires
     loop-holds
     array-read-may-hold
     array-read-may-hold-2
-    array-read-may-hold-3
     may-hold-requires
     returns
     add-p

@@ -1,27 +1,18 @@
 -- `handed::change` meets its contract: a refusal leaves the sheet's bytes, an accepted call's are written. Assumes nothing.
 use Rattle.sighting.proofs.Along.{changes-none, changes-all}
 use borrow.Author.Needs.{needs}
-use native.Mathlib.Omega.{arith}
 use Rattle.sighting.proofs.handed.change.Statement.{statement}
 use Rattle.sighting.proofs.handed.change.Tie as tie
-use Rattle.sighting.proofs.handed.change.Reads as reads
-use Rattle.sighting.proofs.handed.change.Lts as lts
-use Rattle.sighting.proofs.handed.tell.Reads as tell-reads
-use Rattle.sighting.proofs.sheets.bytes_of.Reads as bytes-of-reads
 
--- src/handed.rt:76:9
 tell-requires : tie.Need-tell-requires
 tell-requires c κs = search needs
 
--- src/handed.rt:78:9
 returns : tie.Need-returns
 returns c = changes-none (c .before .tell .ensures) (c .if1 .taken)
 
--- src/handed.rt:80:14
 bytes-of-requires : tie.Need-bytes-of-requires
 bytes-of-requires c κs = search needs
 
--- src/handed.rt:71:1
 returns-2 : tie.Need-returns-2
 returns-2 c = changes-all (c .before .before .tell .ensures) (c .before .if1 .left) (c .bytes-of .ensures)
 

@@ -1,6 +1,6 @@
 -- `sheets::bytes_of` meets its contract. The loop's invariant: the bytes of the places passed are written, in both halves. Assumes nothing.
-use mathlib.Core.Path.{_≡_, sym, ap, _∙_}
-use Prim.Native.Nat.{ℕ, _≤_, _-_}
+use mathlib.Core.Path.{_≡_, ap, _∙_}
+use Prim.Native.Nat.{_≤_, _-_}
 use native.Mathlib.Omega.{arith}
 use lib.ListN.{length}
 use Rattle.consistency.specs.Consistency.{places, sheetWith, answer, backed}
@@ -11,9 +11,6 @@ use Rattle.sighting.proofs.SheetBytes.{Halves, halves-none, halves-more
 use borrow.Author.Needs.{needs}
 use Rattle.sighting.proofs.sheets.bytes_of.Statement.{statement}
 use Rattle.sighting.proofs.sheets.bytes_of.Tie as tie
-use Rattle.sighting.proofs.sheets.bytes_of.Reads as reads
-use Rattle.sighting.proofs.sheets.bytes_of.Lts as lts
-use Rattle.sighting.proofs.sheets.flag.Reads as flag-reads
 
 abbrev Inv-loop : tie.InvT-loop
 Inv-loop answers photographed bytes₀ p₀ bytes p = (p ≤ places) × Halves (answer answers) (λ f. flagByte (backed (sheetWith answers photographed) f)) places bytes p
@@ -21,48 +18,37 @@ Inv-loop answers photographed bytes₀ p₀ bytes p = (p ≤ places) × Halves (
 abbrev μ-loop : tie.MeasureT-loop
 μ-loop answers photographed bytes₀ p₀ bytes p = places - p
 
--- src/sheets.rt:44:5
 loop-holds : tie.Need-loop-holds Inv-loop μ-loop
 loop-holds c = (omega arith, halves-none _ _ places)
 
--- src/sheets.rt:45:20
 array-read-bytes : tie.Need-array-read-bytes Inv-loop μ-loop
 array-read-bytes c = search needs
 
--- src/sheets.rt:45:9
 array-write-bytes : tie.Need-array-write-bytes Inv-loop μ-loop
 array-write-bytes c = search needs
 
--- src/sheets.rt:46:34
 array-read-flag : tie.Need-array-read-flag Inv-loop μ-loop
 array-read-flag c = search needs
 
--- src/sheets.rt:46:29
 flag-requires : tie.Need-flag-requires Inv-loop μ-loop
 flag-requires c κs = search needs
 
--- src/sheets.rt:46:15
 add-bytes : tie.Need-add-bytes Inv-loop μ-loop
 add-bytes c = search needs
 
--- src/sheets.rt:46:9
 array-write-bytes-2 : tie.Need-array-write-bytes-2 Inv-loop μ-loop
 array-write-bytes-2 c = search needs
 
--- src/sheets.rt:44:9
 add-p : tie.Need-add-p Inv-loop μ-loop
 add-p c = search needs
 
--- src/sheets.rt:44:5
 loop-less : tie.Need-loop-less Inv-loop μ-loop
 loop-less c = search needs
 
--- src/sheets.rt:44:5
 loop-again : tie.Need-loop-again Inv-loop μ-loop
 loop-again c = let long : length (c .before .before .before .before .before .args .sheet .answers) ≡ places = search needs in
     (omega arith, halves-more _ _ places _ _ _ _ (c .before .before .loop .inv .1) (c .before .loop-test .taken) (answer-at (c .before .before .before .before .before .args .sheet .answers) _ (omega (arith, long, c .before .loop-test .taken))) (c .flag .ensures))
 
--- src/sheets.rt:38:1
 returns : tie.Need-returns Inv-loop μ-loop
 returns c = let long : length (c .before .before .before .before .args .sheet .answers) ≡ places = search needs in
     let wide : length (c .before .before .before .before .args .sheet .photographed) ≡ places = search needs in

@@ -1,17 +1,15 @@
 -- `sheets::held` meets its contract. The loop's invariant: answers and photographs of the places passed are the bytes' ones. Assumes nothing.
 use mathlib.Core.Path.{refl, ap₂}
-use mathlib.Core.Bool.{Bool, false, not}
-use Prim.Native.Nat.{ℕ, _+_, _≤_, _-_}
+use mathlib.Core.Bool.{false, not}
+use Prim.Native.Nat.{_+_, _≤_, _-_}
 use native.Mathlib.Omega.{arith}
 use lib.Dec.{eqb}
 use lib.ListN.{getD}
 use Rattle.consistency.specs.Consistency.{places, sheetWith}
-use Rattle.sighting.proofs.SheetBytes.{Front, front-none, front-more, front-all}
+use Rattle.sheet.proofs.Fronts.{Front, front-none, front-more, front-all}
 use borrow.Author.Needs.{needs}
 use Rattle.sighting.proofs.sheets.held.Statement.{statement}
 use Rattle.sighting.proofs.sheets.held.Tie as tie
-use Rattle.sighting.proofs.sheets.held.Reads as reads
-use Rattle.sighting.proofs.sheets.held.Lts as lts
 
 abbrev Inv-loop : tie.InvT-loop
 Inv-loop bytes answers₀ photographed₀ p₀ answers photographed p = (p ≤ places) × Front 0 (λ f. getD bytes f 0) places answers p × Front false (λ f. not (eqb (getD bytes (places + f) 0) 0)) places photographed p
@@ -19,39 +17,30 @@ Inv-loop bytes answers₀ photographed₀ p₀ answers photographed p = (p ≤ p
 abbrev μ-loop : tie.MeasureT-loop
 μ-loop bytes answers₀ photographed₀ p₀ answers photographed p = places - p
 
--- src/sheets.rt:27:5
 loop-holds : tie.Need-loop-holds Inv-loop μ-loop
 loop-holds c = (omega arith, front-none 0 (λ f. getD (c .args .t1) f 0) places 255, front-none false (λ f. not (eqb (getD (c .args .t1) (places + f) 0) 0)) places false)
 
--- src/sheets.rt:28:22
 array-read-answers : tie.Need-array-read-answers Inv-loop μ-loop
 array-read-answers c = search needs
 
--- src/sheets.rt:28:9
 array-write-answers : tie.Need-array-write-answers Inv-loop μ-loop
 array-write-answers c = search needs
 
--- src/sheets.rt:29:33
 add-photographed : tie.Need-add-photographed Inv-loop μ-loop
 add-photographed c = search needs
 
--- src/sheets.rt:29:27
 array-read-photographed : tie.Need-array-read-photographed Inv-loop μ-loop
 array-read-photographed c = search needs
 
--- src/sheets.rt:29:9
 array-write-photographed : tie.Need-array-write-photographed Inv-loop μ-loop
 array-write-photographed c = search needs
 
--- src/sheets.rt:27:9
 add-p : tie.Need-add-p Inv-loop μ-loop
 add-p c = search needs
 
--- src/sheets.rt:27:5
 loop-less : tie.Need-loop-less Inv-loop μ-loop
 loop-less c = search needs
 
--- src/sheets.rt:27:5
 loop-again : tie.Need-loop-again Inv-loop μ-loop
 loop-again c = (
   omega arith,
@@ -59,7 +48,6 @@ loop-again c = (
   front-more false (λ f. not (eqb (getD (c .before .before .args .t1) (places + f) 0) 0)) places _ _ _ (c .before .loop .inv .2) (c .loop-test .taken) refl,
 )
 
--- src/sheets.rt:22:1
 returns : tie.Need-returns Inv-loop μ-loop
 returns c = ap₂ sheetWith (front-all 0 (λ f. getD (c .before .before .args .t1) f 0) places _ _ (c .before .loop .inv .1) (c .loop-test .left)) (front-all false (λ f. not (eqb (getD (c .before .before .args .t1) (places + f) 0) 0)) places _ _ (c .before .loop .inv .2) (c .loop-test .left))
 
