@@ -1,6 +1,6 @@
 //! The five families of books and two small ones, each with answers for any n.
 
-use sighting::{NO_ANSWER, SHEET_BYTES};
+use sighting::{Sheet, NO_ANSWER, PLACES, SHEET_BYTES};
 
 use crate::plain::reader::field_limit;
 use crate::plain::CODES;
@@ -28,19 +28,37 @@ impl Family {
         (0..).map(|k| 1 << k).take_while(|&n| n < self.fields()).chain([self.fields()])
     }
 
-    /// A sheet with n answers.
+    /// A sheet with n answers, without photographs.
     pub fn sheet(&self, n: usize) -> [u8; SHEET_BYTES] {
-        let mut sheet = [NO_ANSWER; SHEET_BYTES];
+        self.photographed(n, 0)
+    }
+
+    /// A sheet with n answers, the first k of them photographed.
+    pub fn photographed(&self, n: usize, k: usize) -> [u8; SHEET_BYTES] {
+        let mut sheet = unphotographed([NO_ANSWER; PLACES]);
         for &f in &self.order[..n] {
             sheet[f] = self.reading[f];
         }
+        for &f in &self.order[..k] {
+            sheet[PLACES + f] = 1;
+        }
         sheet
+    }
+
+    /// The field that is answered last.
+    pub fn last(&self) -> usize {
+        self.order[self.fields() - 1]
     }
 
     /// The stored form of that sheet.
     pub fn stored(&self, n: usize) -> Vec<u8> {
         self.sheet(n)[..self.fields()].to_vec()
     }
+}
+
+/// The sheet with these answers, none of them photographed.
+pub fn unphotographed(answers: [u8; PLACES]) -> [u8; SHEET_BYTES] {
+    *Sheet::from(answers).bytes()
 }
 
 /// SplitMix64.

@@ -4,7 +4,7 @@
 mod linked {
     use std::ffi::c_void;
 
-    use sighting::SHEET_BYTES;
+    use sighting::PLACES;
 
     extern "C" {
         fn gecode_open(book: *const u8, length: usize) -> *mut c_void;
@@ -23,10 +23,10 @@ mod linked {
             (!root.is_null()).then_some(Root(root))
         }
 
-        /// The total, by one clone for each of the n + 1 cases.
-        pub fn alternatives(&self, sheet: &[u8; SHEET_BYTES]) -> u64 {
-            // SAFETY: the root is open; the sheet has a byte for each field.
-            unsafe { gecode_alternatives(self.0, sheet.as_ptr()) }
+        /// The total of a sheet with these answers and no photograph, by one clone for each of the n + 1 cases.
+        pub fn alternatives(&self, answers: &[u8; PLACES]) -> u64 {
+            // SAFETY: the root is open; there is a byte for each field.
+            unsafe { gecode_alternatives(self.0, answers.as_ptr()) }
         }
     }
 
@@ -40,7 +40,7 @@ mod linked {
 
 #[cfg(not(gecode))]
 mod linked {
-    use sighting::SHEET_BYTES;
+    use sighting::PLACES;
 
     pub struct Root;
 
@@ -49,7 +49,7 @@ mod linked {
             None
         }
 
-        pub fn alternatives(&self, _: &[u8; SHEET_BYTES]) -> u64 {
+        pub fn alternatives(&self, _: &[u8; PLACES]) -> u64 {
             0
         }
     }

@@ -7,6 +7,7 @@ mod families;
 mod gecode;
 mod listings;
 mod measure;
+mod photographs;
 mod plain;
 mod plot;
 mod questions;
@@ -52,6 +53,16 @@ fn row_sections(out: &mut String, b: &Family, e: &Family) -> std::fmt::Result {
     tables::refused_rows(out, &[small, b, e].map(|f| (f.name, measure::refused_rows(f, f.fields()))))
 }
 
+/// What photographs save in the one pass, and what the calls cost that change a sheet.
+fn photograph_sections(out: &mut String, books: &[Family]) -> std::fmt::Result {
+    writeln!(out, "\n### All alternatives of a sheet with {} answers, some photographed\n", photographs::ANSWERS)?;
+    tables::photographed(out, &books.iter().map(|f| (f.name, photographs::passes(f))).collect::<Vec<_>>())?;
+    writeln!(out, "\n### The calls that change a sheet, all fields answered\n")?;
+    let small = families::small();
+    let changed = small.iter().chain(books).map(|f| (f.name, photographs::changes(f)));
+    tables::changes(out, &changed.collect::<Vec<_>>())
+}
+
 /// The report on a family's book with all fields answered.
 fn full_report(family: &Family) -> Report {
     measure::report(slice::from_ref(&family.book), &family.stored(family.fields()))
@@ -80,6 +91,7 @@ fn measured() -> Result<(String, String), std::fmt::Error> {
     writeln!(out, "\n### The full book of version 2 beside that of version 1, in turns\n")?;
     tables::versions(&mut out, &versions)?;
     row_sections(&mut out, b, e)?;
+    photograph_sections(&mut out, &books)?;
     writeln!(out, "\n### Reading, by the shape of the tables and the order of the rows\n")?;
     tables::shapes(&mut out, &shaped)?;
     writeln!(out, "\n### The report, and reading as a part of it\n")?;

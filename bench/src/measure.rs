@@ -1,6 +1,6 @@
 //! What is measured: the library's calls, beside plain Rust and Gecode on the same books.
 
-use sighting::{Counts, Sheet, BOOK_BYTES, LISTING_NUMBERS, NUMBERS, PAIRS_BYTES, REPORT_BYTES};
+use sighting::{Counts, Sheet, BOOK_BYTES, LISTING_NUMBERS, NUMBERS, PAIRS_BYTES, PLACES, REPORT_BYTES, STORED_BYTES};
 
 use crate::families::Family;
 use crate::gecode::Root;
@@ -21,18 +21,18 @@ pub struct Pass {
 }
 
 /// The library's total, by one pass.
-fn one_pass(book: &[u8], sheet: &Sheet) -> u64 {
+pub fn one_pass(book: &[u8], sheet: &Sheet) -> u64 {
     let mut pairs = [0; PAIRS_BYTES];
     sheet.alternatives(book, &mut pairs).expect("accepted").total
 }
 
-/// The library's total, by n + 1 separate filterings: nothing relaxed, then each answered field.
+/// The library's total, by n + 1 separate filterings: nothing relaxed, then each answered field without a photograph.
 fn separate(book: &[u8], sheet: &Sheet) -> u64 {
     // those behind the fields stay, and are no empty field's
     let mut numbers = [1; NUMBERS];
     sheet.filtered(book, None, &mut numbers).expect("accepted");
     let mut total = 0;
-    for f in (0..sighting::SHEET_BYTES).filter(|&f| sheet.bytes()[f] != sighting::NO_ANSWER) {
+    for f in (0..PLACES).filter(|&f| sheet.answer(f).is_some() && !sheet.is_photographed(f)) {
         sheet.filtered(book, Some(f), &mut numbers).expect("accepted");
         if !numbers.contains(&0) {
             total += numbers[f].count_ones() as u64;
@@ -41,31 +41,35 @@ fn separate(book: &[u8], sheet: &Sheet) -> u64 {
     total
 }
 
-fn plain_pass(book: &[u8], sheet: &Sheet) -> u64 {
+pub fn plain_pass(book: &[u8], sheet: &Sheet) -> u64 {
     let mut pairs = [0; PAIRS_BYTES];
     engine::alternatives(sheet.bytes(), book, &mut pairs).expect("accepted").0
 }
 
-/// All ways give the same pairs and totals.
-fn agree(book: &[u8], sheet: &Sheet, root: Option<&Root>) {
+/// All ways give the same pairs and totals; Gecode, where a root is given, knows no photographs.
+pub fn agree(book: &[u8], sheet: &Sheet, root: Option<&Root>) {
     let (mut pairs, mut plain) = ([0; PAIRS_BYTES], [0; PAIRS_BYTES]);
     let found = sheet.alternatives(book, &mut pairs).expect("accepted");
     assert_eq!(engine::alternatives(sheet.bytes(), book, &mut plain), Ok((found.total, found.struck)));
     assert_eq!(pairs, plain);
     assert_eq!(separate(book, sheet), found.total);
     if let Some(root) = root {
-        assert_eq!(root.alternatives(sheet.bytes()), found.total);
+        assert_eq!(root.alternatives(answers(sheet)), found.total);
     }
 }
 
+fn answers(sheet: &Sheet) -> &[u8; PLACES] {
+    sheet.bytes().first_chunk().expect("the first half")
+}
+
 pub fn alternatives(family: &Family, n: usize) -> Pass {
-    let (book, bytes) = (&family.book[..], family.sheet(n));
-    let (sheet, root) = (Sheet::from(bytes), Root::open(book));
+    let book = &family.book[..];
+    let (sheet, root) = (Sheet::from(family.sheet(n)), Root::open(book));
     agree(book, &sheet, root.as_ref());
     let mut contenders: Vec<Contender> =
         vec![Box::new(|| one_pass(book, &sheet)), Box::new(|| plain_pass(book, &sheet)), Box::new(|| separate(book, &sheet))];
     if let Some(root) = &root {
-        contenders.push(Box::new(|| root.alternatives(&bytes)));
+        contenders.push(Box::new(|| root.alternatives(answers(&sheet))));
     }
     let times = medians(&mut contenders);
     Pass { n, library: times[0], plain: times[1], separate: times[2], gecode: times.get(3).copied() }
@@ -308,11 +312,15 @@ pub fn stacks(family: &Family) -> Vec<(&'static str, usize)> {
     let (listing, refused) = (shown[..length].to_vec(), refused().listing);
     let one_table = &ONE_TABLE.books(Order::Random)[0][..];
     let (list, q) = ([0, 0, 0].repeat(all), standing(family, all));
-    let mut entered = sheet;
+    let (mut entered, mut withdrawn, mut photographed, mut stored) = (sheet, sheet, sheet, [0; STORED_BYTES]);
     vec![
         ("read", stack::bytes(&mut || assert!(sighting::read(book).is_ok()))),
         ("read, 4,096 rows in one table", stack::bytes(&mut || assert!(sighting::read(one_table).is_ok()))),
         ("enter", stack::bytes(&mut || assert!(entered.enter(book, 0, 0).is_ok()))),
+        ("withdraw", stack::bytes(&mut || assert!(withdrawn.withdraw(book, 0).is_ok()))),
+        ("photograph", stack::bytes(&mut || assert!(photographed.photograph(book, 0).is_ok()))),
+        ("load", stack::bytes(&mut || assert!(Sheet::load(book, &form).is_ok()))),
+        ("store", stack::bytes(&mut || assert!(sheet.store(book, &mut stored).is_ok()))),
         ("filtered", stack::bytes(&mut || assert!(sheet.filtered(book, None, &mut numbers).is_ok()))),
         ("row", stack::bytes(&mut || assert!(sheet.row(book, q.field, q.code, q.table).is_ok()))),
         ("alternatives", stack::bytes(&mut || assert!(sheet.alternatives(book, &mut pairs).is_ok()))),

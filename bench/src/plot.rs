@@ -2,7 +2,7 @@
 
 use std::fmt::Write;
 
-use sighting::SHEET_BYTES;
+use sighting::PLACES;
 
 use crate::measure::Pass;
 
@@ -38,7 +38,7 @@ struct Panel {
 impl Panel {
     /// All panels have the same scale, up to the most answers of any.
     fn x(&self, n: usize) -> f64 {
-        LEFT + (n as f64).log2() / (SHEET_BYTES as f64).log2() * (WIDTH - LEFT - RIGHT)
+        LEFT + (n as f64).log2() / (PLACES as f64).log2() * (WIDTH - LEFT - RIGHT)
     }
 
     fn y(&self, microseconds: f64) -> f64 {

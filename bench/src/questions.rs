@@ -1,8 +1,8 @@
 //! Questions for the row behind a code: a book and a sheet, and a field, a code and a table to ask for.
 
-use sighting::{NO_ANSWER, SHEET_BYTES};
+use sighting::{NO_ANSWER, PLACES, SHEET_BYTES};
 
-use crate::families::{bytes, Family, Random, Table};
+use crate::families::{bytes, unphotographed, Family, Random, Table};
 use crate::plain::reader::check;
 use crate::plain::{engine, CODES};
 
@@ -73,7 +73,7 @@ fn random_rows() -> impl Iterator<Item = Question> {
         n: 0,
         what,
         book: book.clone(),
-        sheet: [NO_ANSWER; SHEET_BYTES],
+        sheet: unphotographed([NO_ANSWER; PLACES]),
         field: 0,
         code,
         table: 0,
@@ -87,7 +87,7 @@ fn dearest(what: &'static str, last: [u8; 4]) -> Question {
     rows[0] = vec![1, 0, 0, 0];
     rows[ROWS - 1] = last.to_vec();
     let table: Table = (vec![0, 1, 2, 3], rows);
-    let mut sheet = [NO_ANSWER; SHEET_BYTES];
+    let mut sheet = unphotographed([NO_ANSWER; PLACES]);
     sheet[..4].copy_from_slice(&[1, 0, 0, 0]);
     Question { book_name: ONE_TABLE, n: 4, what, book: bytes(1, &[2; 4], &[table]), sheet, field: 0, code: 0, table: 0 }
 }

@@ -3,6 +3,7 @@
 use std::fmt::{Result, Write};
 
 use crate::measure::{Filtering, Listing, Pass, Reading, RefusedRows, Report, Row, Shaped, Versions};
+use crate::photographs::{Changes, Photographed};
 use crate::questions::Question;
 
 fn ratio(value: Option<f64>) -> String {
@@ -151,6 +152,36 @@ pub fn refused_rows(out: &mut String, rows: &[(&str, RefusedRows)]) -> Result {
     for (name, r) in rows {
         let against = [r.no_table, r.not_in_it, r.accepted].map(|time| format!("{:.2}", time / r.no_code));
         writeln!(out, "| {name} | {} | {} | {} |", r.n, microseconds(r.no_code), against.join(" | "))?;
+    }
+    Ok(())
+}
+
+/// The one pass by how many of the answers are photographed.
+pub fn photographed(out: &mut String, families: &[(&str, Vec<Photographed>)]) -> Result {
+    writeln!(
+        out,
+        "| family | photographed | library, one pass, µs | × none photographed | × plain Rust |\n|---|---|---|---|---|"
+    )?;
+    for (name, passes) in families {
+        for p in passes {
+            let (none, plain) = (p.library / passes[0].library, p.library / p.plain);
+            writeln!(out, "| {name} | {} | {} | {none:.2} | {plain:.2} |", p.photographed, microseconds(p.library))?;
+        }
+    }
+    Ok(())
+}
+
+/// The calls that change a sheet.
+pub fn changes(out: &mut String, books: &[(&str, Changes)]) -> Result {
+    writeln!(
+        out,
+        "| book | n | enter, µs | withdraw ÷ it | photograph ÷ it | photograph again ÷ it | enter refused by 22 ÷ it | photograph × plain Rust |"
+    )?;
+    writeln!(out, "|---|---|---|---|---|---|---|---|")?;
+    for (name, c) in books {
+        let against = [c.withdraw, c.photograph, c.again, c.refused].map(|time| format!("{:.2}", time / c.enter));
+        let plain = c.photograph / c.plain;
+        writeln!(out, "| {name} | {} | {} | {} | {plain:.2} |", c.n, microseconds(c.enter), against.join(" | "))?;
     }
     Ok(())
 }

@@ -1,9 +1,8 @@
 //! The engine: all cases in one pass, one bit for each case in a word for each field and code, revised a column at a time.
 
 use super::reader::{check, Checked, Table};
+use super::sheet::{Sheet, NO_ANSWER, SHEET_BYTES};
 use super::{Refused, CODES, PLACES};
-
-pub const NO_ANSWER: u8 = 255;
 
 /// A word of marks for each place and code.
 const WORDS: usize = PLACES * CODES;
@@ -28,12 +27,12 @@ fn first_bits(n: usize) -> u64 {
 impl<'a> Engine<'a> {
     /// The marks that the answers allow: of an answered field the held code in all cases, the others in those that relax the
     /// field.
-    fn start(book: &'a Checked<'a>, sheet: &[u8; PLACES], cases: usize, relaxing: &[u64; PLACES]) -> Engine<'a> {
+    fn start(book: &'a Checked<'a>, answers: &[u8; PLACES], cases: usize, relaxing: &[u64; PLACES]) -> Engine<'a> {
         let mut engine = Engine { book, marks: [0; WORDS], watch: [0; PLACES], queue: first_bits(book.view.tables), struck: 0 };
         let all = first_bits(cases);
         for f in 0..book.view.fields {
             for c in 0..book.view.codes(f) {
-                let open = sheet[f] == NO_ANSWER || sheet[f] as usize == c;
+                let open = answers[f] == NO_ANSWER || answers[f] as usize == c;
                 let word = if open { all } else { relaxing[f] };
                 engine.marks[f * CODES + c] = word;
                 engine.struck += (all ^ word).count_ones() as u64;
@@ -130,27 +129,19 @@ impl<'a> Engine<'a> {
     }
 }
 
-/// The lowest place of the sheet at fault: refusal 14.
-fn check_sheet(book: &Checked, sheet: &[u8; PLACES]) -> Result<(), Refused> {
-    for (f, &a) in sheet.iter().enumerate() {
-        if a != NO_ANSWER && (f >= book.view.fields || a as usize >= book.view.codes(f)) {
-            return Err((14, f as u64));
-        }
-    }
-    Ok(())
-}
-
-/// Total and struck; the pairs go to `out`. A field has none where, with its answer left out, some field is empty.
-pub fn alternatives(sheet: &[u8; PLACES], bytes: &[u8], out: &mut [u8]) -> Result<(u64, u64), Refused> {
+/// Total and struck; the pairs go to `out`. A field has none where it is photographed, or where with its answer left out some field is
+/// empty.
+pub fn alternatives(sheet: &[u8; SHEET_BYTES], bytes: &[u8], out: &mut [u8]) -> Result<(u64, u64), Refused> {
     let book = check(bytes)?;
-    check_sheet(&book, sheet)?;
+    let sheet = Sheet::held(sheet);
+    sheet.check(&book)?;
     let mut relaxing = [0; PLACES];
     let mut cases = 1;
-    for f in (0..book.view.fields).filter(|&f| sheet[f] != NO_ANSWER) {
+    for f in (0..book.view.fields).filter(|&f| sheet.in_doubt(f)) {
         relaxing[f] = 1 << cases;
         cases += 1;
     }
-    let mut engine = Engine::start(&book, sheet, cases, &relaxing);
+    let mut engine = Engine::start(&book, &sheet.answers, cases, &relaxing);
     engine.propagate();
     let empty = engine.empty_cases();
     let listed = |f: usize, c: usize| engine.marks[f * CODES + c] & relaxing[f] & !empty != 0;
@@ -166,13 +157,14 @@ pub fn alternatives(sheet: &[u8; PLACES], bytes: &[u8], out: &mut [u8]) -> Resul
 }
 
 /// One number for each field, with nothing relaxed.
-pub fn filtered(sheet: &[u8; PLACES], bytes: &[u8], out: &mut [u32]) -> Result<(), Refused> {
+pub fn filtered(sheet: &[u8; SHEET_BYTES], bytes: &[u8], out: &mut [u32]) -> Result<(), Refused> {
     let book = check(bytes)?;
-    check_sheet(&book, sheet)?;
+    let sheet = Sheet::held(sheet);
+    sheet.check(&book)?;
     if out.len() < book.view.fields {
         return Err((18, 0));
     }
-    let mut engine = Engine::start(&book, sheet, 1, &[0; PLACES]);
+    let mut engine = Engine::start(&book, &sheet.answers, 1, &[0; PLACES]);
     engine.propagate();
     for (f, number) in out.iter_mut().enumerate().take(book.view.fields) {
         *number = (0..book.view.codes(f)).fold(0, |bits, c| bits | (engine.marks[f * CODES + c] as u32) << c);
@@ -181,9 +173,10 @@ pub fn filtered(sheet: &[u8; PLACES], bytes: &[u8], out: &mut [u32]) -> Result<(
 }
 
 /// The first row of a table that has the code in the field's column and only standing codes in its others, with nothing relaxed.
-pub fn row(sheet: &[u8; PLACES], bytes: &[u8], field: usize, code: usize, table: usize) -> Result<Option<u64>, Refused> {
+pub fn row(sheet: &[u8; SHEET_BYTES], bytes: &[u8], field: usize, code: usize, table: usize) -> Result<Option<u64>, Refused> {
     let book = check(bytes)?;
-    check_sheet(&book, sheet)?;
+    let sheet = Sheet::held(sheet);
+    sheet.check(&book)?;
     if field >= book.view.fields {
         return Err((15, 0));
     }
@@ -194,7 +187,7 @@ pub fn row(sheet: &[u8; PLACES], bytes: &[u8], field: usize, code: usize, table:
     let column = (0..table.arity).find(|&j| book.view.field(table, j) == field).ok_or((21, 0))?;
     let mut need = [0; CODES];
     need[code] = 1;
-    let mut engine = Engine::start(&book, sheet, 1, &[0; PLACES]);
+    let mut engine = Engine::start(&book, &sheet.answers, 1, &[0; PLACES]);
     engine.propagate();
     Ok(engine.support(table, column, &need, 0).map(|(r, _)| r as u64))
 }

@@ -1,9 +1,10 @@
-//! The desk's reader, engine and listings once more as plain Rust: the same form, the same checks, no heap, and nothing proved. Rows
+//! The desk's reader, sheet, engine and listings once more as plain Rust: the same form, the same checks, no heap, and nothing proved. Rows
 //! are sorted by the standard library.
 
 pub mod engine;
 pub mod listing;
 pub mod reader;
+pub mod sheet;
 
 /// The places of a sheet: as many as a book of any version has fields at most.
 pub const PLACES: usize = 60;
