@@ -11,7 +11,7 @@ use Rattle.format.specs.Reading.{fail, verdict}
 use Rattle.format.proofs.Copying.{copied-whole}
 use Rattle.consistency.specs.Consistency.{places, Sheet}
 use Rattle.calls.specs.Calls.{plainSheet, freshSheet, turned, done, faultOf, sheetFrom, loaded}
-use Rattle.sheet.specs.Opened.{FieldsAt}
+use Rattle.sheet.specs.Opened.{seenBytes, FieldsAt}
 use Rattle.sheet.proofs.Openings.{fields-few, fields-count}
 
 -- the last of m equal elements
@@ -41,10 +41,14 @@ module _ (bytes form : List ℕ) where
     unfolding loaded
     loaded-19 h = simp (at .passes, fields-count bytes list fields at, ne-eqb)
 
-    -- a has the answers of the sheet made of it, and fault is the first place at fault, or the number of places
+    -- a has the answers of the sheet made of it, seen is what 14 looks at, and fault the first place at fault, or the number of places
     module _ (h : length form ≡ fields) (a : List ℕ) (is : a ≡ take places form ++ drop (length form) (replicate places 255))
-        (fault : ℕ) (e : fault ≡ faultOf (bookOf bytes) (plainSheet a)) where
-      -- it is the sheet of the definition
+        {seen : List ℕ} (sees : seen ≡ seenBytes (plainSheet a)) {fault : ℕ}
+        (first : (t : Sheet) → seen ≡ seenBytes t → fault ≡ faultOf (bookOf bytes) t) where
+      -- the fault is of the sheet that the definition makes
+      e : fault ≡ faultOf (bookOf bytes) (plainSheet a)
+      e = first (plainSheet a) sees
+
       made : plainSheet a ≡ sheetFrom form
       made = ap plainSheet (is ∙ form-over form (omega (arith, fields-few bytes list fields at)))
 

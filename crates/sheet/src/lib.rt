@@ -188,7 +188,7 @@ impl Sheet {
     {
         let answers = self.answers;
         let photographed = self.photographed;
-        let opened = opened::open(book, answers, photographed);
+        let opened = opened::open(book, opened::seen_bytes(answers, photographed));
         match opened {
             Opened::Turned(reason, place) => refuse(self, reason, place),
             Opened::Ready {
@@ -225,7 +225,7 @@ impl Sheet {
     {
         let answers = self.answers;
         let photographed = self.photographed;
-        let opened = opened::open(book, answers, photographed);
+        let opened = opened::open(book, opened::seen_bytes(answers, photographed));
         match opened {
             Opened::Turned(reason, place) => refuse(self, reason, place),
             Opened::Ready {
@@ -262,7 +262,7 @@ impl Sheet {
     {
         let answers = self.answers;
         let photographed = self.photographed;
-        let opened = opened::open(book, answers, photographed);
+        let opened = opened::open(book, opened::seen_bytes(answers, photographed));
         match opened {
             Opened::Turned(reason, place) => refuse(self, reason, place),
             Opened::Ready {
@@ -296,7 +296,7 @@ impl Sheet {
     {
         let answers = self.answers;
         let photographed = self.photographed;
-        let opened = opened::open(book, answers, photographed);
+        let opened = opened::open(book, opened::seen_bytes(answers, photographed));
         match opened {
             Opened::Turned(reason, place) => refuse(self, reason, place),
             Opened::Ready {
@@ -327,7 +327,7 @@ impl Sheet {
     {
         let answers = self.answers;
         let backed = self.photographed;
-        let opened = opened::open(book, answers, backed);
+        let opened = opened::open(book, opened::seen_bytes(answers, backed));
         match opened {
             Opened::Turned(reason, place) => refuse_list(self, reason, place),
             Opened::Ready {
@@ -364,7 +364,7 @@ impl Sheet {
     {
         let answers = self.answers;
         let photographed = self.photographed;
-        let opened = opened::open(book, answers, photographed);
+        let opened = opened::open(book, opened::seen_bytes(answers, photographed));
         match opened {
             Opened::Turned(reason, place) => refuse_row(self, reason, place),
             Opened::Ready {
@@ -405,7 +405,7 @@ impl Sheet {
     {
         let answers = self.answers;
         let photographed = self.photographed;
-        let opened = opened::open(book, answers, photographed);
+        let opened = opened::open(book, opened::seen_bytes(answers, photographed));
         match opened {
             Opened::Turned(reason, place) => refuse(self, reason, place),
             Opened::Ready {
@@ -449,7 +449,8 @@ pub fn load(book: &[u8], form: &[u8]) -> Handed
             let mut answers = [255; PLACES];
             book::copy(form, &mut answers);
             let photographed = [false; PLACES];
-            let fault = opened::first_fault(book, list, fields, answers, photographed);
+            let seen = opened::seen_bytes(answers, photographed);
+            let fault = opened::first_fault(book, list, fields, seen);
             if fault < PLACES {
                 return refuse(Sheet::fresh(), Reason::Fault, fault);
             }

@@ -1,7 +1,7 @@
 // The refusals with which every call on a sheet and a book begins: 1 to 13 of the book, then 14 of the sheet.
 ghost use mathlib.Core.Path.{_≡_};
 ghost use Rattle.format.specs.Format.{bookOf};
-ghost use Rattle.consistency.specs.Consistency.{sheetWith};
+ghost use Rattle.consistency.specs.Consistency.{Sheet, sheetWith};
 ghost use Rattle.calls.specs.Calls.{faultOf};
 ghost use Rattle.sheet.specs.Opened.{seenByte, seenBytes, fits, codeCounts, FieldsAt, Opens};
 use super::Reason;
@@ -32,8 +32,8 @@ fn seen(byte: u8, photographed: bool) -> u8
     255
 }
 
-// The same of all places.
-fn seen_bytes(answers: [u8; PLACES], photographed: [bool; PLACES]) -> [u8; PLACES]
+// The same of all places. Each call makes them for itself and not in `open`, which then is short enough to stand in each call.
+pub(crate) fn seen_bytes(answers: [u8; PLACES], photographed: [bool; PLACES]) -> [u8; PLACES]
     ensures { λ r. ⌜ r ≡ seenBytes (sheetWith answers photographed) ⌝ }
 {
     let mut bytes = [0; PLACES];
@@ -67,18 +67,11 @@ fn code_counts(book: &[u8], list: usize, fields: usize) -> [u8; PLACES]
 
 // The first place that holds neither 255 nor a code of its field, or has a photograph and no answer; or the number of places. The loop
 // compares two arrays and looks at nothing else, so that several places are tested at a time.
-pub(crate) fn first_fault(
-    book: &[u8],
-    list: usize,
-    fields: usize,
-    answers: [u8; PLACES],
-    photographed: [bool; PLACES],
-) -> usize
+pub(crate) fn first_fault(book: &[u8], list: usize, fields: usize, bytes: [u8; PLACES]) -> usize
     requires { ⌜ FieldsAt (now book) list fields ⌝ }
-    ensures { λ r. ⌜ r ≡ faultOf (bookOf (now (book .entry))) (sheetWith answers photographed) ⌝ }
+    ensures { λ r. ⌜ ((s : Sheet) → bytes ≡ seenBytes s → r ≡ faultOf (bookOf (now (book .entry))) s) ⌝ }
 {
     let counts = code_counts(book, list, fields);
-    let bytes = seen_bytes(answers, photographed);
     let mut p = 0;
     while p < PLACES {
         if !may_hold(bytes[p], counts[p]) {
@@ -89,9 +82,9 @@ pub(crate) fn first_fault(
     p
 }
 
-// 1 to 13, then 14.
-pub(crate) fn open(book: &[u8], answers: [u8; PLACES], photographed: [bool; PLACES]) -> Opened
-    ensures { λ r. ⌜ Opens (now (book .entry)) (sheetWith answers photographed) r ⌝ }
+// 1 to 13, then 14 of the sheet in which these bytes are seen.
+pub(crate) fn open(book: &[u8], bytes: [u8; PLACES]) -> Opened
+    ensures { λ r. ⌜ ((s : Sheet) → bytes ≡ seenBytes s → Opens (now (book .entry)) s r) ⌝ }
 {
     let checked = book::check(book);
     match checked {
@@ -102,7 +95,7 @@ pub(crate) fn open(book: &[u8], answers: [u8; PLACES], photographed: [bool; PLAC
             tables,
             rows,
         } => {
-            let fault = first_fault(book, list, fields, answers, photographed);
+            let fault = first_fault(book, list, fields, bytes);
             if fault < PLACES {
                 return Opened::Turned(Reason::Fault, fault);
             }

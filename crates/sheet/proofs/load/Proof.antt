@@ -39,8 +39,11 @@ slice-aggregate-copy c = search needs
 copy-requires : tie.Need-copy-requires
 copy-requires c κs = search needs
 
+seen-bytes-requires : tie.Need-seen-bytes-requires
+seen-bytes-requires c κs = search needs
+
 first-fault-requires : tie.Need-first-fault-requires
-first-fault-requires c κs = checks-good _ _ (c .before .before .before .before .before .before .before .check .ensures) _ _ _ _ (c .before .before .before .before .before .checked2 .given .1)
+first-fault-requires c κs = checks-good _ _ (c .before .before .before .before .before .before .before .before .check .ensures) _ _ _ _ (c .before .before .before .before .before .before .checked2 .given .1)
 
 fresh-requires-3 : tie.Need-fresh-requires-3
 fresh-requires-3 c κs = search needs
@@ -49,17 +52,17 @@ refuse-requires-3 : tie.Need-refuse-requires-3
 refuse-requires-3 c κs = search needs
 
 returns-2 : tie.Need-returns-2
-returns-2 c = let at = checks-good _ _ (c .before .before .before .before .before .before .before .before .before .before .before .check .ensures) _ _ _ _ (c .before .before .before .before .before .before .before .before .before .checked2 .given .1) in
+returns-2 c = let at = checks-good _ _ (c .before .before .before .before .before .before .before .before .before .before .before .before .check .ensures) _ _ _ _ (c .before .before .before .before .before .before .before .before .before .before .checked2 .given .1) in
     c .refuse3 .ensures [] ∙ turned-fresh _ 14 _ (c .before .fresh3 .ensures)
-    ∙ loaded-14 _ _ _ _ at (c .before .before .before .before .before .before .before .if1 .left) _ (c .before .before .before .before .before .copy .ensures) _ (c .before .before .before .first-fault .ensures) (c .before .before .if2 .taken)
+    ∙ loaded-14 _ _ _ _ at (c .before .before .before .before .before .before .before .before .if1 .left) _ (c .before .before .before .before .before .before .copy .ensures) (c .before .before .before .before .seen-bytes .ensures) (c .before .before .before .first-fault .ensures) (c .before .before .if2 .taken)
 
 returns-3 : tie.Need-returns-3
 returns-3 c = let no = checks-bad _ _ (c .before .before .before .before .before .check .ensures) _ _ (c .before .before .before .checked .given .1) in
     c .refuse .ensures [] ∙ turned-fresh _ _ _ (c .before .fresh .ensures) ∙ loaded-book _ _ _ _ no
 
 returns-4 : tie.Need-returns-4
-returns-4 c = let at = checks-good _ _ (c .before .before .before .before .before .before .before .before .before .check .ensures) _ _ _ _ (c .before .before .before .before .before .before .before .checked2 .given .1) in
-    loaded-done _ _ _ _ at (c .before .before .before .before .before .if1 .left) _ (c .before .before .before .copy .ensures) _ (c .before .first-fault .ensures) (c .if2 .left)
+returns-4 c = let at = checks-good _ _ (c .before .before .before .before .before .before .before .before .before .before .check .ensures) _ _ _ _ (c .before .before .before .before .before .before .before .before .checked2 .given .1) in
+    loaded-done _ _ _ _ at (c .before .before .before .before .before .before .if1 .left) _ (c .before .before .before .before .copy .ensures) (c .before .before .seen-bytes .ensures) (c .before .first-fault .ensures) (c .if2 .left)
 
 pub load-spec : {M : Type 1} → statement M
 load-spec =
@@ -75,6 +78,7 @@ load-spec =
     returns
     slice-aggregate-copy
     copy-requires
+    seen-bytes-requires
     first-fault-requires
     fresh-requires-3
     refuse-requires-3

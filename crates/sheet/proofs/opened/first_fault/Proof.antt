@@ -7,7 +7,7 @@ use Rattle.format.specs.Basics.{firstBad}
 use Rattle.format.specs.Format.{bookOf}
 use Rattle.format.proofs.Scans.{bad-on, bad-here, bad-none}
 use Rattle.format.proofs.Verdict.{verdict-promise}
-use Rattle.consistency.specs.Consistency.{places, sheetWith}
+use Rattle.consistency.specs.Consistency.{places}
 use Rattle.filter.proofs.Limits.{codes-few}
 use Rattle.sheet.specs.Opened.{seenOk}
 use Rattle.sheet.proofs.Places.{fault-is}
@@ -16,16 +16,13 @@ use Rattle.sheet.proofs.opened.first_fault.Statement.{statement}
 use Rattle.sheet.proofs.opened.first_fault.Tie as tie
 
 abbrev Inv-loop : tie.InvT-loop
-Inv-loop book list fields counts bytes p₀ p = (p ≤ places) × (firstBad (seenOk bytes counts) p places ≡ firstBad (seenOk bytes counts) 0 places)
+Inv-loop book list fields bytes counts p₀ p = (p ≤ places) × (firstBad (seenOk bytes counts) p places ≡ firstBad (seenOk bytes counts) 0 places)
 
 abbrev μ-loop : tie.MeasureT-loop
-μ-loop book list fields counts bytes p₀ p = places - p
+μ-loop book list fields bytes counts p₀ p = places - p
 
 code-counts-requires : tie.Need-code-counts-requires Inv-loop μ-loop
 code-counts-requires c κs = search needs
-
-seen-bytes-requires : tie.Need-seen-bytes-requires Inv-loop μ-loop
-seen-bytes-requires c κs = search needs
 
 loop-holds : tie.Need-loop-holds Inv-loop μ-loop
 loop-holds c = (omega arith, refl)
@@ -40,8 +37,8 @@ may-hold-requires : tie.Need-may-hold-requires Inv-loop μ-loop
 may-hold-requires c κs = search needs
 
 returns : tie.Need-returns Inv-loop μ-loop
-returns c = bad-here _ _ _ (c .before .before .loop-test .taken) (sym (c .before .may-hold .ensures) ∙ not-true _ (c .if1 .taken)) ∙ c .before .before .before .loop .inv .1
-    ∙ fault-is (sheetWith (c .before .before .before .before .before .before .before .args .answers) (c .before .before .before .before .before .before .before .args .photographed)) (bookOf (c .before .before .before .before .before .before .before .args .book .now)) (codes-few _ (verdict-promise _ (c .before .before .before .before .before .before .before .pre .passes))) _ _ (c .before .before .before .before .seen-bytes .ensures) (c .before .before .before .before .before .code-counts .ensures)
+returns c = λ s e. bad-here _ _ _ (c .before .before .loop-test .taken) (sym (c .before .may-hold .ensures) ∙ not-true _ (c .if1 .taken)) ∙ c .before .before .before .loop .inv .1
+    ∙ fault-is s (bookOf (c .before .before .before .before .before .before .args .book .now)) (codes-few _ (verdict-promise _ (c .before .before .before .before .before .before .pre .passes))) _ _ e (c .before .before .before .before .code-counts .ensures)
 
 add-p : tie.Need-add-p Inv-loop μ-loop
 add-p c = search needs
@@ -53,8 +50,8 @@ loop-again : tie.Need-loop-again Inv-loop μ-loop
 loop-again c = (omega arith, bad-on _ _ _ (c .before .before .loop-test .taken) (sym (c .before .may-hold .ensures) ∙ not-false _ (c .if1 .left)) ∙ c .before .before .before .loop .inv .1)
 
 returns-2 : tie.Need-returns-2 Inv-loop μ-loop
-returns-2 c = bad-none _ _ _ (c .loop-test .left) ∙ c .before .loop .inv .1
-    ∙ fault-is (sheetWith (c .before .before .before .before .before .args .answers) (c .before .before .before .before .before .args .photographed)) (bookOf (c .before .before .before .before .before .args .book .now)) (codes-few _ (verdict-promise _ (c .before .before .before .before .before .pre .passes))) _ _ (c .before .before .seen-bytes .ensures) (c .before .before .before .code-counts .ensures)
+returns-2 c = λ s e. bad-none _ _ _ (c .loop-test .left) ∙ c .before .loop .inv .1
+    ∙ fault-is s (bookOf (c .before .before .before .before .args .book .now)) (codes-few _ (verdict-promise _ (c .before .before .before .before .pre .passes))) _ _ e (c .before .before .code-counts .ensures)
 
 pub first-fault-spec : {M : Type 1} → statement M
 first-fault-spec =
@@ -63,7 +60,6 @@ first-fault-spec =
     Inv-loop
     μ-loop
     code-counts-requires
-    seen-bytes-requires
     loop-holds
     array-read-may-hold
     array-read-may-hold-2

@@ -18,17 +18,17 @@ first-fault-requires : tie.Need-first-fault-requires
 first-fault-requires c κs = checks-good _ _ (c .before .before .before .check .ensures) _ _ _ _ (c .before .checked2 .given .1)
 
 returns : tie.Need-returns
-returns c =
+returns c = λ s e.
     let at = checks-good _ _ (c .before .before .before .before .before .check .ensures) _ _ _ _ (c .before .before .before .checked2 .given .1) in
-    record { answers = opening-fault _ _ (at .passes) _ (c .before .first-fault .ensures) (c .if1 .taken); finds = tt }
+    record { answers = opening-fault _ s (at .passes) _ (c .before .first-fault .ensures s e) (c .if1 .taken); finds = tt }
 
 returns-2 : tie.Need-returns-2
-returns-2 c = record { answers = opening-book _ _ _ _ (checks-bad _ _ (c .before .before .before .check .ensures) _ _ (c .before .checked .given .1)); finds = tt }
+returns-2 c = λ s e. record { answers = opening-book _ s _ _ (checks-bad _ _ (c .before .before .before .check .ensures) _ _ (c .before .checked .given .1)); finds = tt }
 
 returns-3 : tie.Need-returns-3
-returns-3 c =
+returns-3 c = λ s e.
     let v = checks-viewed _ _ (c .before .before .before .before .before .check .ensures) _ _ _ _ (c .before .before .before .checked2 .given .1) in
-    record { answers = opening-pass _ _ (fields-at v .passes) _ (c .before .first-fault .ensures) (c .if1 .left); finds = v }
+    record { answers = opening-pass _ s (fields-at v .passes) _ (c .before .first-fault .ensures s e) (c .if1 .left); finds = v }
 
 pub open-spec : {M : Type 1} → statement M
 open-spec =
