@@ -8,14 +8,17 @@ use lib.ListN.{length, getD, take, drop}
 use lib.Seq.{length-take-le}
 use borrow.Author.Tests.{lt-ltb, le-ltb, eq-eqb, ne-eqb}
 use Rattle.format.specs.Basics.{pick}
-use Rattle.format.specs.Format.{byte}
+use Rattle.format.specs.Format.{Book, byte, bookOf}
 use Rattle.format.specs.Reading.{fail}
 use Rattle.format.proofs.Copying.{copied-whole}
+use Rattle.consistency.specs.Counting.{anyBelow}
 use Rattle.consistency.specs.Consistency.{places, Sheet, answer, backed}
 use Rattle.calls.specs.Calls.{Result, turned, done, setAnswer, setPhotograph, onAnswered, entered, withdrawn, photographed, anyBacked, stored}
 use Rattle.sheet.specs.Opened.{opening}
-use Rattle.sheet.proofs.Openings.{fields-count, fields-few, codes-at, codes-few, on-ready, on-turned, IsOpen}
+use Rattle.sheet.proofs.Openings.{fields-count, fields-few, codes-at, codes-few, opening-good, on-ready, on-turned, IsOpen}
+use Rattle.consistency.proofs.Booleans.{T-ext, T-true, any-in, any-out}
 use Rattle.consistency.proofs.Elements.{answer-at}
+use Rattle.calls.proofs.Faults.{fault-free, backed-known}
 
 -- ---- enter
 
@@ -143,21 +146,32 @@ module _ (bytes : List ℕ) (s : Sheet) (o : List ℕ) where
   stored-turned number place e = on-turned 0 bytes s o _ number place e
 
   module _ (list fields : ℕ) (p : IsOpen bytes s list fields) where
-    -- some field is photographed
-    pub stored-22 : anyBacked s ≡ true → turned 0 s o 22 0 ≡ stored bytes s o
-    unfolding stored
-    stored-22 m = on-ready 0 bytes s o _ (p .passes) _ (simp m)
+    -- only fields have photographs, since no place is at fault
+    any-fields : anyBelow fields (backed s) ≡ anyBacked s
+    any-fields =
+        let b : Book = bookOf bytes in
+        let few : fields ≤ places = fields-few bytes list fields (p .at) in
+        let count : length (b .counts) ≡ fields = fields-count bytes list fields (p .at) in
+        T-ext (λ t. let k = any-out fields (backed s) t in any-in places (backed s) (k .0) (omega (arith, few, k .1)) (k .2)) (λ t.
+        let k = any-out places (backed s) t in
+        let known = backed-known b s (fault-free b s (opening-good bytes s (p .passes))) (k .0) (k .1) (T-true (k .2)) in
+        any-in fields (backed s) (k .0) (omega (arith, known, count)) (k .2))
 
-    module _ (m : anyBacked s ≡ false) where
+    -- some field is photographed
+    pub stored-22 : anyBelow fields (backed s) ≡ true → turned 0 s o 22 0 ≡ stored bytes s o
+    unfolding stored
+    stored-22 m = on-ready 0 bytes s o _ (p .passes) _ (simp (sym any-fields ∙ m))
+
+    module _ (m : anyBelow fields (backed s) ≡ false) where
       -- fewer bytes lent than fields
       pub stored-18 : length o < fields → turned 0 s o 18 0 ≡ stored bytes s o
       unfolding stored
-      stored-18 h = on-ready 0 bytes s o _ (p .passes) _ (simp (m, fields-count bytes list fields (p .at), lt-ltb))
+      stored-18 h = on-ready 0 bytes s o _ (p .passes) _ (simp (sym any-fields ∙ m, fields-count bytes list fields (p .at), lt-ltb))
 
       -- the bytes of the fields are written, and the others stay
       bytes-done : fields ≤ length o → done [] s (take fields (s .answers) ++ drop fields o) ≡ stored bytes s o
       unfolding stored
-      bytes-done h = on-ready 0 bytes s o _ (p .passes) _ (simp (m, fields-count bytes list fields (p .at), le-ltb))
+      bytes-done h = on-ready 0 bytes s o _ (p .passes) _ (simp (sym any-fields ∙ m, fields-count bytes list fields (p .at), le-ltb))
 
       -- so they are where o′ is o with them copied
       pub stored-done : fields ≤ length (s .answers) → fields ≤ length o → (o′ : List ℕ)

@@ -5,7 +5,7 @@ use Prim.Native.Nat.{ℕ, _+_, _≤_, _<_}
 use native.Mathlib.Omega.{arith}
 use lib.Dec.{ltb}
 use lib.ListN.{length, List·getD-eq-default}
-use borrow.Author.Tests.{lt-ltb, le-ltb}
+use borrow.Author.Tests.{lt-ltb, le-ltb, ltb-false}
 use Rattle.format.specs.Format.{Book, codeLimit, byte, versionOf, bookOf}
 use Rattle.format.specs.Reading.{refused, Verdict, pass, fail, andThen, verdict, checking}
 use Rattle.format.proofs.Limits.{limit-most}
@@ -86,6 +86,18 @@ module _ (bytes : List ℕ) (s : Sheet) where
     pub opening-pass : places ≤ fault → pass ≡ opening bytes s
     unfolding opening
     opening-pass h = simp (e, ← is, le-ltb)
+
+  -- where both pass, no place is at fault
+  pub opening-good : pass ≡ opening bytes s → places ≤ faultOf (bookOf bytes) s
+  unfolding opening
+  opening-good e = at (verdict bytes) e
+    where
+      fault : ℕ
+      fault = faultOf (bookOf bytes) s
+
+      at : (v : Verdict) → pass ≡ andThen v (faultTest fault) → places ≤ fault
+      at pass d = ltb-false fault places (pick-second (ltb fault places) fail≢pass (sym d) .0)
+      at (fail number place) d = absurd (fail≢pass (sym d))
 
 -- ---- what a call answers by them
 

@@ -2,7 +2,7 @@
 ghost use mathlib.Core.Path.{_≡_};
 ghost use mathlib.Core.Bool.{false};
 ghost use mathlib.Core.List.{List, [], _∷_};
-ghost use Prim.Native.Nat.{ℕ};
+ghost use Prim.Native.Nat.{ℕ, _≤_};
 ghost use lib.ListN.{getD};
 ghost use Rattle.consistency.specs.Counting.{anyBelow};
 ghost use Rattle.consistency.specs.Consistency.{places};
@@ -138,11 +138,12 @@ fn refuse_row(sheet: Sheet, reason: Reason, place: usize) -> HandedRow
     }
 }
 
-// Whether some place has a photograph.
-fn any_photographed(photographed: [bool; PLACES]) -> bool
-    ensures { λ r. ⌜ r ≡ anyBelow places (λ p. getD photographed p false) ⌝ }
+// Whether some field has a photograph. No place behind the fields of a sheet that passes 14 has one.
+fn any_photographed(photographed: [bool; PLACES], fields: usize) -> bool
+    requires { ⌜ fields ≤ places ⌝ }
+    ensures { λ r. ⌜ r ≡ anyBelow fields (λ p. getD photographed p false) ⌝ }
 {
-    for p in 0..PLACES {
+    for p in 0..fields {
         if photographed[p] {
             return true;
         }
@@ -414,7 +415,7 @@ impl Sheet {
                 tables: _,
                 rows: _,
             } => {
-                if any_photographed(photographed) {
+                if any_photographed(photographed, fields) {
                     return refuse(self, Reason::Photographed, 0);
                 }
                 if out.len() < fields {

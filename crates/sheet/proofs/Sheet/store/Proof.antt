@@ -27,7 +27,8 @@ enum-known-opened-2 : tie.Need-enum-known-opened-2
 enum-known-opened-2 c = search needs
 
 any-photographed-requires : tie.Need-any-photographed-requires
-any-photographed-requires c κs = search needs
+any-photographed-requires c κs = let o = opens-ready _ _ _ (c .before .before .before .«open» .ensures (heldBy (c .before .before .before .before .before .before .before .before .before .args .self)) (c .before .before .before .before .seen-bytes .ensures)) _ _ _ _ (c .before .opened2 .given .1) in
+    fields-few _ _ _ (o .at)
 
 refuse-requires-2 : tie.Need-refuse-requires-2
 refuse-requires-2 c κs = search needs
