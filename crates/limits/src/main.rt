@@ -176,6 +176,19 @@ fn try_stored(stored: usize, x: u8, at: usize) {
     }
 }
 
+// What alternatives answered.
+fn print_listing(listing: Listing) {
+    match listing {
+        Listing::Unlisted(reason, place) => print_refused(sheet::number(reason), place),
+        Listing::Listed { total, struck } => {
+            io::write_all(STDOUT_FILENO, b": listed");
+            print_number(total as u64);
+            print_number(struck as u64);
+            io::write_all(STDOUT_FILENO, b"\n");
+        }
+    }
+}
+
 // Listing the alternatives of that book, all answered 0, with that many bytes lent.
 fn try_lent(lent: usize) {
     let mut bytes = [0; BYTES];
@@ -189,13 +202,28 @@ fn try_lent(lent: usize) {
     let listed = held.alternatives(&bytes[..n], &mut pairs[..m]);
     print_tried(b"lent", lent as u64);
     let listing = listed.answer;
-    match listing {
-        Listing::Unlisted(reason, place) => print_refused(sheet::number(reason), place),
-        Listing::Listed { total, struck } => {
-            io::write_all(STDOUT_FILENO, b": listed");
-            print_number(total as u64);
-            print_number(struck as u64);
-            io::write_all(STDOUT_FILENO, b"\n");
+    print_listing(listing);
+}
+
+// Photographing that field of the same sheet, and then listing the alternatives.
+fn try_photograph(field: usize) {
+    let mut bytes = [0; BYTES];
+    let length = put_widest(&mut bytes);
+    let n = within(length, &bytes);
+    let form = [0; PLACES];
+    let loaded = sheet::load(&bytes[..n], &form);
+    let held = loaded.sheet;
+    let backed = held.photograph(&bytes[..n], field);
+    print_tried(b"photograph", field as u64);
+    let answer = backed.answer;
+    let next = backed.sheet;
+    match answer {
+        Answer::Refused(reason, place) => print_refused(sheet::number(reason), place),
+        Answer::Done => {
+            let mut pairs = [0; PAIR_BYTES];
+            let listed = next.alternatives(&bytes[..n], &mut pairs);
+            let listing = listed.answer;
+            print_listing(listing);
         }
     }
 }
@@ -275,6 +303,8 @@ fn main() {
     try_stored(PLACES + 1, 0, 0);
     try_lent(PAIR_BYTES);
     try_lent(PAIR_BYTES - 1);
+    try_photograph(PLACES - 1);
+    try_photograph(PLACES);
     try_table(TABLE_LIMIT - 1);
     try_table(TABLE_LIMIT);
     try_text(18315);
