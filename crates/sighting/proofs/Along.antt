@@ -20,12 +20,7 @@ use Rattle.sighting.specs.Exported.{sheetIn, sheetBytes, bytesAfter, Hol
 pub tells-along : {number : ℕ} {cells : List ℕ} {o o′ : Outcome} → Tells number cells o → o ≡ o′ → Tells number cells o′
 tells-along {number} {cells} h e = subst (Tells number cells) e h
 
--- what a call with one result leaves, a call with an equal result leaves
-pub exports-along : {number : ℕ} {cells sheet buffer : List ℕ} {r r′ : Result}
-    → Exports number cells sheet buffer r → r ≡ r′ → Exports number cells sheet buffer r′
-exports-along {number} {cells} {sheet} {buffer} h e = subst (Exports number cells sheet buffer) e h
-
--- so with a reply
+-- what a call with one reply leaves, a call with an equal reply leaves
 pub replies-along : {number : ℕ} {cells buffer : List ℕ} {r r′ : Reply} → Replies number cells buffer r → r ≡ r′ → Replies number cells buffer r′
 replies-along {number} {cells} {buffer} h e = subst (Replies number cells buffer) e h
 
