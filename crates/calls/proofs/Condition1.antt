@@ -21,10 +21,11 @@ use Rattle.consistency.specs.Counts.{total}
 use Rattle.consistency.specs.Rows.{hasField}
 use Rattle.consistency.proofs.Booleans.{true-T, false-T, T-true, T-false, any-in, any-out}
 use Rattle.consistency.proofs.FirstRows.{has-field}
-use Rattle.calls.specs.Calls.{Result, turned, done, beside, faultOf, onSheet, anyBacked, masksInto, sheetFrom, entered, withdrawn, photographed, filtered, alternatives, loaded, stored, rowBehind}
+use Rattle.calls.specs.Calls.{Result, turned, done, beside, faultOf, onSheet, replacesBacked, anyBacked, masksInto, sheetFrom, entered, withdrawn, photographed, filtered, alternatives, loaded, stored, rowBehind}
 use Rattle.calls.specs.Conditions.{Request, to-read, to-fresh, to-enter, to-withdraw, to-photograph, to-clear, to-filter, to-list, to-store, to-load, to-row, to-show, to-write, resultOf, givenBook, sheetGiven, lentTo, countsOf, FirstFault, NoFault, NoPhotograph, NotInTable, Refusal, enter-14, enter-15, enter-16, enter-22, withdraw-14, withdraw-15, withdraw-17, withdraw-22, photograph-14, photograph-15, photograph-17, filter-14, filter-15, filter-17, filter-18, list-14, list-18, store-14, store-22, store-18, load-19, load-14, row-14, row-15, row-16, row-21, show-18, WriteRefusal, write-missing, write-left-over, write-too-large, write-unread, write-18, RefusedBy, the-book, the-call, the-listing, IsRefusal, Condition1}
 use Rattle.calls.proofs.Faults.{first-fault, fault-free, backed-known}
 use Rattle.calls.proofs.CallLaws.{pick-cases, fault-holds, book-holds, sheet-holds}
+use Rattle.calls.proofs.Held.{other-code}
 
 -- r is an answer that accepts, or a refusal of call q
 abbrev Settled : List ℕ → Sheet → Request → Result → Type 0
@@ -153,10 +154,12 @@ condition1 bytes s to-fresh = done-settled
 condition1 bytes s (to-enter f c) =
     let b : Book = bookOf bytes in
     let n : ℕ = length (b .counts) in
+    let x : ℕ = answer (s .answers) f in
     sheet-settled refl _ (λ p. enter-14) (λ e w.
     fail-settled e (ltb f n) (λ t. enter-15 w (ltb-false f n t)) (λ t.
     fail-settled e (ltb c (codes b f)) (λ u. enter-16 w (ltb-true f n t) (ltb-false c (codes b f) u)) (λ u.
-    pass-settled e (backed s f) (λ v. enter-22 w (ltb-true f n t) (ltb-true c (codes b f) u) v) (λ v.
+    pass-settled e (replacesBacked x (backed s f) c)
+    (λ v. let other = other-code x (backed s f) c v in enter-22 w (ltb-true f n t) (ltb-true c (codes b f) u) (other .0) (other .1)) (λ v.
     done-settled))))
 condition1 bytes s (to-withdraw f) =
     let n : ℕ = length (bookOf bytes .counts) in

@@ -1,22 +1,50 @@
--- "Entering the code already held is accepted and changes nothing", but on a photographed field; a photograph set again changes nothing. Assumes
--- nothing.
+-- "Entering the code already held is accepted and changes nothing", and a photograph set again changes nothing. Assumes nothing.
 use Prim.Native.Nat.{ℕ, _≤_, _<_}
-use mathlib.Core.Path.{_≡_, refl, ap, _∙_}
+use mathlib.Core.Path.{_≡_, refl, sym, ap, _∙_}
 use mathlib.Core.Logic.{_≢_}
-use mathlib.Core.Bool.{Bool, true, false}
+use mathlib.Core.Bool.{Bool, true, false, not, _&&_, true≢false}
 use mathlib.Core.List.{List, []}
 use native.Mathlib.Omega.{arith}
-use borrow.Author.Tests.{lt-ltb, ne-eqb}
+use borrow.Author.Tests.{lt-ltb, eqb-true, eq-eqb, ne-eqb}
 use lib.ListN.{length}
-use lib.Dec.{ltb}
+use lib.Dec.{ltb, eqb}
 use Rattle.format.specs.Format.{Book, bookOf}
 use Rattle.format.specs.Reading.{Accepted}
+use Rattle.format.proofs.Picks.{both-true}
 use Rattle.format.proofs.Accepted.{accepted-verdict}
 use Rattle.consistency.specs.Consistency.{places, Sheet, sheetWith, codes, answer, backed}
-use Rattle.calls.specs.Calls.{turned, done, placeOk, faultOf, entered, withdrawn, photographed}
+use Rattle.calls.specs.Calls.{turned, done, replacesBacked, placeOk, faultOf, entered, withdrawn, photographed}
 use Rattle.calls.proofs.Faults.{fault-free}
 use Rattle.calls.proofs.CallLaws.{sheet-go}
 use Rattle.calls.proofs.Sheets.{same-store, Within, accepted-within}
+
+-- ---- 22 of enter, answer x, photographed or not by p, and code c
+
+-- the code held replaces nothing
+pub held-same : (x : ℕ) (p : Bool) → replacesBacked x p x ≡ false
+held-same x true = ap not (eq-eqb x x refl)
+held-same x false = refl
+
+-- what replaces a photographed answer is another code
+pub other-code : (x : ℕ) (p : Bool) (c : ℕ) → replacesBacked x p c ≡ true → (p ≡ true) × (c ≢ x)
+other-code x p c e =
+    let both = both-true p (not (eqb c x)) e in
+    (both .0, λ q. true≢false (sym (both .1) ∙ ap not (eq-eqb c x q)))
+
+-- and what replaces none, where there is one, is the code held
+pub same-code : (x : ℕ) (p : Bool) (c : ℕ) → p ≡ true → replacesBacked x p c ≡ false → c ≡ x
+same-code x p c e q = at (eqb c x) refl (ap (λ (t : Bool). t && not (eqb c x)) (sym e) ∙ q)
+  where
+    at : (t : Bool) → eqb c x ≡ t → not t ≡ false → c ≡ x
+    at true k h = eqb-true c x k
+    at false k h = absurd (true≢false h)
+
+-- beside a code that is not held, or an answer without a photograph, it is the photograph that decides
+pub replaces-else : (x : ℕ) (p : Bool) (c : ℕ) → (p ≡ true → c ≢ x) → replacesBacked x p c ≡ p
+replaces-else x true c n = ap not (ne-eqb c x (n refl))
+replaces-else x false c n = refl
+
+-- ---- the calls
 
 module _ (bytes : List ℕ) (s : Sheet) (ok : Accepted bytes) (good : places ≤ faultOf (bookOf bytes) s) (f : ℕ)
     (known : f < length (bookOf bytes .counts)) where
@@ -24,30 +52,30 @@ module _ (bytes : List ℕ) (s : Sheet) (ok : Accepted bytes) (good : places ≤
   b = bookOf bytes
 
   -- where no place is at fault, an answer is a code of its field
-  held-code : answer (s .answers) f ≢ 255 → ltb (answer (s .answers) f) (codes b f) ≡ true
+  pub held-code : answer (s .answers) f ≢ 255 → ltb (answer (s .answers) f) (codes b f) ≡ true
   held-code n =
       let w : Within b = accepted-within bytes ok in
       let fine : placeOk b s f ≡ true = fault-free b s good f (omega (arith, w .few)) in
       rw (ne-eqb (answer (s .answers) f) 255 n) at fine
 
-  -- entering it hands the sheet back as it was, where the field has no photograph
-  pub enter-held : answer (s .answers) f ≢ 255 → backed s f ≡ false → entered bytes s f (answer (s .answers) f) ≡ done [] s []
+  -- entering it hands the sheet back as it was, photographed or not
+  pub enter-held : answer (s .answers) f ≢ 255 → entered bytes s f (answer (s .answers) f) ≡ done [] s []
   unfolding entered
-  enter-held n p =
+  enter-held n =
       sheet-go 0 bytes s [] _ (accepted-verdict bytes ok) good
-      ∙ rw (lt-ltb f (length (b .counts)) known, held-code n, p)
+      ∙ rw (lt-ltb f (length (b .counts)) known, held-code n, held-same (answer (s .answers) f) (backed s f))
       (ap (λ (x : List ℕ). done [] (sheetWith x (s .photographs)) [])
       (same-store 255 (s .answers) f (answer (s .answers) f) refl))
 
-  -- "Enter, even of the code already held, and withdraw are refused on such a field"
-  pub enter-backed : (c : ℕ) → c < codes b f → backed s f ≡ true → entered bytes s f c ≡ turned 0 s [] 22 0
+  -- "Withdraw, and enter with another of the field's codes, still give 22"
+  pub enter-backed : (c : ℕ) → c < codes b f → c ≢ answer (s .answers) f → backed s f ≡ true → entered bytes s f c ≡ turned 0 s [] 22 0
   unfolding entered
-  enter-backed c l p =
+  enter-backed c l n p =
       sheet-go 0 bytes s [] _ (accepted-verdict bytes ok) good
-      ∙ rw (lt-ltb f (length (b .counts)) known, lt-ltb c (codes b f) l, p)
+      ∙ rw (lt-ltb f (length (b .counts)) known, lt-ltb c (codes b f) l, p, ne-eqb c (answer (s .answers) f) n)
 
   -- where no place is at fault, a photographed field has an answer
-  backed-answer : backed s f ≡ true → answer (s .answers) f ≢ 255
+  pub backed-answer : backed s f ≡ true → answer (s .answers) f ≢ 255
   backed-answer p e =
       let w : Within b = accepted-within bytes ok in
       let fine : placeOk b s f ≡ true = fault-free b s good f (omega (arith, w .few)) in

@@ -18,6 +18,7 @@ pub mod Instances
 pub mod SixtyFields
 pub mod Held
 pub mod Photographs
+pub mod Resent
 pub mod PhotographedE1
 pub mod Agreement
 pub mod Stored

@@ -1,4 +1,4 @@
--- Request M-105 at work: on E1, a list of calls with a photograph, and what listing, filtering and storing answer behind it; sheets at fault. All
+-- Requests M-105 and M-107 at work: on E1, a list of calls with a photograph, and what listing, filtering and storing answer behind it; sheets at fault. All
 -- computed. Assumes nothing.
 use Prim.Native.Nat.{_-_}
 use mathlib.Core.Path.{_≡_, refl}
@@ -18,8 +18,8 @@ use Rattle.calls.specs.Calls.{freshSheet, turned, done, entered, withdra
 use Rattle.calls.specs.Histories.{Call, enter, withdraw, photograph, clear, results, sheetThrough, sheetAfter}
 use Rattle.calls.specs.Conditions.{numbers}
 
--- an answer, its photograph; then 22 for the held code, another code and withdraw, 16 for a code that the field lacks; the photograph again; 17, no
--- answer; 15, no such field; another field's answer
+-- an answer, its photograph; the answer sent again; then 22 for another code and withdraw, 16 for a code that the field lacks; the photograph again;
+-- 17, no answer; 15, no such field; another field's answer
 abbrev someCalls : List Call
 someCalls =
     enter 0 0 ∷ photograph 0 ∷ enter 0 0 ∷ enter 0 1 ∷ withdraw 0 ∷ enter 0 2 ∷ photograph 0 ∷ photograph 1 ∷ photograph 3 ∷ enter 1 1 ∷ []
@@ -28,7 +28,7 @@ someCalls =
 abbrev someSheet : Sheet
 someSheet = sheetWith (0 ∷ 1 ∷ replicate (places - 2) 255) (true ∷ replicate (places - 1) false)
 
-pub some-numbers : numbers (results e1 freshSheet someCalls) ≡ 0 ∷ 0 ∷ 22 ∷ 22 ∷ 22 ∷ 16 ∷ 0 ∷ 17 ∷ 15 ∷ 0 ∷ []
+pub some-numbers : numbers (results e1 freshSheet someCalls) ≡ 0 ∷ 0 ∷ 0 ∷ 22 ∷ 22 ∷ 16 ∷ 0 ∷ 17 ∷ 15 ∷ 0 ∷ []
 unfolding results entered withdrawn photographed verdict trailerTest listTest tablesStep tableStep rowsStep firstBad scan bookOf tablesAt tableAt rowsAt
 some-numbers = refl
 

@@ -2,7 +2,7 @@
 use Prim.Native.Nat.{ℕ, _≤_, _<_}
 use mathlib.Core.Path.{_≡_, refl, sym, ap, _∙_}
 use mathlib.Core.Logic.{_≢_}
-use mathlib.Core.Bool.{Bool, true, false, not, _&&_, and-true}
+use mathlib.Core.Bool.{Bool, true, false, not, _&&_, and-true, true≢false}
 use mathlib.Core.List.{List, [], _∷_}
 use native.Mathlib.Decide.{ℕ-discrete, decLt}
 use native.Mathlib.Omega.{arith}
@@ -21,14 +21,19 @@ use Rattle.consistency.proofs.Booleans.{true-T, T-true, and-right, any-in}
 use Rattle.consistency.proofs.Sums.{those-ext}
 use Rattle.consistency.proofs.Lines.{relaxable-are, backed-unlisted}
 use Rattle.calls.specs.Calls.{Result, turned, done, plainSheet, freshSheet, setPhotograph, faultOf, sheetFrom, photographed, loaded, anyBacked, stored}
-use Rattle.calls.specs.Histories.{Call, enter, withdraw, photograph, clear, Answer, none, is, Answers, given, isBacked, withPhotograph, put, refusalOf, after, answersFrom}
+use Rattle.calls.specs.Histories.{Call, enter, withdraw, photograph, clear, Answer, none, is, Answers, given, isBacked, refusesCode, withPhotograph, put, refusalOf, after, answersFrom}
 use Rattle.calls.specs.Photographs.{OnField, Request105}
 use Rattle.calls.proofs.CallLaws.{pick-cases, fault-holds, book-holds, Where, sheet-where, sheet-go}
 use Rattle.calls.proofs.Faults.{fault-free, fault-none}
 use Rattle.calls.proofs.Sheets.{put-same, put-other, Within, accepted-within}
-use Rattle.calls.proofs.Held.{enter-backed, withdraw-backed, photograph-again}
+use Rattle.calls.proofs.Held.{same-code, enter-backed, withdraw-backed, photograph-again}
 
 -- ---- "Only clear removes it"
+
+-- a code that a photographed answer does not refuse is the one held
+pub held-again : (x : Answer) (c : ℕ) → isBacked x ≡ true → refusesCode x c ≡ false → is c (isBacked x) ≡ x
+held-again none c e q = absurd (true≢false (sym e))
+held-again (is d p) c e q = ap (λ (i : ℕ). is i p) (same-code d p c e q)
 
 module _ (b : Book) (a : Answers) (f : ℕ) (m : isBacked (a f) ≡ true) where
   -- where an accepted call leaves f's answer, each does
@@ -66,7 +71,8 @@ module _ (b : Book) (a : Answers) (f : ℕ) (m : isBacked (a f) ≡ true) where
       stays-put g (is c (isBacked (a g))) (λ e.
       let known = pick-first (ltb g (length (b .counts))) (λ q. omega arith) z .1 in
       let code = pick-first (ltb c (codes b g)) (λ q. omega arith) known .1 in
-      absurd (no-photograph g e code)))
+      let free = pick-second (refusesCode (a g) c) (λ q. omega arith) code .0 in
+      held-again (a g) c (sym (ap (λ (i : ℕ). isBacked (a i)) e) ∙ m) free ∙ ap a (sym e)))
   photograph-stays (withdraw g) n =
       stays-pick (refusalOf b a (withdraw g)) (put a g none) (λ z.
       stays-put g none (λ e.
@@ -110,7 +116,7 @@ module _ (bytes : List ℕ) (s : Sheet) (f : ℕ) where
 
   module _ (o : OnField bytes s f) where
     -- no place is at fault
-    good : places ≤ faultOf (bookOf bytes) s
+    pub good : places ≤ faultOf (bookOf bytes) s
     good = omega (arith, fault-none (bookOf bytes) s (o .no-fault))
 
     -- it is accepted where the field has an answer
@@ -164,7 +170,7 @@ request105 =
       sets = λ bytes s f e. set-where bytes s f e .2;
       again = λ bytes s f o p. photograph-again bytes s (o .accepted) (good bytes s f o) f (o .known) p;
       only-clear = photographs-stay;
-      enter-refused = λ bytes s f c o p l. enter-backed bytes s (o .accepted) (good bytes s f o) f (o .known) c l p;
+      enter-refused = λ bytes s f c o p l n. enter-backed bytes s (o .accepted) (good bytes s f o) f (o .known) c l n p;
       withdraw-refused = λ bytes s f o p. withdraw-backed bytes s (o .accepted) (good bytes s f o) f (o .known) p;
       no-case = no-case;
       no-line = λ b s l p m. backed-unlisted b s l (true-T p) m;

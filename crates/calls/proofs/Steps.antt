@@ -1,7 +1,7 @@
 -- One call with accepted bytes on the sheet that holds answers: its refusal is the one that the answers give, and its sheet holds the answers
 -- after it. Assumes nothing.
 use Prim.Native.Nat.{ℕ, _<_}
-use mathlib.Core.Path.{_≡_, refl, sym, ap, _∙_}
+use mathlib.Core.Path.{_≡_, refl, sym, ap, ap₂, _∙_}
 use mathlib.Core.Bool.{Bool, true, false, not}
 use mathlib.Core.List.{List, []}
 use native.Mathlib.Omega.{arith}
@@ -14,10 +14,10 @@ use Rattle.format.specs.Reading.{Accepted}
 use Rattle.format.proofs.Picks.{pick-first}
 use Rattle.format.proofs.Accepted.{accepted-verdict}
 use Rattle.consistency.specs.Consistency.{places, Sheet, codes, answer, backed}
-use Rattle.calls.specs.Calls.{Result, done, onSheet, entered, withdrawn, photographed}
-use Rattle.calls.specs.Histories.{Call, enter, withdraw, photograph, clear, Answer, none, is, Answers, given, isBacked, withPhotograph, byteOf, put, refusalOf, after, sheetOf, called}
+use Rattle.calls.specs.Calls.{Result, done, onSheet, replacesBacked, entered, withdrawn, photographed}
+use Rattle.calls.specs.Histories.{Call, enter, withdraw, photograph, clear, Answer, none, is, Answers, given, isBacked, refusesCode, withPhotograph, byteOf, put, refusalOf, after, sheetOf, called}
 use Rattle.calls.proofs.CallLaws.{sheet-go}
-use Rattle.calls.proofs.Sheets.{sheet-fresh, answer-store, photograph-store, Within, accepted-within, Sound, sound-none, answered-given, backed-is, no-fault}
+use Rattle.calls.proofs.Sheets.{sheet-at, backed-at, sheet-fresh, answer-store, photograph-store, Within, accepted-within, Sound, sound-none, answered-given, backed-is, no-fault}
 
 -- what the book and the answers before a call give for it: the number of its refusal, and the sheet that holds the answers after it
 abbrev pub stepOf : Book → Answers → Call → Result
@@ -39,15 +39,23 @@ module _ (bytes : List ℕ) (ok : Accepted bytes) (a : Answers) (s : Sound (book
   field-place : (f : ℕ) → ltb f (length (b .counts)) ≡ true → f < places
   field-place f e = omega (arith, ltb-true f (length (b .counts)) e, within .few)
 
+  -- the sheet says whether a code would replace a photographed answer
+  replaces-byte : (x : Answer) (c : ℕ) → replacesBacked (byteOf x) (isBacked x) c ≡ refusesCode x c
+  replaces-byte none c = refl
+  replaces-byte (is d p) c = refl
+
+  replaces-is : (f c : ℕ) → f < places → replacesBacked (answer (sheetOf a .answers) f) (backed (sheetOf a) f) c ≡ refusesCode (a f) c
+  replaces-is f c l = ap₂ (λ (x : ℕ) (p : Bool). replacesBacked x p c) (sheet-at a f l) (backed-at a f l) ∙ replaces-byte (a f) c
+
   -- 15, 16, 22, or another code
-  entered-step : (f c : ℕ) (x y z : Bool) → ltb f (length (b .counts)) ≡ x → ltb c (codes b f) ≡ y → backed (sheetOf a) f ≡ z
+  entered-step : (f c : ℕ) (x y z : Bool) → ltb f (length (b .counts)) ≡ x → ltb c (codes b f) ≡ y → refusesCode (a f) c ≡ z
       → entered bytes (sheetOf a) f c ≡ stepOf b a (enter f c)
   unfolding entered
-  entered-step f c true true true e d m = on-sheet 0 [] _ ∙ rw (← backed-is b within a s f, e, d, m)
+  entered-step f c true true true e d m = on-sheet 0 [] _ ∙ rw (e, d, replaces-is f c (field-place f e), m)
   entered-step f c true true false e d m =
       on-sheet 0 [] _
-      ∙ rw (e, d, m, ← backed-is b within a s f, m)
-      (ap (λ (x : Sheet). done [] x []) (answer-store a f (is c false) (field-place f e) (sym (sym (backed-is b within a s f) ∙ m))))
+      ∙ rw (e, d, replaces-is f c (field-place f e), m)
+      (ap (λ (x : Sheet). done [] x []) (answer-store a f (is c (isBacked (a f))) (field-place f e) refl))
   entered-step f c true false z e d m = on-sheet 0 [] _ ∙ rw (e, d)
   entered-step f c false y z e d m = on-sheet 0 [] _ ∙ rw e
 
@@ -88,7 +96,7 @@ module _ (bytes : List ℕ) (ok : Accepted bytes) (a : Answers) (s : Sound (book
 
   -- one call
   pub called-step : (call : Call) → called bytes (sheetOf a) call ≡ stepOf b a call
-  called-step (enter f c) = entered-step f c (ltb f (length (b .counts))) (ltb c (codes b f)) (backed (sheetOf a) f) refl refl refl
+  called-step (enter f c) = entered-step f c (ltb f (length (b .counts))) (ltb c (codes b f)) (refusesCode (a f) c) refl refl refl
   called-step (withdraw f) =
       withdrawn-step f (ltb f (length (b .counts))) (eqb (answer (sheetOf a .answers) f) 255) (backed (sheetOf a) f) refl refl refl
   called-step (photograph f) = photographed-step f (ltb f (length (b .counts))) (eqb (answer (sheetOf a .answers) f) 255) refl refl

@@ -1,7 +1,7 @@
 -- Document 01, "The sheet and its one pass" and "When a call is turned down", and document 02's calls on a sheet: each as a function of its input. Assumes nothing.
 use Prim.Native.Nat.{ℕ, _-_, _*_}
 use mathlib.Core.List.{List, [], _∷_, _++_}
-use mathlib.Core.Bool.{Bool, true, false, not}
+use mathlib.Core.Bool.{Bool, true, false, not, _&&_}
 use lib.ListN.{length, take, drop, set, replicate}
 use lib.Dec.{ltb, eqb}
 use Rattle.format.specs.Basics.{pick, firstBad}
@@ -73,14 +73,19 @@ onSheet k bytes s o go = withBook bytes (turned k s o) (verdict bytes) (λ b. fa
 
 -- ---- the calls
 
+-- 22 of enter: code c would replace answer x, which is photographed or not by p. "Entering the code already held changes nothing, and a photographed
+-- field refuses enter. .. the first rule now goes before the second" (02, M-107)
+abbrev pub replacesBacked : ℕ → Bool → ℕ → Bool
+replacesBacked x p c = p && not (eqb c x)
+
 -- "Enter sets the field's answer, replacing an older one". 15, no such field; 16, no such code; 22, "photographed field, last in the order of enter
--- and withdraw" (02, M-105: "Enter, even of the code already held, and withdraw are refused on such a field")
+-- and withdraw" (02, M-105), for "enter with another of the field's codes" (02, M-107)
 unfoldable pub entered : List ℕ → Sheet → ℕ → ℕ → Result
 entered bytes s f c =
     onSheet 0 bytes s [] (λ b.
     pick (ltb f (length (b .counts)))
     (pick (ltb c (codes b f))
-    (pick (backed s f) (turned 0 s [] 22 0) (done [] (setAnswer s f c) []))
+    (pick (replacesBacked (answer (s .answers) f) (backed s f) c) (turned 0 s [] 22 0) (done [] (setAnswer s f c) []))
     (turned 0 s [] 16 0))
     (turned 0 s [] 15 0))
 

@@ -141,11 +141,13 @@ NotInTable b f i = (length (b .tables) ≤ i) ⊎ ((i < length (b .tables)) × (
 -- The refusals of each call on sheet s behind 1 to 13, with number and place, each on its condition only: that the tests before it in the
 -- paper's order passed, and its own. Reading has none, "Fresh and clear: none"
 pub data Refusal (b : Book) (s : Sheet) : Request → ℕ → ℕ → Type 0 where
-  -- Enter: "14 ..; 15, no such field; 16, no such code"; 22, "photographed field, last in the order of enter and withdraw" (02, M-105)
+  -- Enter: "14 ..; 15, no such field; 16, no such code"; 22, "photographed field, last in the order of enter and withdraw" (02, M-105), for "another of
+  -- the field's codes" (02, M-107)
   enter-14 : {f c p : ℕ} → FirstFault b s p → Refusal b s (to-enter f c) 14 p
   enter-15 : {f c : ℕ} → NoFault b s → length (b .counts) ≤ f → Refusal b s (to-enter f c) 15 0
   enter-16 : {f c : ℕ} → NoFault b s → f < length (b .counts) → codes b f ≤ c → Refusal b s (to-enter f c) 16 0
-  enter-22 : {f c : ℕ} → NoFault b s → f < length (b .counts) → c < codes b f → backed s f ≡ true → Refusal b s (to-enter f c) 22 0
+  enter-22 : {f c : ℕ} → NoFault b s → f < length (b .counts) → c < codes b f → backed s f ≡ true → c ≢ answer (s .answers) f
+      → Refusal b s (to-enter f c) 22 0
   -- Withdraw: "14, 15, then 17, the field has no answer"; 22
   withdraw-14 : {f p : ℕ} → FirstFault b s p → Refusal b s (to-withdraw f) 14 p
   withdraw-15 : {f : ℕ} → NoFault b s → length (b .counts) ≤ f → Refusal b s (to-withdraw f) 15 0

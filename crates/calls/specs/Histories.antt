@@ -12,7 +12,7 @@ use Rattle.format.specs.Reading.{Accepted}
 use Rattle.format.specs.Layout.{Bytes}
 use Rattle.consistency.specs.Counting.{tabulate}
 use Rattle.consistency.specs.Consistency.{places, Sheet, sheetWith, codes}
-use Rattle.calls.specs.Calls.{Result, freshSheet, entered, withdrawn, photographed, cleared}
+use Rattle.calls.specs.Calls.{Result, freshSheet, replacesBacked, entered, withdrawn, photographed, cleared}
 
 -- field and code; field; field; nothing. Any numbers, as the calls take them
 pub data Call : Type 0 where
@@ -43,6 +43,11 @@ isBacked (is c p) = p
 abbrev pub doubtful : Answer → Bool
 doubtful x = given x && not (isBacked x)
 
+-- 22 of enter: code c is another than the photographed answer (02, M-107)
+abbrev pub refusesCode : Answer → ℕ → Bool
+refusesCode none c = false
+refusesCode (is d p) c = replacesBacked d p c
+
 -- the same answer with a photograph
 abbrev pub withPhotograph : Answer → Answer
 withPhotograph none = none
@@ -53,7 +58,7 @@ put a f x g = pick (eqb g f) x (a g)
 
 -- the refusal's number of a call by the book and the answers before it; 0: accepted
 abbrev pub refusalOf : Book → Answers → Call → ℕ
-refusalOf b a (enter f c) = pick (ltb f (length (b .counts))) (pick (ltb c (codes b f)) (pick (isBacked (a f)) 22 0) 16) 15
+refusalOf b a (enter f c) = pick (ltb f (length (b .counts))) (pick (ltb c (codes b f)) (pick (refusesCode (a f) c) 22 0) 16) 15
 refusalOf b a (withdraw f) = pick (ltb f (length (b .counts))) (pick (given (a f)) (pick (isBacked (a f)) 22 0) 17) 15
 refusalOf b a (photograph f) = pick (ltb f (length (b .counts))) (pick (given (a f)) 0 17) 15
 refusalOf b a clear = 0

@@ -13,7 +13,7 @@ use Rattle.format.specs.Reading.{fail}
 use Rattle.format.proofs.Copying.{copied-whole}
 use Rattle.consistency.specs.Counting.{anyBelow}
 use Rattle.consistency.specs.Consistency.{places, Sheet, answer, backed}
-use Rattle.calls.specs.Calls.{Result, turned, done, setAnswer, setPhotograph, onAnswered, entered, withdrawn, photographed, anyBacked, stored}
+use Rattle.calls.specs.Calls.{Result, turned, done, replacesBacked, setAnswer, setPhotograph, onAnswered, entered, withdrawn, photographed, anyBacked, stored}
 use Rattle.sheet.specs.Opened.{opening}
 use Rattle.sheet.proofs.Openings.{fields-count, fields-few, codes-at, codes-few, opening-good, on-ready, on-turned, IsOpen}
 use Rattle.consistency.proofs.Booleans.{T-ext, T-true, any-in, any-out}
@@ -43,23 +43,29 @@ module _ (bytes : List ℕ) (s : Sheet) (f c : ℕ) where
           (simp (fields-count bytes list fields (o .at), lt-ltb f fields h, codes-at bytes list fields (o .at) f h, le-ltb c (byte bytes (list + f)) k))
 
       module _ (k : c < byte bytes (list + f)) where
-        -- the field is photographed
-        pub entered-22 : backed s f ≡ true → turned 0 s [] 22 0 ≡ entered bytes s f c
-        unfolding entered
-        entered-22 p =
-            on-ready 0 bytes s [] _ (o .passes) _
-            (simp (fields-count bytes list fields (o .at), lt-ltb f fields h, codes-at bytes list fields (o .at) f h, lt-ltb c (byte bytes (list + f)) k, p))
-
         -- a code of the field is a byte
         pub entered-byte : c < 256
         entered-byte = omega (arith, codes-few bytes list fields (o .at) f h)
 
-        -- the field has that code as its answer
-        pub entered-done : backed s f ≡ false → done [] (setAnswer s f c) [] ≡ entered bytes s f c
-        unfolding entered
-        entered-done p =
-            on-ready 0 bytes s [] _ (o .passes) _
-            (simp (fields-count bytes list fields (o .at), lt-ltb f fields h, codes-at bytes list fields (o .at) f h, lt-ltb c (byte bytes (list + f)) k, p))
+        module _ (long : length (s .answers) ≡ places) (u : Bool) (e : u ≡ replacesBacked (getD (s .answers) f 0) (backed s f) c) where
+          -- by what the code found: whether it would replace a photographed answer
+          entered-go : {t : Bool} → u ≡ t → pick t (turned 0 s [] 22 0) (done [] (setAnswer s f c) []) ≡ entered bytes s f c
+          unfolding entered
+          entered-go {t} q =
+              let held : getD (s .answers) f 0 ≡ answer (s .answers) f =
+              answer-at (s .answers) f (omega (arith, fields-few bytes list fields (o .at))) in
+              let test : replacesBacked (answer (s .answers) f) (backed s f) c ≡ t =
+              sym (ap (λ (x : ℕ). replacesBacked x (backed s f) c) held) ∙ sym e ∙ q in
+              on-ready 0 bytes s [] _ (o .passes) _
+              (simp (fields-count bytes list fields (o .at), lt-ltb f fields h, codes-at bytes list fields (o .at) f h, lt-ltb c (byte bytes (list + f)) k, test))
+
+          -- it would
+          pub entered-22 : u ≡ true → turned 0 s [] 22 0 ≡ entered bytes s f c
+          entered-22 = entered-go
+
+          -- it would not: the field has that code as its answer
+          pub entered-done : u ≡ false → done [] (setAnswer s f c) [] ≡ entered bytes s f c
+          entered-done = entered-go
 
 -- ---- withdraw and photograph
 

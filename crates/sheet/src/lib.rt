@@ -1,4 +1,4 @@
-// The sheet and its calls. Document 01, "The sheet and its one pass" and "When a call is turned down"; document 02, M-104 and M-105.
+// The sheet and its calls. Document 01, "The sheet and its one pass" and "When a call is turned down"; document 02, M-104, M-105 and M-107.
 ghost use mathlib.Core.Path.{_≡_};
 ghost use mathlib.Core.Bool.{false};
 ghost use mathlib.Core.List.{List, [], _∷_};
@@ -6,7 +6,7 @@ ghost use Prim.Native.Nat.{ℕ, _≤_};
 ghost use lib.ListN.{getD};
 ghost use Rattle.consistency.specs.Counting.{anyBelow};
 ghost use Rattle.consistency.specs.Consistency.{places};
-ghost use Rattle.calls.specs.Calls.{freshSheet, turned, done, entered, withdrawn, photographed, cleared, filtered, alternatives, stored, loaded, rowBehind};
+ghost use Rattle.calls.specs.Calls.{freshSheet, turned, done, replacesBacked, entered, withdrawn, photographed, cleared, filtered, alternatives, stored, loaded, rowBehind};
 ghost use Rattle.calls.specs.Histories.{callsIn, sheetAfter};
 ghost use Rattle.sheet.specs.Shown.{numberOf, heldBy, resultOf, listResultOf, rowAnswerOf, rowResultOf};
 ghost use Rattle.sheet.specs.Replayed.{Replayed};
@@ -151,6 +151,16 @@ fn any_photographed(photographed: [bool; PLACES], fields: usize) -> bool
     false
 }
 
+// Whether a code would take the place of a photographed answer: the code held, sent again, does not.
+fn replaces_photographed(answer: u8, photographed: bool, code: usize) -> bool
+    ensures { λ r. ⌜ r ≡ replacesBacked answer photographed code ⌝ }
+{
+    if photographed {
+        return code != lists::wide(answer);
+    }
+    false
+}
+
 // What the filter found, as the answer of row: 21 where the table has no column for the field.
 fn row_answer(found: Supporting) -> RowAnswer
     ensures { λ r. ⌜ r ≡ rowAnswerOf found ⌝ }
@@ -183,7 +193,7 @@ impl Sheet {
         }
     }
 
-    // Answers a field, replacing an older answer.
+    // Answers a field, replacing an older answer but a photographed one.
     pub fn enter(self, book: &[u8], field: usize, code: usize) -> Handed
         ensures { λ r. ⌜ resultOf r [] ≡ entered (now (book .entry)) (heldBy self) field code ⌝ }
     {
@@ -204,7 +214,7 @@ impl Sheet {
                 if lists::wide(book[list + field]) <= code {
                     return refuse(self, Reason::Code, 0);
                 }
-                if photographed[field] {
+                if replaces_photographed(answers[field], photographed[field], code) {
                     return refuse(self, Reason::Photographed, 0);
                 }
                 let mut next = answers;

@@ -50,31 +50,38 @@ returns-2 : tie.Need-returns-2
 returns-2 c = let o = opens-ready _ _ _ (c .before .before .before .before .before .before .before .before .«open» .ensures (heldBy (c .before .before .before .before .before .before .before .before .before .before .before .before .before .args .self)) (c .before .before .before .before .before .before .before .before .before .seen-bytes .ensures)) _ _ _ _ (c .before .before .before .before .before .before .opened2 .given .1) in
     c .refuse3 .ensures [] ∙ entered-16 _ _ _ _ _ _ o (c .before .before .before .before .if1 .left) (subst (λ (n : ℕ). n ≤ c .before .before .before .before .before .before .before .before .before .before .before .before .before .args .code) (c .before .before .wide .ensures) (c .before .if2 .taken))
 
-array-read-if3 : tie.Need-array-read-if3
-array-read-if3 c = let o = opens-ready _ _ _ (c .before .before .before .before .before .before .before .«open» .ensures (heldBy (c .before .before .before .before .before .before .before .before .before .before .before .before .args .self)) (c .before .before .before .before .before .before .before .before .seen-bytes .ensures)) _ _ _ _ (c .before .before .before .before .before .opened2 .given .1) in
+array-read-replaces-photographed : tie.Need-array-read-replaces-photographed
+array-read-replaces-photographed c = let o = opens-ready _ _ _ (c .before .before .before .before .before .before .before .«open» .ensures (heldBy (c .before .before .before .before .before .before .before .before .before .before .before .before .args .self)) (c .before .before .before .before .before .before .before .before .seen-bytes .ensures)) _ _ _ _ (c .before .before .before .before .before .opened2 .given .1) in
     omega (arith, fields-few _ _ _ (o .at))
+
+array-read-replaces-photographed-2 : tie.Need-array-read-replaces-photographed-2
+array-read-replaces-photographed-2 c = let o = opens-ready _ _ _ (c .before .before .before .before .before .before .before .«open» .ensures (heldBy (c .before .before .before .before .before .before .before .before .before .before .before .before .args .self)) (c .before .before .before .before .before .before .before .before .seen-bytes .ensures)) _ _ _ _ (c .before .before .before .before .before .opened2 .given .1) in
+    omega (arith, fields-few _ _ _ (o .at))
+
+replaces-photographed-requires : tie.Need-replaces-photographed-requires
+replaces-photographed-requires c κs = search needs
 
 refuse-requires-4 : tie.Need-refuse-requires-4
 refuse-requires-4 c κs = search needs
 
 returns-3 : tie.Need-returns-3
-returns-3 c = let o = opens-ready _ _ _ (c .before .before .before .before .before .before .before .before .before .«open» .ensures (heldBy (c .before .before .before .before .before .before .before .before .before .before .before .before .before .before .args .self)) (c .before .before .before .before .before .before .before .before .before .before .seen-bytes .ensures)) _ _ _ _ (c .before .before .before .before .before .before .before .opened2 .given .1) in
-    c .refuse4 .ensures [] ∙ entered-22 _ _ _ _ _ _ o (c .before .before .before .before .before .if1 .left) (subst (λ (n : ℕ). c .before .before .before .before .before .before .before .before .before .before .before .before .before .before .args .code < n) (c .before .before .before .wide .ensures) (c .before .before .if2 .left)) (c .before .if3 .taken)
+returns-3 c = let o = opens-ready _ _ _ (c .before .before .before .before .before .before .before .before .before .before .«open» .ensures (heldBy (c .before .before .before .before .before .before .before .before .before .before .before .before .before .before .before .args .self)) (c .before .before .before .before .before .before .before .before .before .before .before .seen-bytes .ensures)) _ _ _ _ (c .before .before .before .before .before .before .before .before .opened2 .given .1) in
+    c .refuse4 .ensures [] ∙ entered-22 _ _ _ _ _ _ o (c .before .before .before .before .before .before .if1 .left) (subst (λ (n : ℕ). c .before .before .before .before .before .before .before .before .before .before .before .before .before .before .before .args .code < n) (c .before .before .before .before .wide .ensures) (c .before .before .before .if2 .left)) (search needs) _ (c .before .before .replaces-photographed .ensures) (c .before .if3 .taken)
 
 cast-next : tie.Need-cast-next
-cast-next c = let o = opens-ready _ _ _ (c .before .before .before .before .before .before .before .before .«open» .ensures (heldBy (c .before .before .before .before .before .before .before .before .before .before .before .before .before .args .self)) (c .before .before .before .before .before .before .before .before .before .seen-bytes .ensures)) _ _ _ _ (c .before .before .before .before .before .before .opened2 .given .1) in
-    omega (arith, entered-byte _ _ _ _ _ _ o (c .before .before .before .before .if1 .left) (subst (λ (n : ℕ). c .before .before .before .before .before .before .before .before .before .before .before .before .before .args .code < n) (c .before .before .wide .ensures) (c .before .if2 .left)))
+cast-next c = let o = opens-ready _ _ _ (c .before .before .before .before .before .before .before .before .before .«open» .ensures (heldBy (c .before .before .before .before .before .before .before .before .before .before .before .before .before .before .args .self)) (c .before .before .before .before .before .before .before .before .before .before .seen-bytes .ensures)) _ _ _ _ (c .before .before .before .before .before .before .before .opened2 .given .1) in
+    omega (arith, entered-byte _ _ _ _ _ _ o (c .before .before .before .before .before .if1 .left) (subst (λ (n : ℕ). c .before .before .before .before .before .before .before .before .before .before .before .before .before .before .args .code < n) (c .before .before .before .wide .ensures) (c .before .before .if2 .left)))
 
 array-write-next : tie.Need-array-write-next
-array-write-next c = let o = opens-ready _ _ _ (c .before .before .before .before .before .before .before .before .«open» .ensures (heldBy (c .before .before .before .before .before .before .before .before .before .before .before .before .before .args .self)) (c .before .before .before .before .before .before .before .before .before .seen-bytes .ensures)) _ _ _ _ (c .before .before .before .before .before .before .opened2 .given .1) in
+array-write-next c = let o = opens-ready _ _ _ (c .before .before .before .before .before .before .before .before .before .«open» .ensures (heldBy (c .before .before .before .before .before .before .before .before .before .before .before .before .before .before .args .self)) (c .before .before .before .before .before .before .before .before .before .before .seen-bytes .ensures)) _ _ _ _ (c .before .before .before .before .before .before .before .opened2 .given .1) in
     omega (arith, fields-few _ _ _ (o .at))
 
 returns-4 : tie.Need-returns-4
 returns-4 c = c .refuse .ensures [] ∙ entered-turned _ _ _ _ _ _ (opens-turned _ _ _ (c .before .before .before .before .«open» .ensures (heldBy (c .before .before .before .before .before .before .before .before .before .args .self)) (c .before .before .before .before .before .seen-bytes .ensures)) _ _ (c .before .before .opened .given .1))
 
 returns-5 : tie.Need-returns-5
-returns-5 c = let o = opens-ready _ _ _ (c .before .before .before .before .before .before .before .before .«open» .ensures (heldBy (c .before .before .before .before .before .before .before .before .before .before .before .before .before .args .self)) (c .before .before .before .before .before .before .before .before .before .seen-bytes .ensures)) _ _ _ _ (c .before .before .before .before .before .before .opened2 .given .1) in
-    entered-done _ _ _ _ _ _ o (c .before .before .before .before .if1 .left) (subst (λ (n : ℕ). c .before .before .before .before .before .before .before .before .before .before .before .before .before .args .code < n) (c .before .before .wide .ensures) (c .before .if2 .left)) (c .if3 .left)
+returns-5 c = let o = opens-ready _ _ _ (c .before .before .before .before .before .before .before .before .before .«open» .ensures (heldBy (c .before .before .before .before .before .before .before .before .before .before .before .before .before .before .args .self)) (c .before .before .before .before .before .before .before .before .before .before .seen-bytes .ensures)) _ _ _ _ (c .before .before .before .before .before .before .before .opened2 .given .1) in
+    entered-done _ _ _ _ _ _ o (c .before .before .before .before .before .if1 .left) (subst (λ (n : ℕ). c .before .before .before .before .before .before .before .before .before .before .before .before .before .before .args .code < n) (c .before .before .before .wide .ensures) (c .before .before .if2 .left)) (search needs) _ (c .before .replaces-photographed .ensures) (c .if3 .left)
 
 pub enter-spec : {M : Type 1} → statement M
 enter-spec =
@@ -92,7 +99,9 @@ enter-spec =
     wide-requires
     refuse-requires-3
     returns-2
-    array-read-if3
+    array-read-replaces-photographed
+    array-read-replaces-photographed-2
+    replaces-photographed-requires
     refuse-requires-4
     returns-3
     cast-next
