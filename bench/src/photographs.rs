@@ -42,7 +42,9 @@ pub struct Changes {
     pub photograph: f64,
     /// Of a field that is photographed already.
     pub again: f64,
-    /// Enter on a photographed field: 22.
+    /// Enter of the code held on a photographed field, as tablets send answers again.
+    pub resent: f64,
+    /// Enter of another code there: 22.
     pub refused: f64,
     pub plain: f64,
 }
@@ -61,20 +63,22 @@ pub fn changes(family: &Family) -> Changes {
     assert_eq!(sheet::photograph(&mut plain, book, field), Ok(()));
     assert_eq!(photographed.bytes(), &plain);
     let enter = |sheet: &mut Sheet| sheet.enter(book, field, code);
+    let replace = |sheet: &mut Sheet| sheet.enter(book, field, usize::from(code == 0));
     let withdraw = |sheet: &mut Sheet| sheet.withdraw(book, field);
     let photograph = |sheet: &mut Sheet| sheet.photograph(book, field);
-    assert_eq!(number(photographed, enter), 22);
+    assert_eq!((number(photographed, enter), number(photographed, replace)), (0, 22));
     let times = medians(&mut [
         Box::new(|| number(given, enter)),
         Box::new(|| number(given, withdraw)),
         Box::new(|| number(given, photograph)),
         Box::new(|| number(photographed, photograph)),
         Box::new(|| number(photographed, enter)),
+        Box::new(|| number(photographed, replace)),
         Box::new(|| {
             let mut bytes = *given.bytes();
             sheet::photograph(&mut bytes, book, field).map_or_else(|refused| refused.0, |()| 0)
         }),
     ]);
-    let [enter, withdraw, photograph, again, refused, plain] = times[..] else { unreachable!("six contenders") };
-    Changes { n, enter, withdraw, photograph, again, refused, plain }
+    let [enter, withdraw, photograph, again, resent, refused, plain] = times[..] else { unreachable!("seven contenders") };
+    Changes { n, enter, withdraw, photograph, again, resent, refused, plain }
 }

@@ -175,11 +175,11 @@ pub fn photographed(out: &mut String, families: &[(&str, Vec<Photographed>)]) ->
 pub fn changes(out: &mut String, books: &[(&str, Changes)]) -> Result {
     writeln!(
         out,
-        "| book | n | enter, µs | withdraw ÷ it | photograph ÷ it | photograph again ÷ it | enter refused by 22 ÷ it | photograph × plain Rust |"
+        "| book | n | enter, µs | withdraw ÷ it | photograph ÷ it | photographed: again ÷ it | the code held ÷ it | another, 22 ÷ it | photograph × plain Rust |"
     )?;
-    writeln!(out, "|---|---|---|---|---|---|---|---|")?;
+    writeln!(out, "|---|---|---|---|---|---|---|---|---|")?;
     for (name, c) in books {
-        let against = [c.withdraw, c.photograph, c.again, c.refused].map(|time| format!("{:.2}", time / c.enter));
+        let against = [c.withdraw, c.photograph, c.again, c.resent, c.refused].map(|time| format!("{:.2}", time / c.enter));
         let plain = c.photograph / c.plain;
         writeln!(out, "| {name} | {} | {} | {} | {plain:.2} |", c.n, microseconds(c.enter), against.join(" | "))?;
     }

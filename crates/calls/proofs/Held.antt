@@ -1,5 +1,5 @@
 -- "Entering the code already held is accepted and changes nothing", and a photograph set again changes nothing. Assumes nothing.
-use Prim.Native.Nat.{ℕ, _≤_, _<_}
+use Prim.Native.Nat.{ℕ, _<_}
 use mathlib.Core.Path.{_≡_, refl, sym, ap, _∙_}
 use mathlib.Core.Logic.{_≢_}
 use mathlib.Core.Bool.{Bool, true, false, not, _&&_, true≢false}
@@ -9,14 +9,14 @@ use borrow.Author.Tests.{lt-ltb, eqb-true, eq-eqb, ne-eqb}
 use lib.ListN.{length}
 use lib.Dec.{ltb, eqb}
 use Rattle.format.specs.Format.{Book, bookOf}
-use Rattle.format.specs.Reading.{Accepted}
 use Rattle.format.proofs.Picks.{both-true}
 use Rattle.format.proofs.Accepted.{accepted-verdict}
-use Rattle.consistency.specs.Consistency.{places, Sheet, sheetWith, codes, answer, backed}
-use Rattle.calls.specs.Calls.{turned, done, replacesBacked, placeOk, faultOf, entered, withdrawn, photographed}
-use Rattle.calls.proofs.Faults.{fault-free}
+use Rattle.consistency.specs.Consistency.{Sheet, sheetWith, codes, answer, backed}
+use Rattle.calls.specs.Calls.{Result, turned, done, placeOk, onSheet, replacesBacked, entered, withdrawn, photographed}
+use Rattle.calls.specs.Photographs.{OnField}
+use Rattle.calls.proofs.Faults.{fault-none}
 use Rattle.calls.proofs.CallLaws.{sheet-go}
-use Rattle.calls.proofs.Sheets.{same-store, Within, accepted-within}
+use Rattle.calls.proofs.Sheets.{same-store, accepted-within}
 
 -- ---- 22 of enter, answer x, photographed or not by p, and code c
 
@@ -44,55 +44,58 @@ pub replaces-else : (x : ℕ) (p : Bool) (c : ℕ) → (p ≡ true → c ≢ x) 
 replaces-else x true c n = ap not (ne-eqb c x (n refl))
 replaces-else x false c n = refl
 
--- ---- the calls
+-- ---- the calls, on a field of an accepted book where no place is at fault
 
-module _ (bytes : List ℕ) (s : Sheet) (ok : Accepted bytes) (good : places ≤ faultOf (bookOf bytes) s) (f : ℕ)
-    (known : f < length (bookOf bytes .counts)) where
+module _ (bytes : List ℕ) (s : Sheet) (f : ℕ) (o : OnField bytes s f) where
   abbrev b : Book
   b = bookOf bytes
 
-  -- where no place is at fault, an answer is a code of its field
-  pub held-code : answer (s .answers) f ≢ 255 → ltb (answer (s .answers) f) (codes b f) ≡ true
-  held-code n =
-      let w : Within b = accepted-within bytes ok in
-      let fine : placeOk b s f ≡ true = fault-free b s good f (omega (arith, w .few)) in
-      rw (ne-eqb (answer (s .answers) f) 255 n) at fine
+  abbrev x : ℕ
+  x = answer (s .answers) f
+
+  known : ltb f (length (b .counts)) ≡ true
+  known = lt-ltb f (length (b .counts)) (o .known)
+
+  -- 1 to 14 pass
+  pub on-field : (l : List ℕ) (go : Book → Result) → onSheet 0 bytes s l go ≡ go b
+  on-field l go = sheet-go 0 bytes s l go (accepted-verdict bytes (o .accepted)) (omega (arith, fault-none b s (o .no-fault)))
+
+  -- what stands in the field's place may stand there
+  fine : placeOk b s f ≡ true
+  fine = o .no-fault f (omega (arith, o .known, accepted-within bytes (o .accepted) .few))
+
+  -- an answer is a code of the field
+  pub held-code : x ≢ 255 → ltb x (codes b f) ≡ true
+  held-code n = rw (ne-eqb x 255 n) at fine
 
   -- entering it hands the sheet back as it was, photographed or not
-  pub enter-held : answer (s .answers) f ≢ 255 → entered bytes s f (answer (s .answers) f) ≡ done [] s []
+  pub enter-held : x ≢ 255 → entered bytes s f x ≡ done [] s []
   unfolding entered
   enter-held n =
-      sheet-go 0 bytes s [] _ (accepted-verdict bytes ok) good
-      ∙ rw (lt-ltb f (length (b .counts)) known, held-code n, held-same (answer (s .answers) f) (backed s f))
-      (ap (λ (x : List ℕ). done [] (sheetWith x (s .photographs)) [])
-      (same-store 255 (s .answers) f (answer (s .answers) f) refl))
+      on-field [] _
+      ∙ rw (known, held-code n, held-same x (backed s f))
+      (ap (λ (l : List ℕ). done [] (sheetWith l (s .photographs)) []) (same-store 255 (s .answers) f x refl))
 
   -- "Withdraw, and enter with another of the field's codes, still give 22"
-  pub enter-backed : (c : ℕ) → c < codes b f → c ≢ answer (s .answers) f → backed s f ≡ true → entered bytes s f c ≡ turned 0 s [] 22 0
+  pub enter-backed : (c : ℕ) → c < codes b f → c ≢ x → backed s f ≡ true → entered bytes s f c ≡ turned 0 s [] 22 0
   unfolding entered
-  enter-backed c l n p =
-      sheet-go 0 bytes s [] _ (accepted-verdict bytes ok) good
-      ∙ rw (lt-ltb f (length (b .counts)) known, lt-ltb c (codes b f) l, p, ne-eqb c (answer (s .answers) f) n)
+  enter-backed c l n p = on-field [] _ ∙ rw (known, lt-ltb c (codes b f) l, p, ne-eqb c x n)
 
-  -- where no place is at fault, a photographed field has an answer
-  pub backed-answer : backed s f ≡ true → answer (s .answers) f ≢ 255
+  -- a photographed field has an answer
+  pub backed-answer : backed s f ≡ true → x ≢ 255
   backed-answer p e =
-      let w : Within b = accepted-within bytes ok in
-      let fine : placeOk b s f ≡ true = fault-free b s good f (omega (arith, w .few)) in
       let fine′ = rw (e, p) at fine in
       let never : _≡_ {A = ℕ} 0 1 = cc in
       omega arith
 
   pub withdraw-backed : backed s f ≡ true → withdrawn bytes s f ≡ turned 0 s [] 22 0
   unfolding withdrawn
-  withdraw-backed p =
-      sheet-go 0 bytes s [] _ (accepted-verdict bytes ok) good
-      ∙ rw (lt-ltb f (length (b .counts)) known, ne-eqb (answer (s .answers) f) 255 (backed-answer p), p)
+  withdraw-backed p = on-field [] _ ∙ rw (known, ne-eqb x 255 (backed-answer p), p)
 
   -- "setting it again changes nothing"
   pub photograph-again : backed s f ≡ true → photographed bytes s f ≡ done [] s []
   unfolding photographed
   photograph-again p =
-      sheet-go 0 bytes s [] _ (accepted-verdict bytes ok) good
-      ∙ rw (lt-ltb f (length (b .counts)) known, ne-eqb (answer (s .answers) f) 255 (backed-answer p))
-      (ap (λ (x : List Bool). done [] (sheetWith (s .answers) x) []) (same-store false (s .photographs) f true p))
+      on-field [] _
+      ∙ rw (known, ne-eqb x 255 (backed-answer p))
+      (ap (λ (l : List Bool). done [] (sheetWith (s .answers) l) []) (same-store false (s .photographs) f true p))

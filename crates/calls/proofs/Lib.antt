@@ -19,6 +19,7 @@ pub mod SixtyFields
 pub mod Held
 pub mod Photographs
 pub mod Resent
+pub mod OneChange
 pub mod PhotographedE1
 pub mod Agreement
 pub mod Stored

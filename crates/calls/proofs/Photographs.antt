@@ -1,5 +1,5 @@
 -- Document 02, M-105: what photographs promise. Assumes nothing.
-use Prim.Native.Nat.{ℕ, _≤_, _<_}
+use Prim.Native.Nat.{ℕ, _<_}
 use mathlib.Core.Path.{_≡_, refl, sym, ap, _∙_}
 use mathlib.Core.Logic.{_≢_}
 use mathlib.Core.Bool.{Bool, true, false, not, _&&_, and-true, true≢false}
@@ -11,7 +11,7 @@ use lib.ListN.{length, getD, replicate, length-replicate, getD-replicate, List·
 use lib.Dec.{ltb, eqb, T-not}
 use Rattle.format.specs.Basics.{pick, All}
 use Rattle.format.specs.Format.{Book, bookOf}
-use Rattle.format.proofs.Accepted.{accepted-verdict, verdict-accepted}
+use Rattle.format.proofs.Accepted.{verdict-accepted}
 use Rattle.format.proofs.Picks.{pick-first, pick-second}
 use Rattle.consistency.specs.Counting.{those}
 use Rattle.consistency.specs.Consistency.{places, Sheet, codes, answer, backed}
@@ -23,10 +23,10 @@ use Rattle.consistency.proofs.Lines.{relaxable-are, backed-unlisted}
 use Rattle.calls.specs.Calls.{Result, turned, done, plainSheet, freshSheet, setPhotograph, faultOf, sheetFrom, photographed, loaded, anyBacked, stored}
 use Rattle.calls.specs.Histories.{Call, enter, withdraw, photograph, clear, Answer, none, is, Answers, given, isBacked, refusesCode, withPhotograph, put, refusalOf, after, answersFrom}
 use Rattle.calls.specs.Photographs.{OnField, Request105}
-use Rattle.calls.proofs.CallLaws.{pick-cases, fault-holds, book-holds, Where, sheet-where, sheet-go}
-use Rattle.calls.proofs.Faults.{fault-free, fault-none}
+use Rattle.calls.proofs.CallLaws.{pick-cases, fault-holds, book-holds, Where, sheet-where}
+use Rattle.calls.proofs.Faults.{fault-free}
 use Rattle.calls.proofs.Sheets.{put-same, put-other, Within, accepted-within}
-use Rattle.calls.proofs.Held.{same-code, enter-backed, withdraw-backed, photograph-again}
+use Rattle.calls.proofs.Held.{same-code, on-field, enter-backed, withdraw-backed, photograph-again}
 
 -- ---- "Only clear removes it"
 
@@ -115,15 +115,11 @@ module _ (bytes : List ℕ) (s : Sheet) (f : ℕ) where
       (λ t n. absurd (omega arith)))
 
   module _ (o : OnField bytes s f) where
-    -- no place is at fault
-    pub good : places ≤ faultOf (bookOf bytes) s
-    good = omega (arith, fault-none (bookOf bytes) s (o .no-fault))
-
     -- it is accepted where the field has an answer
     set-go : answer (s .answers) f ≢ 255 → photographed bytes s f ≡ done [] (setPhotograph s f) []
     unfolding photographed
     set-go n =
-        sheet-go 0 bytes s [] _ (accepted-verdict bytes (o .accepted)) good
+        on-field bytes s f o [] _
         ∙ rw (lt-ltb f (length (bookOf bytes .counts)) (o .known), ne-eqb (answer (s .answers) f) 255 n)
 
     -- a sheet with a photograph is not stored
@@ -132,7 +128,7 @@ module _ (bytes : List ℕ) (s : Sheet) (f : ℕ) where
     store-refused l p =
         let w : Within (bookOf bytes) = accepted-within bytes (o .accepted) in
         let some : anyBacked s ≡ true = T-true (any-in places (backed s) f (omega (arith, w .few, o .known)) (true-T p)) in
-        sheet-go 0 bytes s l _ (accepted-verdict bytes (o .accepted)) good ∙ rw some
+        on-field bytes s f o l _ ∙ rw some
 
 -- ---- sheets without photographs
 
@@ -168,10 +164,10 @@ request105 =
     record {
       accepts-exactly = λ bytes s f. (λ e. let w = set-where bytes s f e in (w .0, w .1), λ w. ap (λ (r : Result). r .outcome .number) (set-go bytes s f (w .0) (w .1)));
       sets = λ bytes s f e. set-where bytes s f e .2;
-      again = λ bytes s f o p. photograph-again bytes s (o .accepted) (good bytes s f o) f (o .known) p;
+      again = photograph-again;
       only-clear = photographs-stay;
-      enter-refused = λ bytes s f c o p l n. enter-backed bytes s (o .accepted) (good bytes s f o) f (o .known) c l n p;
-      withdraw-refused = λ bytes s f o p. withdraw-backed bytes s (o .accepted) (good bytes s f o) f (o .known) p;
+      enter-refused = λ bytes s f c o p l n. enter-backed bytes s f o c l n p;
+      withdraw-refused = withdraw-backed;
       no-case = no-case;
       no-line = λ b s l p m. backed-unlisted b s l (true-T p) m;
       plain-cases = plain-cases;
