@@ -1,17 +1,19 @@
 -- What an exported call leaves behind, in the papers' numbers: the number returned, the sheet, the buffer lent, and the cells of the
 -- outcome, which have the place and then the counts. Assumes nothing.
-use Prim.Native.Nat.{ℕ, _+_}
+use Prim.Native.Nat.{ℕ, _+_, _≤_, _<_}
 use mathlib.Core.Path.{_≡_}
+use mathlib.Core.Logic.{_≢_}
 use mathlib.Core.Bool.{Bool, not}
 use mathlib.Core.List.{List, _∷_, _++_}
-use lib.ListN.{getD, drop}
+use lib.ListN.{length, getD, drop}
 use lib.Dec.{eqb}
 use Rattle.format.specs.Basics.{pick}
 use Rattle.format.specs.Reading.{Outcome}
 use Rattle.format.specs.Writing.{Reply}
 use Rattle.consistency.specs.Counting.{tabulate}
 use Rattle.consistency.specs.Consistency.{places, Sheet, sheetWith, answer, backed}
-use Rattle.calls.specs.Calls.{Result}
+use Rattle.calls.specs.Calls.{Result, entered}
+use Rattle.calls.specs.Photographs.{OnField}
 
 -- the cells that are lent for an outcome
 abbrev pub cellsOf : Outcome → List ℕ
@@ -72,3 +74,16 @@ resultTold number cells sheet buffer =
 pub record Replies (number : ℕ) (cells buffer : List ℕ) (r : Reply) : Type 0 where
   pub tells : Tells number cells (r .outcome)
   pub buffer-is : buffer ≡ r .buffer
+
+-- ---- an answer sent again
+
+-- bytes of a sheet as calls write them: a photograph's byte is 0 or 1
+pub record Flagged (sheet : List ℕ) : Type 0 where
+  pub size : length sheet ≡ places + places
+  pub flags : (f : ℕ) → f < places → getD sheet (places + f) 0 ≤ 1
+
+-- Document 02, M-107: "is accepted and the sheet stays equal", photographed or not: every byte of it stays
+abbrev pub ResentStays : Type 0
+ResentStays =
+    (book before sheet cells : List ℕ) (f number : ℕ) → Flagged before → OnField book (sheetIn before) f → getD before f 0 ≢ 255
+    → Changes number cells before sheet (entered book (sheetIn before) f (getD before f 0)) → (number ≡ 0) × (sheet ≡ before)
