@@ -104,7 +104,7 @@ fn refuse_if(so: bool, number: u64) -> Result<(), Refusal> {
 
 fn enter(reading: &Reading, sheet: &Sheet, field: usize, code: usize) -> Result<Sheet, Refusal> {
     has_code(opened(reading, sheet)?, field, code)?;
-    refuse_if(sheet.is_photographed(field), 22)?;
+    refuse_if(sheet.keeps_out(field, code as u8), 22)?;
     let mut entered = *sheet;
     entered.answers[field] = code as u8;
     Ok(entered)
@@ -172,7 +172,8 @@ pub fn step(book: &Book, sheet: &mut Sheet, call: &[u8]) -> u64 {
         _ if is_on_field(call) && field >= book.counts.len() => return 15,
         0 if is_no_code(book, field, code) => return 16,
         1 | 3 if !sheet.is_answered(field) => return 17,
-        0 | 1 if sheet.is_photographed(field) => return 22,
+        0 if sheet.keeps_out(field, code) => return 22,
+        1 if sheet.is_photographed(field) => return 22,
         0 => sheet.answers[field] = code,
         1 => sheet.answers[field] = NO_ANSWER,
         2 => *sheet = FRESH,
@@ -315,11 +316,23 @@ mod tests {
         let refused =
             [[3, 1, 0], [3, 0, 0], [0, 0, 1], [3, 0, 9], [3, 0, 9], [0, 0, 1], [0, 0, 0], [0, 0, 2], [1, 0, 0], [4, 0, 0]];
         let (numbers, reached) = desk.after(&book(), &refused.concat());
-        assert_eq!((numbers, reached), (vec![15, 17, 0, 0, 0, 22, 22, 16, 22, 0], Sheet::of(&[1]).with_photographs(&[0])));
+        assert_eq!((numbers, reached), (vec![15, 17, 0, 0, 0, 0, 22, 16, 22, 0], Sheet::of(&[1]).with_photographs(&[0])));
         let cleared = [&refused[..], &[[2, 0, 0], [3, 0, 0], [0, 0, 0], [1, 0, 0], [0, 0, 0]]].concat().concat();
         let (numbers, reached) = desk.after(&book(), &cleared);
         assert_eq!((&numbers[10..], reached), (&[0, 17, 0, 0, 0][..], Sheet::of(&[0])));
         assert_eq!(desk.after(&refuse(9, 4), &[3, 0, 0, 2, 0, 0, 4, 0, 0]), (vec![9, 0, 0], FRESH));
+    }
+
+    /// "Tablets resend answers": at once, in a row, behind a photograph, behind refused calls; behind a clear it is a first answer.
+    #[test]
+    fn answers_resent_in_a_list_of_calls() {
+        let (desk, photographed) = (Desk::default(), Sheet::of(&[1]).with_photographs(&[0]));
+        let list =
+            [[0, 0, 1], [0, 0, 1], [3, 0, 0], [0, 0, 1], [0, 0, 1], [0, 0, 0], [0, 0, 1], [1, 0, 0], [0, 0, 1], [0, 0, 255]];
+        assert_eq!(desk.after(&book(), &list.concat()), (vec![0, 0, 0, 0, 0, 22, 0, 22, 0, 16], photographed));
+        let cleared = [&list[..], &[[2, 0, 0], [0, 0, 0], [0, 0, 0], [0, 0, 1]]].concat().concat();
+        let (numbers, reached) = desk.after(&book(), &cleared);
+        assert_eq!((&numbers[10..], reached), (&[0, 0, 0, 0][..], Sheet::of(&[1])));
     }
 
     #[test]
@@ -343,8 +356,12 @@ mod tests {
         assert_eq!(left(Call::Photograph { field: 0 }, photographed), (0, 0, photographed));
         assert_eq!(left(Call::Photograph { field: 0 }, FRESH), (17, 0, FRESH));
         assert_eq!(left(Call::Photograph { field: 1 }, FRESH), (15, 0, FRESH));
-        assert_eq!(left(Call::Enter { field: 0, code: 1 }, photographed), (22, 0, photographed));
+        assert_eq!(left(Call::Enter { field: 0, code: 1 }, held), (0, 0, held));
+        assert_eq!(left(Call::Enter { field: 0, code: 1 }, photographed), (0, 0, photographed));
+        assert_eq!(left(Call::Enter { field: 0, code: 0 }, photographed), (22, 0, photographed));
         assert_eq!(left(Call::Enter { field: 0, code: 2 }, photographed), (16, 0, photographed));
+        assert_eq!(left(Call::Enter { field: 0, code: 257 }, photographed), (16, 0, photographed));
+        assert_eq!(left(Call::Enter { field: 0, code: 255 }, FRESH), (16, 0, FRESH));
         assert_eq!(left(Call::Enter { field: 1, code: 0 }, photographed), (15, 0, photographed));
         assert_eq!(left(Call::Withdraw { field: 0 }, photographed), (22, 0, photographed));
         assert_eq!(left(Call::Filtered { relaxed: 0 }, photographed), (0, 0, photographed));
@@ -362,10 +379,14 @@ mod tests {
             let mut sheet = Sheet::of(&[1, 1]);
             sheet.photographs[0] = byte;
             let answer = |call: Call| Desk::default().answer(&call, &two, &sheet);
-            let refused = answer(Call::Withdraw { field: 0 });
-            assert_eq!((refused.result, refused.sheet), (refuse(22, 0), sheet));
-            let accepted = answer(Call::Withdraw { field: 1 });
-            assert_eq!((accepted.result, accepted.sheet), (Ok(Vec::new()), Sheet::of(&[1]).with_photographs(&[0])));
+            for call in [Call::Withdraw { field: 0 }, Call::Enter { field: 0, code: 0 }] {
+                let refused = answer(call);
+                assert_eq!((refused.result, refused.sheet), (refuse(22, 0), sheet));
+            }
+            for (call, held) in [(Call::Withdraw { field: 1 }, &[1][..]), (Call::Enter { field: 0, code: 1 }, &[1, 1])] {
+                let accepted = answer(call);
+                assert_eq!((accepted.result, accepted.sheet), (Ok(Vec::new()), Sheet::of(held).with_photographs(&[0])));
+            }
         }
     }
 
