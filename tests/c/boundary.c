@@ -136,7 +136,7 @@ static void photographs(void) {
 }
 
 /* Enters a code on field 0 of a sheet, and the sheet has to be this one then. The one cell is written, and none beside it. */
-static void ask_again(const char *what, uint8_t *sheet, size_t code, uint64_t number, uint64_t place, const uint8_t *left) {
+static void ask_enter(const char *what, uint8_t *sheet, size_t code, uint64_t number, uint64_t place, const uint8_t *left) {
     uint64_t cells[3] = {7, 7, 7};
     expect(what, number, sighting_enter(sheet, book, sizeof book, 0, code, cells + 1));
     expect("place of the code sent", place, cells[1]);
@@ -150,15 +150,15 @@ static void answers_sent_again(void) {
     uint8_t sheet[SIGHTING_SHEET_BYTES], faulty[SIGHTING_SHEET_BYTES];
     uint64_t place[1];
     memcpy(sheet, answered, sizeof sheet);
-    ask_again("the code held", sheet, 0, 0, 0, answered);
+    ask_enter("the code held", sheet, 0, 0, 0, answered);
     ask_photograph("photograph it", sheet, 0, 0, 0);
-    ask_again("the code held behind the photograph", sheet, 0, 0, 0, photographed);
-    ask_again("once more", sheet, 0, 0, 0, photographed);
-    ask_again("another code", sheet, 1, 22, 0, photographed);
-    ask_again("the code held behind another", sheet, 0, 0, 0, photographed);
-    ask_again("a code that the field lacks", sheet, 2, 16, 0, photographed);
-    ask_again("the code held but for its high bits", sheet, 256, 16, 0, photographed);
-    ask_again("the code held but for bit 32", sheet, (size_t)1 << 32, 16, 0, photographed);
+    ask_enter("the code held behind the photograph", sheet, 0, 0, 0, photographed);
+    ask_enter("once more", sheet, 0, 0, 0, photographed);
+    ask_enter("another code", sheet, 1, 22, 0, photographed);
+    ask_enter("the code held behind another", sheet, 0, 0, 0, photographed);
+    ask_enter("a code that the field lacks", sheet, 2, 16, 0, photographed);
+    ask_enter("the code held but for its high bits", sheet, 256, 16, 0, photographed);
+    ask_enter("the code held but for bit 32", sheet, (size_t)1 << 32, 16, 0, photographed);
     expect("the code held by no book", 2, sighting_enter(sheet, book, sizeof book - 1, 0, 0, place));
     expect("255 on an open field", 16, sighting_enter(sheet, book, sizeof book, 2, SIGHTING_NO_ANSWER, place));
     expect("the code held beside it", 0, sighting_enter(sheet, book, sizeof book, 1, 1, place));
@@ -166,7 +166,7 @@ static void answers_sent_again(void) {
     memcpy(faulty, photographed, sizeof faulty);
     faulty[1] = 3;
     memcpy(sheet, faulty, sizeof sheet);
-    ask_again("the code held on a sheet at fault", sheet, 0, 14, 1, faulty);
+    ask_enter("the code held on a sheet at fault", sheet, 0, 14, 1, faulty);
 }
 
 /* A byte that is neither 0 nor 1 is a photograph: a refused call leaves it, an accepted one writes 1. */
