@@ -68,11 +68,6 @@ impl Sheet {
         self.has_photograph() && !(0..PLACES).any(|place| self.is_in_doubt(place))
     }
 
-    /// The place is photographed and holds another code: "entering the code already held changes nothing", photographed or not.
-    pub fn keeps_out(&self, place: usize, code: u8) -> bool {
-        self.is_photographed(place) && self.answers[place] != code
-    }
-
     /// Answered, and without a photograph.
     pub fn is_in_doubt(&self, place: usize) -> bool {
         self.is_answered(place) && !self.is_photographed(place)
