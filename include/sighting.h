@@ -46,12 +46,14 @@
  *       19  a stored sheet's length is not the number of fields                  0
  *       20  no book has this listing                                             0
  *       21  the book has no such table, or the field is not in it                0
- *       22  the field is photographed; for storing, some field is                0
+ *       22  a photographed answer would change; for storing, there is one        0
  *
  * 14 looks for the first place that is at fault in any of these ways: a field that holds neither 255 nor one of its codes, a place behind
  * the book's fields that does not hold 255, a place without an answer that is photographed.
  * 20 looks for a number that is missing, left over, or too large for its bytes (two for a number of rows and for the place of the field
  * list, one for any other), and for a book that reading would refuse.
+ * 22 is the refusal of a photographed field for withdraw, and for enter with another code than the one held; and of a sheet that has a
+ * photograph for store.
  * The first refusal in the order that a function's comment gives is the one returned.
  */
 #ifndef SIGHTING_H
@@ -63,8 +65,8 @@
 /*
  * A sheet: for each place the answered code, or SIGHTING_NO_ANSWER; behind all of them, for each place in the same order, 1 if the answer
  * is backed by a photograph, else 0. So byte f has the answer of field f, and byte SIGHTING_PLACES + f tells whether it is photographed.
- * Any other number there counts as 1: a refused call leaves it as it is, an accepted enter, withdraw or photograph writes 1. A sheet has
- * as many places for a book of either version.
+ * Any other number there counts as 1: a refused call leaves it as it is, an accepted enter (also of the code held), withdraw or
+ * photograph writes 1. A sheet has as many places for a book of either version.
  */
 #define SIGHTING_PLACES 60
 #define SIGHTING_SHEET_BYTES 120
@@ -110,9 +112,10 @@ void sighting_fresh(uint8_t *sheet);
 void sighting_clear(uint8_t *sheet);
 
 /*
- * Enters a code as the answer of a field, in the place of an older one; the code need not be standing. A photographed field is refused
- * by 22, even for the code that it holds. Any numbers may be passed: one that is no field of the book is refused by 15, one that is no
- * code of the field by 16.
+ * Enters a code as the answer of a field, in the place of an older one; the code need not be standing. Entering the code that the field
+ * holds is accepted and changes nothing, photographed or not, so that an answer may be sent again. Another code is refused by 22 where
+ * the field is photographed. Any numbers may be passed: one that is no field of the book is refused by 15, one that is no code of the
+ * field by 16.
  *   outcome[1]  place
  * Refusals: 1 to 13, 14, 15, 16, 22.
  */
@@ -127,9 +130,9 @@ uint64_t sighting_enter(uint8_t *sheet, const uint8_t *book, size_t book_len, si
 uint64_t sighting_withdraw(uint8_t *sheet, const uint8_t *book, size_t book_len, size_t field, uint64_t *outcome);
 
 /*
- * Notes that a photograph backs the answer of a field. From then on, until sighting_clear, enter and withdraw are refused on that field
- * and it has no alternatives. Noting it again is accepted and changes nothing. Any number may be passed: one that is no field of the
- * book is refused by 15.
+ * Notes that a photograph backs the answer of a field. From then on, until sighting_clear, withdraw and enter with another code are
+ * refused on that field, and it has no alternatives. Noting it again is accepted and changes nothing. Any number may be passed: one that
+ * is no field of the book is refused by 15.
  *   outcome[1]  place
  * Refusals: 1 to 13, 14, 15, 17.
  */

@@ -114,7 +114,8 @@ static void photographs(void) {
     ask_photograph("photograph", sheet, 0, 0, 0);
     expect_sheet("field 0 photographed", photographed, sheet);
     ask_photograph("photograph again", sheet, 0, 0, 0);
-    expect("enter the code held", 22, sighting_enter(sheet, book, sizeof book, 0, 0, place));
+    expect("enter the code held", 0, sighting_enter(sheet, book, sizeof book, 0, 0, place));
+    expect_sheet("the sheet stays", photographed, sheet);
     expect("enter another code", 22, sighting_enter(sheet, book, sizeof book, 0, 1, place));
     expect("place of 22", 0, place[0]);
     expect("enter no code", 16, sighting_enter(sheet, book, sizeof book, 0, 2, place));
@@ -134,6 +135,40 @@ static void photographs(void) {
     expect_sheet("fresh by a refused load", fresh, sheet);
 }
 
+/* Enters a code on field 0 of a sheet, and the sheet has to be this one then. The one cell is written, and none beside it. */
+static void ask_enter(const char *what, uint8_t *sheet, size_t code, uint64_t number, uint64_t place, const uint8_t *left) {
+    uint64_t cells[3] = {7, 7, 7};
+    expect(what, number, sighting_enter(sheet, book, sizeof book, 0, code, cells + 1));
+    expect("place of the code sent", place, cells[1]);
+    expect("the cell before it", 7, cells[0]);
+    expect("the cell behind it", 7, cells[2]);
+    expect_sheet(what, left, sheet);
+}
+
+/* The answer of field 0 sent again and again, photographed and not, among calls that are refused. */
+static void answers_sent_again(void) {
+    uint8_t sheet[SIGHTING_SHEET_BYTES], faulty[SIGHTING_SHEET_BYTES];
+    uint64_t place[1];
+    memcpy(sheet, answered, sizeof sheet);
+    ask_enter("the code held", sheet, 0, 0, 0, answered);
+    ask_photograph("photograph it", sheet, 0, 0, 0);
+    ask_enter("the code held behind the photograph", sheet, 0, 0, 0, photographed);
+    ask_enter("once more", sheet, 0, 0, 0, photographed);
+    ask_enter("another code", sheet, 1, 22, 0, photographed);
+    ask_enter("the code held behind another", sheet, 0, 0, 0, photographed);
+    ask_enter("a code that the field lacks", sheet, 2, 16, 0, photographed);
+    ask_enter("the code held but for its high bits", sheet, 256, 16, 0, photographed);
+    ask_enter("the code held but for bit 32", sheet, (size_t)1 << 32, 16, 0, photographed);
+    expect("the code held by no book", 2, sighting_enter(sheet, book, sizeof book - 1, 0, 0, place));
+    expect("255 on an open field", 16, sighting_enter(sheet, book, sizeof book, 2, SIGHTING_NO_ANSWER, place));
+    expect("the code held beside it", 0, sighting_enter(sheet, book, sizeof book, 1, 1, place));
+    expect_sheet("the sheet stays byte for byte", photographed, sheet);
+    memcpy(faulty, photographed, sizeof faulty);
+    faulty[1] = 3;
+    memcpy(sheet, faulty, sizeof sheet);
+    ask_enter("the code held on a sheet at fault", sheet, 0, 14, 1, faulty);
+}
+
 /* A byte that is neither 0 nor 1 is a photograph: a refused call leaves it, an accepted one writes 1. */
 static void bytes_of_photographs(void) {
     uint8_t sheet[SIGHTING_SHEET_BYTES];
@@ -142,21 +177,26 @@ static void bytes_of_photographs(void) {
         memcpy(sheet, answered, sizeof sheet);
         sheet[SIGHTING_PLACES] = (uint8_t)byte;
         expect("withdraw a photographed field", 22, sighting_withdraw(sheet, book, sizeof book, 0, place));
-        expect("enter on a photographed field", 22, sighting_enter(sheet, book, sizeof book, 0, 0, place));
+        expect("enter another code on a photographed field", 22, sighting_enter(sheet, book, sizeof book, 0, 1, place));
         ask_photograph("photograph no field", sheet, 3, 15, 0);
         expect("its byte stays", (uint64_t)byte, sheet[SIGHTING_PLACES]);
         expect("enter beside it", 0, sighting_enter(sheet, book, sizeof book, 1, 1, place));
         expect_sheet("its byte is 1", photographed, sheet);
+        sheet[SIGHTING_PLACES] = (uint8_t)byte;
+        expect("enter the code held", 0, sighting_enter(sheet, book, sizeof book, 0, 0, place));
+        expect_sheet("its byte is 1 again", photographed, sheet);
         sheet[SIGHTING_PLACES + 2] = (uint8_t)byte;
         ask_photograph("a photograph without an answer", sheet, 0, 14, 2);
         expect("that byte stays", (uint64_t)byte, sheet[SIGHTING_PLACES + 2]);
     }
 }
 
-/* A list with a photograph: kind 3, whose third byte is not read. */
+/* A list with a photograph: kind 3, whose third byte is not read. Answers are sent again behind it. */
 static void photographs_in_a_list(void) {
     static const uint8_t calls[] = {SIGHTING_CALL_ENTER,      0, 0, SIGHTING_CALL_ENTER,    1, 1, SIGHTING_CALL_PHOTOGRAPH, 2, 0,
-                                    SIGHTING_CALL_PHOTOGRAPH, 0, 9, SIGHTING_CALL_WITHDRAW, 0, 0, SIGHTING_CALL_ENTER,      0, 1};
+                                    SIGHTING_CALL_PHOTOGRAPH, 0, 9, SIGHTING_CALL_ENTER,    0, 0, SIGHTING_CALL_ENTER,      0, 0,
+                                    SIGHTING_CALL_WITHDRAW,   0, 0, SIGHTING_CALL_ENTER,    0, 1, SIGHTING_CALL_ENTER,      0, 2,
+                                    SIGHTING_CALL_ENTER,      0, 0, SIGHTING_CALL_ENTER,    1, 1};
     uint8_t sheet[SIGHTING_SHEET_BYTES], pairs[SIGHTING_PAIRS_BYTES];
     uint64_t found[3];
     memset(sheet, 7, sizeof sheet);
@@ -341,7 +381,8 @@ static void sixty_fields(void) {
 
 /* All fields photographed one after the other: what is struck is less by a case each time, and in the end there is no line. */
 static void sixty_photographs(void) {
-    uint8_t bytes[66], sheet[SIGHTING_SHEET_BYTES], pairs[SIGHTING_PAIRS_BYTES], stored[SIGHTING_STORED_BYTES];
+    uint8_t bytes[66], sheet[SIGHTING_SHEET_BYTES], given[SIGHTING_SHEET_BYTES];
+    uint8_t pairs[SIGHTING_PAIRS_BYTES], stored[SIGHTING_STORED_BYTES];
     uint64_t place[1], found[3];
     size_t length = sixty(bytes);
     memset(stored, 31, sizeof stored);
@@ -356,6 +397,13 @@ static void sixty_photographs(void) {
     expect("photograph field 60", 15, sighting_photograph(sheet, bytes, length, 60, place));
     expect("store", 22, sighting_store(sheet, bytes, length, stored, sizeof stored, place));
     expect("withdraw field 59", 22, sighting_withdraw(sheet, bytes, length, 59, place));
+    memcpy(given, sheet, sizeof given);
+    for (size_t field = 0; field < 60; field++) expect("enter it again", 0, sighting_enter(sheet, bytes, length, field, 31, place));
+    expect_sheet("sixty answers sent again", given, sheet);
+    expect("enter another code of field 59", 22, sighting_enter(sheet, bytes, length, 59, 30, place));
+    expect("enter no code of field 59", 16, sighting_enter(sheet, bytes, length, 59, 32, place));
+    expect("enter field 59 again", 0, sighting_enter(sheet, bytes, length, 59, 31, place));
+    expect_sheet("field 59 sent again", given, sheet);
     sheet[59] = SIGHTING_NO_ANSWER;
     expect("field 59 photographed without an answer", 14, sighting_photograph(sheet, bytes, length, 0, place));
     expect("its place", 59, place[0]);
@@ -387,6 +435,7 @@ int main(void) {
     read_only_sheet();
     read_only_photographs();
     photographs();
+    answers_sent_again();
     bytes_of_photographs();
     photographs_in_a_list();
     row_outcome();

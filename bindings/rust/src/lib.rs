@@ -42,6 +42,7 @@
 //! let found = sheet.alternatives(&book, &mut pairs)?;
 //! assert_eq!((found.total, found.struck), (2, 8));
 //! assert_eq!(pairs[..4], [1, 0, 1, 1]);
+//! sheet.enter(&book, 0, 0)?; // the same answer sent again is accepted, and the sheet stays as it is
 //! assert_eq!(sheet.enter(&book, 0, 1).unwrap_err().number, 22);
 //! # Ok(())
 //! # }
@@ -280,8 +281,8 @@ impl Sheet {
         unsafe { ffi::sighting_clear(self.0.as_mut_ptr()) };
     }
 
-    /// Enters a code as the answer of a field. Refusals: 1 to 13, 14, 15, 16, and 22 for a photographed field, even where it holds the
-    /// code.
+    /// Enters a code as the answer of a field. The code that the field holds is accepted and changes nothing, photographed or not.
+    /// Refusals: 1 to 13, 14, 15, 16, and 22 for another code on a photographed field.
     pub fn enter(&mut self, book: &[u8], field: usize, code: usize) -> Result<(), Refusal> {
         let mut cells = [0; 1];
         let number =
@@ -296,8 +297,8 @@ impl Sheet {
         answer(number, cells[0], ())
     }
 
-    /// Notes that a photograph backs the answer of a field. From then on, until [`Sheet::clear`], enter and withdraw are refused on that
-    /// field and it has no alternatives. Noting it again changes nothing. Refusals: 1 to 13, 14, 15, 17.
+    /// Notes that a photograph backs the answer of a field. From then on, until [`Sheet::clear`], withdraw and enter with another code
+    /// are refused on that field, and it has no alternatives. Noting it again changes nothing. Refusals: 1 to 13, 14, 15, 17.
     pub fn photograph(&mut self, book: &[u8], field: usize) -> Result<(), Refusal> {
         let mut cells = [0; 1];
         let number =

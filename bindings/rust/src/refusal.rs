@@ -34,7 +34,7 @@ const MEANINGS: [&str; 22] = [
     "the stored sheet's length is not the number of fields",
     "no book has this listing",
     "the book has no such table, or the field is not in it",
-    "the field is photographed; for storing, some field is",
+    "a photographed answer would change; for storing, there is one",
 ];
 
 impl Refusal {
@@ -64,7 +64,7 @@ mod tests {
         assert_eq!(meaning(19), "the stored sheet's length is not the number of fields");
         assert_eq!(meaning(20), "no book has this listing");
         assert_eq!(meaning(21), "the book has no such table, or the field is not in it");
-        assert_eq!(meaning(22), "the field is photographed; for storing, some field is");
+        assert_eq!(meaning(22), "a photographed answer would change; for storing, there is one");
         assert_eq!((meaning(0), meaning(23)), ("no refusal has this number", "no refusal has this number"));
         assert_eq!(Refusal { number: 3, place: 33 }.to_string(), "refused 3 at 33: the version is neither 1 nor 2");
     }

@@ -110,9 +110,30 @@ fn bytes_of_a_photograph() {
         bytes[PLACES] = byte;
         let mut sheet = Sheet::from(bytes);
         assert_eq!(sheet, photographed());
-        assert_eq!(sheet.withdraw(&BOOK, 0), Err(PHOTOGRAPHED));
+        assert_eq!((sheet.withdraw(&BOOK, 0), sheet.enter(&BOOK, 0, 1)), (Err(PHOTOGRAPHED), Err(PHOTOGRAPHED)));
+        assert_eq!(sheet.bytes(), photographed().bytes());
+        assert_eq!(sheet.enter(&BOOK, 0, 0), Ok(()));
         assert_eq!(sheet.bytes(), photographed().bytes());
     }
+}
+
+/// The code held is accepted with and without a photograph, before and behind refused calls, and the sheet stays equal.
+#[test]
+fn an_answer_may_be_sent_again() {
+    for given in [answered(), photographed()] {
+        let mut sheet = given;
+        assert_eq!((sheet.enter(&BOOK, 0, 0), sheet.enter(&BOOK, 1, 1), sheet.enter(&BOOK, 0, 0)), (Ok(()), Ok(()), Ok(())));
+        assert_eq!(sheet, given);
+    }
+    let mut sheet = photographed();
+    assert_eq!((sheet.enter(&BOOK, 0, 1), sheet.enter(&BOOK, 0, 0)), (Err(PHOTOGRAPHED), Ok(())));
+    assert_eq!((sheet.withdraw(&BOOK, 0), sheet.enter(&BOOK, 0, 0)), (Err(PHOTOGRAPHED), Ok(())));
+    assert_eq!((sheet.enter(&BOOK, 0, 256), sheet.enter(&BOOK, 2, 255)), (Err(NO_CODE), Err(NO_CODE)));
+    assert_eq!(sheet.enter(&BOOK[..34], 0, 0), Err(Refusal { number: 2, place: 33 }));
+    assert_eq!(sheet, photographed());
+    let mut places = *photographed().bytes();
+    places[1] = 3;
+    assert_eq!(Sheet::from(places).enter(&BOOK, 0, 0), Err(Refusal { number: 14, place: 1 }));
 }
 
 /// E1 with field 0 photographed: field 1 alone has alternatives, and what is struck are those of two cases.
@@ -126,8 +147,8 @@ fn a_photographed_answer_is_not_in_doubt() {
     assert_eq!(numbers[..4], [3, 2, 6, 7]);
     assert_eq!(sheet.store(&BOOK, &mut [7; STORED_BYTES]), Err(PHOTOGRAPHED));
     assert_eq!(sheet.store(&BOOK, &mut []), Err(PHOTOGRAPHED));
-    assert_eq!((sheet.enter(&BOOK, 0, 0), sheet.enter(&BOOK, 0, 1)), (Err(PHOTOGRAPHED), Err(PHOTOGRAPHED)));
-    assert_eq!((sheet.enter(&BOOK, 0, 2), sheet.withdraw(&BOOK, 0)), (Err(NO_CODE), Err(PHOTOGRAPHED)));
+    assert_eq!((sheet.enter(&BOOK, 0, 1), sheet.withdraw(&BOOK, 0)), (Err(PHOTOGRAPHED), Err(PHOTOGRAPHED)));
+    assert_eq!((sheet.enter(&BOOK, 0, 0), sheet.enter(&BOOK, 0, 2)), (Ok(()), Err(NO_CODE)));
     assert_eq!((sheet.photograph(&BOOK, 2), sheet.photograph(&BOOK, 3)), (Err(NO_ANSWER_YET), Err(NO_FIELD)));
     assert_eq!((sheet.photograph(&BOOK, 0), sheet), (Ok(()), photographed()));
     assert_eq!((sheet.enter(&BOOK, 1, 2), sheet.withdraw(&BOOK, 1)), (Ok(()), Ok(())));
@@ -212,6 +233,8 @@ fn a_replay_takes_photographs() {
         Sheet::replay(&BOOK, &bytes, &mut [0; PAIRS_BYTES])
     };
     assert_eq!(replay(&list), (photographed(), found));
+    let resent = [&list[..], &[enter(0, 0), enter(1, 1), enter(0, 0), enter(0, 1), enter(0, 0)]].concat();
+    assert_eq!(replay(&resent), (photographed(), found));
     let cleared = [&list[..], &[Call::Clear, enter(0, 0), enter(1, 1)]].concat();
     assert_eq!(replay(&cleared), (answered(), Ok(Alternatives { total: 4, struck: 11 })));
 }

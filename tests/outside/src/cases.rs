@@ -1,4 +1,4 @@
-//! Seeded cases for the calls: a book, a sheet, and one call of each kind, but two for a row.
+//! Seeded cases for the calls: a book, a sheet, and one call of each kind, but two to enter a code and two for a row.
 
 use crate::asking;
 use crate::book::{field_limit, Book, Table};
@@ -336,14 +336,31 @@ fn answer(r: &mut Random, book: &Book, sheet: &Sheet) -> (u8, u8) {
     }
 }
 
+/// A field and a code to enter once more: mostly of a photographed field, if there is one, and the code held, or what stands in an open
+/// place; else another code of the field, or any.
+fn again(r: &mut Random, book: &Book, sheet: &Sheet) -> (u8, u8) {
+    let field = match photographs::some_photographed(r, book, sheet) {
+        Some(field) if !r.one_in(4) => field,
+        _ => field(r, book),
+    };
+    let any = code(r, book, field);
+    let code = match r.from(0, 7) {
+        0..=4 => sheet.answers.get(field as usize).copied(),
+        5..=6 => photographs::another_code(r, book, sheet, field),
+        _ => None,
+    };
+    (field, code.unwrap_or(any))
+}
+
 fn calls(r: &mut Random, book: &Book, sheet: &Sheet) -> Vec<Call> {
-    let (entered, entered_code) = answer(r, book, sheet);
+    let (entered, again) = (answer(r, book, sheet), again(r, book, sheet));
     let (withdrawn, relaxed, photographed) = (answered(r, book, sheet), answered(r, book, sheet), answered(r, book, sheet));
     vec![
         Call::Read,
         Call::Fresh,
         Call::Clear,
-        Call::Enter { field: widened(r, entered), code: widened(r, entered_code) },
+        Call::Enter { field: widened(r, entered.0), code: widened(r, entered.1) },
+        Call::Enter { field: widened(r, again.0), code: widened(r, again.1) },
         Call::Withdraw { field: widened(r, withdrawn) },
         Call::Photograph { field: widened(r, photographed) },
         Call::Filtered { relaxed: widened(r, relaxed) },

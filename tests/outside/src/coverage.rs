@@ -10,9 +10,10 @@ use crate::desk::{opened, Desk, Reading};
 use crate::faults::FAULTS;
 use crate::listing::book_bytes;
 use crate::listings::{reason, ways, REASONS};
-use crate::made::{self, Made};
+use crate::made::{self, of_list, Made, Shape};
 use crate::photograph_shapes;
 use crate::reader::Reader;
+use crate::resend_shapes;
 use crate::row_shapes::{self, Asked as RowAsked};
 use crate::shapes::{shapes, PHOTOGRAPHED, SHAPES};
 use crate::sheet::Sheet;
@@ -29,7 +30,7 @@ pub struct Coverage {
     /// What the cases had beside that, by its name.
     had: BTreeMap<String, u64>,
     /// What the calls that list had to list, the lengths lent for it, what the calls that count had to count, what the calls for a row
-    /// had to find, and what each call had of M-103 and M-105, by call and name.
+    /// had to find, and what each call had of M-103, M-105 and M-107, by call and name.
     by_call: BTreeMap<(&'static str, &'static str), u64>,
 }
 
@@ -94,7 +95,7 @@ const LENGTHS: [Length; 5] = [
     ("the wider list's", |lent, asked| lent == asked.wider),
 ];
 
-/// How often each of them has to be lent in a run of 35,000 cases.
+/// How often each of them has to be lent in a run of 37,500 cases.
 const LENGTHS_ASKED: u64 = 200;
 
 /// The sheet whose alternatives the call lists; none where it is refused.
@@ -144,9 +145,11 @@ impl Coverage {
         }
         trials.iter().for_each(|trial| self.note_trial(reading, trial));
         for of_call in of_each_call(trials) {
-            let made: Vec<Made> = of_call.iter().map(|trial| Made { case, reading, trial }).collect();
-            made::shapes(versions::SHAPES, &made).for_each(|shape| self.count(of_call[0].call, shape));
-            made::shapes(photograph_shapes::SHAPES, &made).for_each(|shape| self.count(of_call[0].call, shape));
+            let steps = of_list(reading, of_call[0].call);
+            let made: Vec<Made> = of_call.iter().map(|trial| Made { case, reading, trial, steps: &steps }).collect();
+            for all in [versions::SHAPES, photograph_shapes::SHAPES, resend_shapes::SHAPES] {
+                made::shapes(all, &made).for_each(|shape| self.count(of_call[0].call, shape));
+            }
         }
     }
 
@@ -233,8 +236,16 @@ impl Coverage {
         complete = LISTING.iter().fold(complete, |complete, call| complete & self.print_listed(call));
         complete = COUNTING.iter().fold(complete, |complete, call| complete & self.print_counted(call));
         complete &= print_had("rows", row_shapes::all().map(|(name, least)| self.had_by("row", name, least)));
-        complete = kinds.iter().fold(complete, |complete, (call, _)| complete & self.print_versions(call));
-        OF_A_SHEET.iter().chain(MAKING).fold(complete, |complete, call| complete & self.print_photographs(call))
+        for (call, _) in &kinds {
+            complete &= self.print_made("versions, fields and places", versions::SHAPES, call);
+        }
+        for call in OF_A_SHEET.iter().chain(MAKING) {
+            complete &= self.print_made("photographs", photograph_shapes::SHAPES, call);
+        }
+        for call in resend_shapes::CALLS {
+            complete &= self.print_made("answers sent again", resend_shapes::SHAPES, call);
+        }
+        complete
     }
 
     /// How often the call had this.
@@ -259,16 +270,9 @@ impl Coverage {
         print_had(&format!("tables for {call}"), tables)
     }
 
-    /// Prints which versions, fields and places the call had, and answers whether each shape was had often enough.
-    fn print_versions(&self, call: &'static str) -> bool {
-        let shapes = made::asked(versions::SHAPES, call).map(|(name, least)| self.had_by(call, name, least));
-        print_had(&format!("versions, fields and places for {call}"), shapes)
-    }
-
-    /// Prints which photographs the call had, and answers whether each shape was had often enough.
-    fn print_photographs(&self, call: &'static str) -> bool {
-        let shapes = made::asked(photograph_shapes::SHAPES, call).map(|(name, least)| self.had_by(call, name, least));
-        print_had(&format!("photographs for {call}"), shapes)
+    /// Prints how often the call had each of these shapes, and answers whether all were had often enough.
+    fn print_made(&self, what: &str, all: &'static [Shape], call: &'static str) -> bool {
+        print_had(&format!("{what} for {call}"), made::asked(all, call).map(|(name, least)| self.had_by(call, name, least)))
     }
 
     /// Prints how often and at how many places the call was refused in each way, and answers whether all were reached.

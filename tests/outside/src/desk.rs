@@ -13,6 +13,12 @@ use crate::text::report;
 /// What reading a book answers.
 pub type Reading = Result<Book, Refusal>;
 
+/// The sheet after a code of a field was entered, and 22.
+pub type Enter = fn(&Sheet, usize, u8) -> Result<Sheet, Refusal>;
+
+/// The number of each call of a list, and the sheet after the last.
+pub type Reached = (Vec<u64>, Sheet);
+
 pub struct Desk {
     pub reader: Reader,
     pub different_rows: fn(&Book) -> usize,
@@ -20,8 +26,11 @@ pub struct Desk {
     pub alternatives: fn(&Book, &Sheet, Filter) -> Alternatives,
     pub row: row::Search,
     pub load: fn(&Book, &[u8]) -> Result<Sheet, Refusal>,
+    pub enter: Enter,
     /// One call of a list: its number, and the sheet after it.
-    pub step: fn(&Book, &mut Sheet, &[u8]) -> u64,
+    pub step: fn(Enter, &Book, &mut Sheet, &[u8]) -> u64,
+    /// What a list of calls reaches by an accepted book.
+    pub list: fn(&Desk, &Book, &[u8]) -> Reached,
     /// The numbers of a book's listing.
     pub listing: fn(&Book) -> Vec<u16>,
     /// The call with its arguments as the desk takes them.
@@ -39,7 +48,9 @@ impl Default for Desk {
             alternatives,
             row: row::first_row,
             load,
-            step,
+            enter,
+            step: step_by,
+            list,
             listing: |book| Listing::of(book).numbers(),
             taken: Call::clone,
             held: Sheet::in_bits,
@@ -102,11 +113,11 @@ fn refuse_if(so: bool, number: u64) -> Result<(), Refusal> {
     Ok(())
 }
 
-fn enter(reading: &Reading, sheet: &Sheet, field: usize, code: usize) -> Result<Sheet, Refusal> {
-    has_code(opened(reading, sheet)?, field, code)?;
-    refuse_if(sheet.is_photographed(field), 22)?;
+/// "Entering the code already held changes nothing", and goes before 22: a photographed field refuses other codes.
+pub fn enter(sheet: &Sheet, field: usize, code: u8) -> Result<Sheet, Refusal> {
+    refuse_if(sheet.is_photographed(field) && sheet.answers[field] != code, 22)?;
     let mut entered = *sheet;
-    entered.answers[field] = code as u8;
+    entered.answers[field] = code;
     Ok(entered)
 }
 
@@ -165,21 +176,36 @@ pub fn is_on_field(call: &[u8]) -> bool {
     matches!(call[0], 0 | 1 | 3)
 }
 
-/// Any kind but 0 to 3 is no call.
+/// A call of a list as the right desk makes it.
 pub fn step(book: &Book, sheet: &mut Sheet, call: &[u8]) -> u64 {
+    step_by(enter, book, sheet, call)
+}
+
+/// Any kind but 0 to 3 is no call.
+fn step_by(enter: Enter, book: &Book, sheet: &mut Sheet, call: &[u8]) -> u64 {
     let (kind, field, code) = (call[0], call[1] as usize, call[2]);
     match kind {
         _ if is_on_field(call) && field >= book.counts.len() => return 15,
         0 if is_no_code(book, field, code) => return 16,
         1 | 3 if !sheet.is_answered(field) => return 17,
-        0 | 1 if sheet.is_photographed(field) => return 22,
-        0 => sheet.answers[field] = code,
+        1 if sheet.is_photographed(field) => return 22,
+        0 => match enter(sheet, field, code) {
+            Ok(entered) => *sheet = entered,
+            Err(r) => return r.number,
+        },
         1 => sheet.answers[field] = NO_ANSWER,
         2 => *sheet = FRESH,
         3 => sheet.photographs[field] = 1,
         _ => {}
     }
     0
+}
+
+/// Each call of a list is made on the sheet that the one before it hands back, and the first on a fresh one.
+fn list(desk: &Desk, book: &Book, calls: &[u8]) -> Reached {
+    let mut sheet = FRESH;
+    let numbers = calls.chunks_exact(3).map(|call| (desk.step)(desk.enter, book, &mut sheet, call)).collect();
+    (numbers, sheet)
 }
 
 /// An answer that writes nothing, from the sheet that it hands back.
@@ -208,6 +234,12 @@ fn counted<T>(elements: Vec<T>) -> (Vec<u64>, Vec<T>) {
 }
 
 impl Desk {
+    /// 1 to 13, 14, 15, 16, 22.
+    fn entered(&self, reading: &Reading, sheet: &Sheet, field: usize, code: usize) -> Result<Sheet, Refusal> {
+        has_code(opened(reading, sheet)?, field, code)?;
+        (self.enter)(sheet, field, code as u8)
+    }
+
     fn read(&self, reading: &Reading) -> Result<Vec<u64>, Refusal> {
         let book = accepted(reading)?;
         let counts = [book.counts.len(), book.tables.len(), book.rows(), (self.different_rows)(book)];
@@ -246,13 +278,11 @@ impl Desk {
 
     /// The number of each call of a list and the sheet after it, from the book and the arguments alone: it holds the answers and
     /// photographs after the list, and 255 and no photograph elsewhere. By a refused book each call but clear is refused.
-    pub fn after(&self, reading: &Reading, calls: &[u8]) -> (Vec<u64>, Sheet) {
-        let mut sheet = FRESH;
-        let numbers = match reading {
-            Ok(book) => calls.chunks_exact(3).map(|call| (self.step)(book, &mut sheet, call)).collect(),
-            Err(r) => calls.chunks_exact(3).map(|call| if is_on_field(call) { r.number } else { 0 }).collect(),
-        };
-        (numbers, sheet)
+    pub fn after(&self, reading: &Reading, calls: &[u8]) -> Reached {
+        match reading {
+            Ok(book) => (self.list)(self, book, calls),
+            Err(r) => (calls.chunks_exact(3).map(|call| if is_on_field(call) { r.number } else { 0 }).collect(), FRESH),
+        }
     }
 
     /// The bytes of the book that a listing says: 20.
@@ -267,7 +297,7 @@ impl Desk {
         match (self.taken)(call) {
             Call::Read => counting(self.read(reading), *sheet),
             Call::Fresh | Call::Clear => handing_back(Ok(FRESH), sheet),
-            Call::Enter { field, code } => handing_back(enter(reading, held, field, code), sheet),
+            Call::Enter { field, code } => handing_back(self.entered(reading, held, field, code), sheet),
             Call::Withdraw { field } => handing_back(withdraw(reading, held, field), sheet),
             Call::Photograph { field } => handing_back(photograph(reading, held, field), sheet),
             Call::Load { form } => handing_back(self.loaded(reading, &form), &FRESH),
@@ -315,11 +345,23 @@ mod tests {
         let refused =
             [[3, 1, 0], [3, 0, 0], [0, 0, 1], [3, 0, 9], [3, 0, 9], [0, 0, 1], [0, 0, 0], [0, 0, 2], [1, 0, 0], [4, 0, 0]];
         let (numbers, reached) = desk.after(&book(), &refused.concat());
-        assert_eq!((numbers, reached), (vec![15, 17, 0, 0, 0, 22, 22, 16, 22, 0], Sheet::of(&[1]).with_photographs(&[0])));
+        assert_eq!((numbers, reached), (vec![15, 17, 0, 0, 0, 0, 22, 16, 22, 0], Sheet::of(&[1]).with_photographs(&[0])));
         let cleared = [&refused[..], &[[2, 0, 0], [3, 0, 0], [0, 0, 0], [1, 0, 0], [0, 0, 0]]].concat().concat();
         let (numbers, reached) = desk.after(&book(), &cleared);
         assert_eq!((&numbers[10..], reached), (&[0, 17, 0, 0, 0][..], Sheet::of(&[0])));
         assert_eq!(desk.after(&refuse(9, 4), &[3, 0, 0, 2, 0, 0, 4, 0, 0]), (vec![9, 0, 0], FRESH));
+    }
+
+    /// "Tablets resend answers": at once, in a row, behind a photograph, behind refused calls; behind a clear it is a first answer.
+    #[test]
+    fn answers_resent_in_a_list_of_calls() {
+        let (desk, photographed) = (Desk::default(), Sheet::of(&[1]).with_photographs(&[0]));
+        let list =
+            [[0, 0, 1], [0, 0, 1], [3, 0, 0], [0, 0, 1], [0, 0, 1], [0, 0, 0], [0, 0, 1], [1, 0, 0], [0, 0, 1], [0, 0, 255]];
+        assert_eq!(desk.after(&book(), &list.concat()), (vec![0, 0, 0, 0, 0, 22, 0, 22, 0, 16], photographed));
+        let cleared = [&list[..], &[[2, 0, 0], [0, 0, 0], [0, 0, 0], [0, 0, 1]]].concat().concat();
+        let (numbers, reached) = desk.after(&book(), &cleared);
+        assert_eq!((&numbers[10..], reached), (&[0, 0, 0, 0][..], Sheet::of(&[1])));
     }
 
     #[test]
@@ -343,8 +385,12 @@ mod tests {
         assert_eq!(left(Call::Photograph { field: 0 }, photographed), (0, 0, photographed));
         assert_eq!(left(Call::Photograph { field: 0 }, FRESH), (17, 0, FRESH));
         assert_eq!(left(Call::Photograph { field: 1 }, FRESH), (15, 0, FRESH));
-        assert_eq!(left(Call::Enter { field: 0, code: 1 }, photographed), (22, 0, photographed));
+        assert_eq!(left(Call::Enter { field: 0, code: 1 }, held), (0, 0, held));
+        assert_eq!(left(Call::Enter { field: 0, code: 1 }, photographed), (0, 0, photographed));
+        assert_eq!(left(Call::Enter { field: 0, code: 0 }, photographed), (22, 0, photographed));
         assert_eq!(left(Call::Enter { field: 0, code: 2 }, photographed), (16, 0, photographed));
+        assert_eq!(left(Call::Enter { field: 0, code: 257 }, photographed), (16, 0, photographed));
+        assert_eq!(left(Call::Enter { field: 0, code: 255 }, FRESH), (16, 0, FRESH));
         assert_eq!(left(Call::Enter { field: 1, code: 0 }, photographed), (15, 0, photographed));
         assert_eq!(left(Call::Withdraw { field: 0 }, photographed), (22, 0, photographed));
         assert_eq!(left(Call::Filtered { relaxed: 0 }, photographed), (0, 0, photographed));
@@ -362,10 +408,14 @@ mod tests {
             let mut sheet = Sheet::of(&[1, 1]);
             sheet.photographs[0] = byte;
             let answer = |call: Call| Desk::default().answer(&call, &two, &sheet);
-            let refused = answer(Call::Withdraw { field: 0 });
-            assert_eq!((refused.result, refused.sheet), (refuse(22, 0), sheet));
-            let accepted = answer(Call::Withdraw { field: 1 });
-            assert_eq!((accepted.result, accepted.sheet), (Ok(Vec::new()), Sheet::of(&[1]).with_photographs(&[0])));
+            for call in [Call::Withdraw { field: 0 }, Call::Enter { field: 0, code: 0 }] {
+                let refused = answer(call);
+                assert_eq!((refused.result, refused.sheet), (refuse(22, 0), sheet));
+            }
+            for (call, held) in [(Call::Withdraw { field: 1 }, &[1][..]), (Call::Enter { field: 0, code: 1 }, &[1, 1])] {
+                let accepted = answer(call);
+                assert_eq!((accepted.result, accepted.sheet), (Ok(Vec::new()), Sheet::of(held).with_photographs(&[0])));
+            }
         }
     }
 

@@ -29,6 +29,8 @@ pub mod photographs;
 pub mod random;
 pub mod reader;
 pub mod repeats;
+pub mod resend_shapes;
+pub mod resends;
 pub mod row;
 #[cfg(test)]
 mod row_edges;
@@ -37,6 +39,7 @@ pub mod shapes;
 pub mod sheet;
 pub mod slips;
 pub mod standing;
+pub mod steps;
 pub mod tables;
 pub mod text;
 pub mod turned;

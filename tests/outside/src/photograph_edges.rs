@@ -1,5 +1,5 @@
-//! The library at each edge of document 02's M-105: every place photographed with an answer and without, every byte for it, every field
-//! alone and all but one, and every kind of call in a list.
+//! The library at each edge of document 02's M-105 and M-107: every place photographed with an answer and without, every field alone and
+//! all but one, every answer sent again, and every kind of call in a list.
 
 use sighting::{Alternatives, Refusal, Sheet};
 use sighting::{NO_ANSWER, NUMBERS, PAIRS_BYTES, PLACES, STORED_BYTES};
@@ -57,13 +57,16 @@ fn a_photograph_at_each_place() {
         let fault = if place < answered { Ok(()) } else { Err(refused(14, place as u64)) };
         let or_14 = |otherwise: Result<(), Refusal>| fault.and(otherwise);
         assert_eq!(sheet.photograph(&book, place), fault, "{fields} fields, {answered} answered, {place} photographed");
-        assert_eq!(sheet.enter(&book, place, 0), or_14(Err(PHOTOGRAPHED)));
+        assert_eq!(sheet.enter(&book, place, 0), fault);
+        assert_eq!(sheet.enter(&book, place, 1), or_14(Err(PHOTOGRAPHED)));
+        assert_eq!(sheet.enter(&book, place, 2), or_14(Err(refused(16, 0))));
         assert_eq!(sheet.withdraw(&book, place), or_14(Err(PHOTOGRAPHED)));
         assert_eq!(sheet.store(&book, &mut [7; STORED_BYTES]), or_14(Err(PHOTOGRAPHED)));
         assert_eq!(sheet.store(&book, &mut []), or_14(Err(PHOTOGRAPHED)));
         assert_eq!(sheet.filtered(&book, Some(place), &mut [7; NUMBERS]), fault);
         assert_eq!(sheet.alternatives(&book, &mut [7; PAIRS_BYTES]).map(drop), fault);
         assert_eq!(sheet.row(&book, 0, 0, 0).map(drop), or_14(Err(refused(21, 0))));
+        assert_eq!(sheet, self::sheet(answered, &[place]));
         sheet.clear();
         assert_eq!(sheet, Sheet::fresh());
     }
@@ -114,12 +117,49 @@ fn all_fields_but_one_photographed() {
     }
 }
 
-/// A call of each kind on an answer, and the photograph's third byte.
+/// Each field holds a code of its own: with all photographed that one alone is accepted, the first time and the second.
+#[test]
+fn every_code_of_every_photographed_field() {
+    let (book, all) = (Book::new(vec![32; PLACES], Vec::new()).write(), (0..PLACES).collect::<Vec<_>>());
+    let held: Vec<u8> = (0..PLACES as u8).map(|field| field % 32).collect();
+    let given = Sheet::from(sheet::Sheet::of(&held).with_photographs(&all));
+    let mut sheet = given;
+    for (field, code) in all.iter().flat_map(|&field| (0..33).map(move |code| (field, code))) {
+        let expected = match code {
+            32 => Err(refused(16, 0)),
+            _ if code == field % 32 => Ok(()),
+            _ => Err(PHOTOGRAPHED),
+        };
+        assert_eq!((sheet.enter(&book, field, code), sheet.enter(&book, field, code)), (expected, expected));
+        assert_eq!(sheet, given, "field {field}, code {code}");
+    }
+}
+
+/// The whole sheet sent again, twice, where no answer is photographed, the first, the last, all but one, or all; in a list too.
+#[test]
+fn a_sheet_resent() {
+    for fields in [1, 31, 32, 33, 59, 60] {
+        let (book, last) = (bytes(fields), fields - 1);
+        let enters: Vec<u8> = (0..fields as u8).flat_map(|field| [0, field, 0]).collect();
+        for photographed in [vec![], vec![0], vec![last], (0..last).collect(), (0..fields).collect()] {
+            let (given, mut sheet) = (sheet(fields, &photographed), sheet(fields, &photographed));
+            assert!((0..2 * fields).all(|i| sheet.enter(&book, i % fields, 0).is_ok()));
+            assert_eq!(sheet, given, "{photographed:?} of {fields}");
+            let photographs: Vec<u8> = photographed.iter().flat_map(|&field| [3, field as u8, 0]).collect();
+            let others: Vec<u8> = photographed.iter().flat_map(|&field| [0, field as u8, 1]).collect();
+            let list = [&enters[..], &photographs, &enters, &others, &enters].concat();
+            let (reached, found) = Sheet::replay(&book, &list, &mut [7; PAIRS_BYTES]);
+            assert_eq!((reached, found.map(|found| found.total)), (given, Ok(2 * (fields - photographed.len()) as u64)));
+        }
+    }
+}
+
+/// A call of each kind on an answer, photographed or not, and the photograph's third byte.
 #[test]
 fn each_kind_of_call_in_a_list() {
     let (book, held) = (bytes(2), [[0, 0, 0], [0, 1, 0]].concat());
+    let reached = |calls: &[u8]| Sheet::replay(&book, &[&held[..], calls].concat(), &mut [7; PAIRS_BYTES]).0;
     for (kind, code) in (0..=255).flat_map(|kind| [0, 1, 2, 255].map(|code| (kind, code))) {
-        let (reached, _) = Sheet::replay(&book, &[&held[..], &[kind, 1, code]].concat(), &mut [7; PAIRS_BYTES]);
         let expected = match (kind, code) {
             (0, 1) => sheet::Sheet::of(&[0, 1]).into(),
             (1, _) => sheet(1, &[]),
@@ -127,7 +167,9 @@ fn each_kind_of_call_in_a_list() {
             (3, _) => sheet(2, &[1]),
             _ => sheet(2, &[]),
         };
-        assert_eq!(reached, expected, "kind {kind}, code {code}");
+        assert_eq!(reached(&[kind, 1, code]), expected, "kind {kind}, code {code}");
+        let photographed = if kind == 2 { Sheet::fresh() } else { sheet(2, &[1]) };
+        assert_eq!(reached(&[3, 1, 0, kind, 1, code]), photographed, "kind {kind}, code {code} behind a photograph");
     }
 }
 

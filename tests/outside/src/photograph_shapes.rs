@@ -3,11 +3,11 @@
 
 use std::ops::RangeInclusive;
 
-use crate::book::Book;
-use crate::calls::{Call, CHANGING, MAKING, OF_A_SHEET};
-use crate::desk::{faults, is_no_code, step};
+use crate::calls::{CHANGING, MAKING, OF_A_SHEET};
+use crate::desk::{faults, is_no_code};
 use crate::made::{Made, Shape};
-use crate::sheet::{Sheet, FRESH, PLACES};
+use crate::sheet::PLACES;
+use crate::steps::Step;
 
 const ENTER: &[&str] = &["enter"];
 const PHOTOGRAPH: &[&str] = &["photograph"];
@@ -16,7 +16,7 @@ const ROW: &[&str] = &["row"];
 const STORE: &[&str] = &["store"];
 const REPLAY: &[&str] = &["replay"];
 
-/// The calls that refuse a photographed field by 22.
+/// The calls that refuse a photographed field by 22, enter where the code is another.
 const OF_A_FREE_FIELD: &[&str] = &["enter", "withdraw"];
 
 /// The calls that refuse a field without an answer by 17 and change it.
@@ -46,24 +46,22 @@ pub const SHAPES: &[Shape] = &[
         made.place_at_fault().is_some_and(|place| made.sheet().is_answered(place) && made.sheet().is_photographed(place))
     }),
     ("14 beside photographed answers", 730, OF_A_SHEET, |made| made.number() == 14 && made.has_sound_photograph()),
-    ("accepted beside a photograph", 260, CHANGING, |made| made.number() == 0 && made.is_beside_photograph()),
+    ("accepted beside a photograph", 360, CHANGING, |made| made.number() == 0 && made.is_beside_photograph()),
     ("accepted next to a photograph", 130, CHANGING, |made| made.number() == 0 && made.is_next_to_photograph()),
-    ("accepted with a photograph's byte above 1", 85, CHANGING, |made| made.number() == 0 && made.has_byte_above_1()),
+    ("accepted with a photograph's byte above 1", 110, CHANGING, |made| made.number() == 0 && made.has_byte_above_1()),
     ("1 to 13 with a photograph's byte above 1", 770, CHANGING, |made| made.is_refused(1..=13) && made.has_byte_above_1()),
     ("14 with a photograph's byte above 1", 530, CHANGING, |made| made.is_refused(14..=14) && made.has_byte_above_1()),
     ("15 to 22 with a photograph's byte above 1", 470, CHANGING, |made| made.is_refused(15..=22) && made.has_byte_above_1()),
-    ("14 before 15", 1_200, CHANGING, |made| made.number() == 14 && made.lacks_field()),
+    ("14 before 15", 1_800, CHANGING, |made| made.number() == 14 && made.lacks_field()),
     ("15 for a field that the sheet has a place for", 520, CHANGING, |made| made.number() == 15 && made.field() < PLACES),
-    ("14 before 16", 900, ENTER, |made| made.number() == 14 && made.lacks_code()),
-    ("14 before 22", 250, OF_A_FREE_FIELD, |made| made.number() == 14 && made.is_of_photographed()),
+    ("14 before 16", 1_800, ENTER, |made| made.number() == 14 && made.lacks_code()),
+    ("14 before 22", 250, OF_A_FREE_FIELD, |made| made.number() == 14 && made.would_change_photographed()),
     ("14 before 17", 190, OF_AN_ANSWER, |made| made.number() == 14 && made.lacks_answer()),
     ("17 beside a photograph", 60, OF_AN_ANSWER, |made| made.number() == 17 && made.sheet().has_photograph()),
-    ("16 before 22", 420, ENTER, |made| made.number() == 16 && made.is_of_photographed()),
-    ("22 for the code held", 330, ENTER, |made| made.number() == 22 && made.is_of_code_held()),
-    ("22 for another code", 320, ENTER, |made| made.number() == 22 && !made.is_of_code_held()),
+    ("16 before 22", 760, ENTER, |made| made.number() == 16 && made.is_of_photographed()),
     ("22 for field 0", 120, OF_A_FREE_FIELD, |made| made.number() == 22 && made.field() == 0),
-    ("22 for a field from 32 to 58", 30, OF_A_FREE_FIELD, |made| made.number() == 22 && (32..=58).contains(&made.field())),
-    ("22 for field 59", 6, OF_A_FREE_FIELD, |made| made.number() == 22 && made.field() == 59),
+    ("22 for a field from 32 to 58", 51, OF_A_FREE_FIELD, |made| made.number() == 22 && (32..=58).contains(&made.field())),
+    ("22 for field 59", 8, OF_A_FREE_FIELD, |made| made.number() == 22 && made.field() == 59),
     ("22 by a byte above 1", 100, OF_A_FREE_FIELD, |made| made.number() == 22 && made.sheet().photographs[made.field()] > 1),
     ("22 where one of several answers is photographed", 120, OF_A_FREE_FIELD, |made| {
         made.number() == 22 && made.sheet().photographed().count() == 1 && made.is_part_photographed()
@@ -86,7 +84,7 @@ pub const SHAPES: &[Shape] = &[
     }),
     ("22 before 18", 2_000, STORE, |made| made.number() == 22 && made.trial.lent.elements() < made.fields()),
     ("22 where enough is lent", 1_800, STORE, |made| made.number() == 22 && made.trial.lent.elements() >= made.fields()),
-    ("14 before 22", 250, STORE, |made| made.number() == 14 && made.has_sound_photograph()),
+    ("14 before 22", 720, STORE, |made| made.number() == 14 && made.has_sound_photograph()),
     ("a photographed field relaxed", 780, FILTERED, |made| made.number() == 0 && made.is_of_photographed()),
     ("a photographed field relaxed, which has other codes then", 350, FILTERED, |made| {
         made.number() == 0 && made.is_of_photographed() && made.frees_codes()
@@ -100,7 +98,7 @@ pub const SHAPES: &[Shape] = &[
     ("none beside a photograph", 880, ROW, |made| made.finds_row(0) && made.is_beside_photograph()),
     ("a row of a photographed field", 580, ROW, |made| made.finds_row(1) && made.is_of_photographed()),
     ("photographs before it", 6_500, MAKING, |made| made.sheet().has_photograph()),
-    ("a photograph at 59 before it", 320, MAKING, |made| made.sheet().is_photographed(59)),
+    ("a photograph at 59 before it", 400, MAKING, |made| made.sheet().is_photographed(59)),
     ("a photograph behind the fields before it", 630, MAKING, |made| {
         made.reading.is_ok() && made.sheet().photographed().any(|place| place >= made.fields())
     }),
@@ -116,16 +114,15 @@ pub const SHAPES: &[Shape] = &[
     ("a photograph set in a list", 4_000, REPLAY, |made| made.has_step(|step| step.is(3, 0) && !step.of_photographed())),
     ("a photograph set again in a list", 1_800, REPLAY, |made| made.has_step(|step| step.is(3, 0) && step.of_photographed())),
     ("a photograph with a third byte that is no code", 3_500, REPLAY, |made| {
-        made.has_step(|step| step.is(3, 0) && is_no_code(step.book, step.field(), step.call[2]))
+        made.has_step(|step| step.is(3, 0) && is_no_code(step.book, step.field(), step.code()))
     }),
     ("15 of a photograph in a list", 1_700, REPLAY, |made| made.has_step(|step| step.is(3, 15))),
     ("17 of a photograph in a list", 2_000, REPLAY, |made| made.has_step(|step| step.is(3, 17))),
-    ("22 of the code held in a list", 1_000, REPLAY, |made| made.has_step(|step| step.is(0, 22) && step.of_code_held())),
-    ("22 of another code in a list", 740, REPLAY, |made| made.has_step(|step| step.is(0, 22) && !step.of_code_held())),
-    ("22 of a withdraw in a list", 1_100, REPLAY, |made| made.has_step(|step| step.is(1, 22))),
-    ("16 before 22 in a list", 980, REPLAY, |made| made.has_step(|step| step.is(0, 16) && step.of_photographed())),
+    ("22 of another code in a list", 1_500, REPLAY, |made| made.has_step(|step| step.is(0, 22))),
+    ("22 of a withdraw in a list", 1_500, REPLAY, |made| made.has_step(|step| step.is(1, 22))),
+    ("16 before 22 in a list", 1_200, REPLAY, |made| made.has_step(|step| step.is(0, 16) && step.of_photographed())),
     ("an enter beside a photograph in a list", 2_500, REPLAY, |made| {
-        made.has_step(|step| step.is(0, 0) && step.before.has_photograph())
+        made.has_step(|step| step.is(0, 0) && !step.of_photographed() && step.before.has_photograph())
     }),
     ("a withdraw beside a photograph in a list", 1_700, REPLAY, |made| {
         made.has_step(|step| step.is(1, 0) && step.before.has_photograph())
@@ -140,54 +137,13 @@ pub const SHAPES: &[Shape] = &[
     ("a photograph in a list by a refused book", 2_500, REPLAY, |made| {
         made.reading.is_err() && made.trial.call.list().chunks_exact(3).any(|call| call[0] == 3)
     }),
-    ("lists of ten calls and more, one in five or fewer refused", 2_000, REPLAY, |made| {
-        made.steps().is_some_and(|steps| {
-            let refused = steps.iter().filter(|step| step.number != 0).count();
-            steps.len() >= 10 && (1..=steps.len() / 5).contains(&refused)
-        })
+    ("lists of ten calls and more, one in five or fewer refused", 2_800, REPLAY, |made| {
+        let refused = made.steps.iter().filter(|step| step.number != 0).count();
+        made.steps.len() >= 10 && (1..=made.steps.len() / 5).contains(&refused)
     }),
 ];
 
-/// A call of a list on the sheet that those before it reach, and its number.
-struct Step<'a> {
-    book: &'a Book,
-    before: Sheet,
-    call: &'a [u8],
-    number: u64,
-}
-
-impl Step<'_> {
-    fn is(&self, kind: u8, number: u64) -> bool {
-        (self.call[0], self.number) == (kind, number)
-    }
-
-    fn field(&self) -> usize {
-        self.call[1] as usize
-    }
-
-    fn of_answered(&self) -> bool {
-        self.field() < PLACES && self.before.is_answered(self.field())
-    }
-
-    fn of_photographed(&self) -> bool {
-        self.field() < PLACES && self.before.is_photographed(self.field())
-    }
-
-    fn of_code_held(&self) -> bool {
-        self.of_answered() && self.before.answers[self.field()] == self.call[2]
-    }
-}
-
 impl Made<'_> {
-    fn sheet(&self) -> &Sheet {
-        &self.case.sheet
-    }
-
-    /// The field that the call is given; one of no book where it is given none.
-    fn field(&self) -> usize {
-        self.trial.call.field().unwrap_or(usize::MAX)
-    }
-
     fn faults(&self) -> impl Iterator<Item = usize> + '_ {
         self.reading.iter().flat_map(|book| faults(book, self.sheet()))
     }
@@ -195,10 +151,6 @@ impl Made<'_> {
     /// Neither book nor sheet is refused.
     fn is_sound(&self) -> bool {
         self.reading.is_ok() && self.number() != 14
-    }
-
-    fn is_refused(&self, numbers: RangeInclusive<u64>) -> bool {
-        numbers.contains(&self.number())
     }
 
     /// The place that 14 names.
@@ -215,21 +167,9 @@ impl Made<'_> {
         self.place_at_fault().is_some_and(|place| places.contains(&place) && !self.sheet().is_answered(place))
     }
 
-    fn is_part_photographed(&self) -> bool {
-        self.sheet().has_photograph() && !self.sheet().is_all_photographed()
-    }
-
-    fn has_byte_above_1(&self) -> bool {
-        self.sheet().photographs.iter().any(|&photograph| photograph > 1)
-    }
-
     /// Some photographed place is not at fault.
     fn has_sound_photograph(&self) -> bool {
         self.sheet().photographed().any(|place| !self.faults().any(|fault| fault == place))
-    }
-
-    fn is_of_photographed(&self) -> bool {
-        self.field() < PLACES && self.sheet().is_photographed(self.field())
     }
 
     /// The call's field is not photographed, and another is.
@@ -256,8 +196,9 @@ impl Made<'_> {
         count.is_some_and(|&count| self.trial.call.code() >= Some(count as usize))
     }
 
-    fn is_of_code_held(&self) -> bool {
-        self.trial.call.code() == Some(self.sheet().answers[self.field()] as usize)
+    /// Its field is photographed, and the call would take the answer away or give it another code.
+    fn would_change_photographed(&self) -> bool {
+        self.is_of_photographed() && !self.is_of_code_held() && !self.lacks_code()
     }
 
     /// The call's field is the only one that is answered and not photographed.
@@ -278,31 +219,12 @@ impl Made<'_> {
         places.any(|place| self.trial.left.sheet.is_photographed(place))
     }
 
-    /// The calls of a list, by an accepted book.
-    fn steps(&self) -> Option<Vec<Step<'_>>> {
-        let (Ok(book), Call::Replay { calls }) = (self.reading, self.trial.call) else {
-            return None;
-        };
-        let mut sheet = FRESH;
-        let told = calls.chunks_exact(3).map(|call| {
-            let before = sheet;
-            Step { book, before, call, number: step(book, &mut sheet, call) }
-        });
-        Some(told.collect())
-    }
-
-    fn has_step(&self, so: fn(&Step) -> bool) -> bool {
-        self.steps().is_some_and(|steps| steps.iter().any(so))
-    }
-
     /// A field that was photographed before a clear has an answer in the end.
     fn answers_behind_clear(&self) -> bool {
         let reached = &self.trial.left.sheet;
         let again = |step: &Step| step.before.photographed().any(|place| reached.is_answered(place));
-        self.steps().is_some_and(|steps| {
-            let last = steps.iter().rposition(|step| step.is(2, 0));
-            last.is_some_and(|clear| again(&steps[clear]))
-        })
+        let last = self.steps.iter().rfind(|step| step.is(2, 0));
+        last.is_some_and(again)
     }
 }
 
@@ -316,7 +238,7 @@ mod tests {
     use crate::examples::e1;
     use crate::made::{asked, names_of};
     use crate::sheet::{Sheet, FRESH};
-    use crate::{row_shapes, shapes, versions};
+    use crate::{resend_shapes, row_shapes, shapes, versions};
 
     /// The shapes of a call on E1 with fields 0 and 1 answered by 0 and 1, and these places photographed.
     fn names(photographed: &[usize], call: Call) -> Vec<&'static str> {
@@ -327,8 +249,8 @@ mod tests {
     fn shapes_of_22() {
         let some = "some answers photographed";
         let one = ["22 for field 0", "22 where one of several answers is photographed"];
-        assert_eq!(names(&[0], Call::Enter { field: 0, code: 0 }), [some, "22 for the code held", one[0], one[1]]);
-        assert_eq!(names(&[0], Call::Enter { field: 0, code: 1 }), [some, "22 for another code", one[0], one[1]]);
+        assert_eq!(names(&[0], Call::Enter { field: 0, code: 0 }), [some]);
+        assert_eq!(names(&[0], Call::Enter { field: 0, code: 1 }), [some, one[0], one[1]]);
         assert_eq!(names(&[0], Call::Enter { field: 0, code: 2 }), [some, "16 before 22"]);
         assert_eq!(names(&[0], Call::Withdraw { field: 0 }), [some, one[0], one[1]]);
         assert!(names(&[0], Call::Store).starts_with(&[some, "22 for field 0 alone", "22 before 18"]));
@@ -354,6 +276,8 @@ mod tests {
         assert_eq!(names(&[59], Call::Store), behind);
         let both = ["14 for a photograph behind the fields", "14 beside photographed answers"];
         assert_eq!(names(&[0, 3], Call::Withdraw { field: 0 }), [&both[..], &["14 before 22"]].concat());
+        assert_eq!(names(&[0, 3], Call::Enter { field: 0, code: 1 }), [&both[..], &["14 before 22"]].concat());
+        assert_eq!(names(&[0, 3], Call::Enter { field: 0, code: 0 }), both);
         assert_eq!(names(&[3], Call::Photograph { field: 3 })[1..], ["14 before 15"]);
         assert_eq!(names(&[3], Call::Photograph { field: 2 })[1..], ["14 before 17"]);
         let mut mixed = Sheet::of(&[2]).with_photographs(&[1]);
@@ -372,8 +296,9 @@ mod tests {
         let list = |calls: &[[u8; 3]]| names_of(SHAPES, &e1(), FRESH, Call::Replay { calls: calls.concat() });
         let reached = ["a photograph reached", "all answers reached are photographed", "a photograph set in a list"];
         assert_eq!(list(&[[0, 0, 0], [3, 0, 0]]), reached);
-        let refused = list(&[[0, 0, 0], [3, 0, 2], [3, 0, 1], [0, 0, 0], [0, 0, 1], [0, 0, 2], [1, 0, 0], [3, 1, 0], [3, 3, 0]]);
-        let numbers = ["15 of a photograph in a list", "17 of a photograph in a list", "22 of the code held in a list"];
+        assert_eq!(list(&[[0, 0, 0], [3, 0, 0], [0, 0, 0]]), reached);
+        let refused = list(&[[0, 0, 0], [3, 0, 2], [3, 0, 1], [0, 0, 1], [0, 0, 2], [1, 0, 0], [3, 1, 0], [3, 3, 0]]);
+        let numbers = ["15 of a photograph in a list", "17 of a photograph in a list"];
         let more = ["22 of another code in a list", "22 of a withdraw in a list", "16 before 22 in a list"];
         let set = ["a photograph set again in a list", "a photograph with a third byte that is no code"];
         assert_eq!(refused, [&reached[..], &set, &numbers, &more].concat());
@@ -390,7 +315,8 @@ mod tests {
     #[test]
     fn names_of_a_call_are_different() {
         for &call in OF_A_SHEET.iter().chain(MAKING) {
-            let mut names: Vec<&str> = asked(SHAPES, call).chain(asked(versions::SHAPES, call)).map(|(name, _)| name).collect();
+            let made = [SHAPES, versions::SHAPES, resend_shapes::SHAPES].into_iter().flat_map(|all| asked(all, call));
+            let mut names: Vec<&str> = made.map(|(name, _)| name).collect();
             if LISTING.contains(&call) {
                 names.extend(shapes::SHAPES.iter().chain(&shapes::PHOTOGRAPHED).map(|(name, ..)| *name));
             }

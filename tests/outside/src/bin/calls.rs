@@ -6,7 +6,7 @@
 //! held against plain filtering with each answered field relaxed, photographed or not, rows against plain filtering and the listing, a
 //! book that is shown or written goes the way back too, and an accepted book is turned into the other version. The run prints how often
 //! each refusal of each call was reached and what else the cases had, and fails if something was missed; some of it has to be had so
-//! often that it takes 35,000 cases.
+//! often that it takes 37,500 cases.
 
 use std::ffi::c_int;
 use std::io::Write;

@@ -90,7 +90,7 @@ pub const SLIPS: &[Listed] = &[
         desk.taken = |call| each_call(call, |c| if c[0] == 3 { vec![3, c[2], c[1]] } else { c.to_vec() })
     }),
     replaying("a photograph only of the code in its third byte", |desk| {
-        desk.step = |b, s, c| {
+        desk.step = |_, b, s, c| {
             changed(b, s, c, [3, 0], |after, before, field, code| {
                 if before.answers[field] != code {
                     *after = *before;
@@ -99,53 +99,53 @@ pub const SLIPS: &[Listed] = &[
         }
     }),
     replaying("a photograph that gives the code in its third byte", |desk| {
-        desk.step = |b, s, c| changed(b, s, c, [3, 0], |after, _, field, code| after.answers[field] = code)
+        desk.step = |_, b, s, c| changed(b, s, c, [3, 0], |after, _, field, code| after.answers[field] = code)
     }),
     replaying("a second photograph takes the first away", |desk| {
-        desk.step = |b, s, c| {
+        desk.step = |_, b, s, c| {
             changed(b, s, c, [3, 0], |after, before, field, _| after.photographs[field] = !before.is_photographed(field) as u8)
         }
     }),
     replaying("a photograph takes the others away", |desk| {
         desk.step =
-            |b, s, c| changed(b, s, c, [3, 0], |after, _, field, _| *after = after.photographed_where(|place| place == field))
+            |_, b, s, c| changed(b, s, c, [3, 0], |after, _, field, _| *after = after.photographed_where(|place| place == field))
     }),
     replaying("an enter takes all photographs away", |desk| {
-        desk.step = |b, s, c| changed(b, s, c, [0, 0], |after, _, _, _| after.photographs = [0; PLACES])
+        desk.step = |_, b, s, c| changed(b, s, c, [0, 0], |after, _, _, _| after.photographs = [0; PLACES])
     }),
     replaying("a withdraw takes all photographs away", |desk| {
-        desk.step = |b, s, c| changed(b, s, c, [1, 0], |after, _, _, _| after.photographs = [0; PLACES])
+        desk.step = |_, b, s, c| changed(b, s, c, [1, 0], |after, _, _, _| after.photographs = [0; PLACES])
     }),
     replaying("a clear leaves photographed answers", |desk| {
-        desk.step = |b, s, c| changed(b, s, c, [2, 0], |after, before, _, _| *after = photographed_alone(before))
+        desk.step = |_, b, s, c| changed(b, s, c, [2, 0], |after, before, _, _| *after = photographed_alone(before))
     }),
     replaying("a clear leaves photographs", |desk| {
-        desk.step = |b, s, c| changed(b, s, c, [2, 0], |after, before, _, _| after.photographs = before.photographs)
+        desk.step = |_, b, s, c| changed(b, s, c, [2, 0], |after, before, _, _| after.photographs = before.photographs)
     }),
     replaying("a code entered over a photographed one", |desk| {
-        desk.step = |b, s, c| changed(b, s, c, [0, 22], |after, _, field, code| after.answers[field] = code)
+        desk.step = |_, b, s, c| changed(b, s, c, [0, 22], |after, _, field, code| after.answers[field] = code)
     }),
     replaying("a code entered in the place of a photograph", |desk| {
-        desk.step = |b, s, c| {
+        desk.step = |_, b, s, c| {
             changed(b, s, c, [0, 22], |after, _, field, code| (after.answers[field], after.photographs[field]) = (code, 0))
         }
     }),
     replaying("a photographed answer withdrawn", |desk| {
-        desk.step = |b, s, c| changed(b, s, c, [1, 22], |after, _, field, _| after.answers[field] = NO_ANSWER)
+        desk.step = |_, b, s, c| changed(b, s, c, [1, 22], |after, _, field, _| after.answers[field] = NO_ANSWER)
     }),
     replaying("an answer withdrawn with its photograph", |desk| {
-        desk.step = |b, s, c| {
+        desk.step = |_, b, s, c| {
             changed(b, s, c, [1, 22], |after, _, field, _| (after.answers[field], after.photographs[field]) = (NO_ANSWER, 0))
         }
     }),
     replaying("the photograph withdrawn in the place of its answer", |desk| {
-        desk.step = |b, s, c| changed(b, s, c, [1, 22], |after, _, field, _| after.photographs[field] = 0)
+        desk.step = |_, b, s, c| changed(b, s, c, [1, 22], |after, _, field, _| after.photographs[field] = 0)
     }),
     replaying("an unanswered field photographed", |desk| {
-        desk.step = |b, s, c| changed(b, s, c, [3, 17], |after, _, field, _| after.photographs[field] = 1)
+        desk.step = |_, b, s, c| changed(b, s, c, [3, 17], |after, _, field, _| after.photographs[field] = 1)
     }),
     replaying("a code refused by 22 clears the sheet", |desk| {
-        desk.step = |b, s, c| changed(b, s, c, [0, 22], |after, _, _, _| *after = FRESH)
+        desk.step = |_, b, s, c| changed(b, s, c, [0, 22], |after, _, _, _| *after = FRESH)
     }),
 ];
 

@@ -11,6 +11,7 @@ mod photographs;
 mod places;
 mod pointing;
 mod reading;
+mod resending;
 mod rows;
 mod straying;
 mod versions;
@@ -19,7 +20,7 @@ use std::cell::RefCell;
 
 use crate::book::Book;
 use crate::calls::{Answer, Buffers, Call, Left};
-use crate::desk::{Desk, Reading};
+use crate::desk::{Desk, Enter, Reading};
 use crate::library::{Lent, Library};
 use crate::row::Search;
 use crate::sheet::Sheet;
@@ -44,6 +45,8 @@ pub enum Wrong {
     Counted(fn(&Book) -> usize),
     /// The desk looks for the row behind a code by this.
     Sought(Search),
+    /// The desk enters a code of a field by this.
+    Entered(Enter),
     /// The desk leaves something else than it answers.
     Left(fn(&Seen, &mut Left)),
     /// The desk touches memory that it may not touch.
@@ -72,7 +75,7 @@ pub fn all() -> Vec<Slip> {
     let of_document_01 = [reading::SLIPS, filtering::SLIPS, calling::SLIPS].concat();
     let of_rows = [counting::SLIPS, pointing::SLIPS].concat();
     let of_versions = [versions::SLIPS, places::SLIPS].concat();
-    let of_photographs = [photographs::SLIPS, doubting::SLIPS].concat();
+    let of_photographs = [photographs::SLIPS, doubting::SLIPS, resending::SLIPS].concat();
     let listed = [&of_document_01, &of_rows[..], &of_versions, &of_photographs, lifting::SLIPS, listing::SLIPS].concat();
     let in_each = |(what, calls, wrong): Listed| calls.iter().map(move |call| Slip::new(call, what, wrong));
     listed.into_iter().flat_map(in_each).chain(straying::slips()).collect()
@@ -103,6 +106,7 @@ impl SlowLibrary {
             Wrong::Part(exchange) => exchange(&mut desk),
             Wrong::Counted(different_rows) => desk.different_rows = different_rows,
             Wrong::Sought(search) => desk.row = search,
+            Wrong::Entered(enter) => desk.enter = enter,
             _ => {}
         }
         SlowLibrary { desk, wrong: Some(slip.wrong), last: RefCell::default() }

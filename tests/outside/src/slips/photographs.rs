@@ -23,7 +23,7 @@ const fn holding(what: &'static str, exchange: fn(&mut Desk)) -> Listed {
     (what, OF_A_SHEET, Part(exchange))
 }
 
-const fn of(calls: &'static [&'static str], what: &'static str, change: fn(&Seen, &mut calls::Left)) -> Listed {
+pub const fn of(calls: &'static [&'static str], what: &'static str, change: fn(&Seen, &mut calls::Left)) -> Listed {
     (what, calls, Left(change))
 }
 
@@ -140,18 +140,8 @@ pub const SLIPS: &[Listed] = &[
             sheet.photographs[seen.field()] = 0;
         })
     }),
-    of(ENTER, "the code held accepted on a photographed field", |seen, left| {
-        if seen.is_code_held() {
-            accept(seen, left, 22, |_, _| {});
-        }
-    }),
-    of(ENTER, "another code entered over a photographed one", |seen, left| {
-        if !seen.is_code_held() {
-            accept(seen, left, 22, |seen, sheet| seen.give(sheet));
-        }
-    }),
     of(ENTER, "22 for a field with another answer", |seen, left| {
-        turn_down(seen, left, 22, |seen| seen.sheet.is_answered(seen.field()))
+        turn_down(seen, left, 22, |seen| seen.sheet.is_answered(seen.field()) && !seen.is_code_held())
     }),
     of(ENTER, "22 tested before 16", |seen, left| before(left, 16, 22, || seen.is_photographed())),
     of(ENTER, "22 told as 16", |_, left| before(left, 22, 16, || true)),
@@ -239,7 +229,7 @@ fn scanned(seen: &Seen, left: &mut calls::Left, first: fn(&Sheet, usize) -> bool
 
 impl Seen<'_> {
     /// The call's field is photographed.
-    fn is_photographed(&self) -> bool {
+    pub fn is_photographed(&self) -> bool {
         self.field() < PLACES && self.sheet.is_photographed(self.field())
     }
 
@@ -248,22 +238,23 @@ impl Seen<'_> {
         self.sheet.photographed().any(|place| Some(place) == self.field().checked_add_signed(step))
     }
 
-    fn is_code_held(&self) -> bool {
+    /// The call's code stands in the place of its field.
+    pub fn is_code_held(&self) -> bool {
         self.field() < PLACES && self.call.code() == Some(self.sheet.answers[self.field()] as usize)
     }
 
-    fn answer_stands(&self) -> bool {
+    pub fn answer_stands(&self) -> bool {
         largest(self.accepted(), &self.sheet.answers)[self.field()][self.sheet.answers[self.field()] as usize]
     }
 
     /// Gives the field the code that the call is given.
-    fn give(&self, sheet: &mut Sheet) {
+    pub fn give(&self, sheet: &mut Sheet) {
         sheet.answers[self.field()] = self.call.code().map_or(NO_ANSWER, |code| code as u8);
     }
 }
 
 /// Accepts a call that is refused by this number, with this change.
-fn accept(seen: &Seen, left: &mut calls::Left, number: u64, change: impl Fn(&Seen, &mut Sheet)) {
+pub fn accept(seen: &Seen, left: &mut calls::Left, number: u64, change: impl Fn(&Seen, &mut Sheet)) {
     if left.number == number {
         left.number = 0;
         left.sheet = seen.sheet.in_bits();
@@ -272,15 +263,15 @@ fn accept(seen: &Seen, left: &mut calls::Left, number: u64, change: impl Fn(&See
 }
 
 /// Refuses an accepted call by this number where it is so; the sheet is as it was given.
-fn turn_down(seen: &Seen, left: &mut calls::Left, number: u64, so: fn(&Seen) -> bool) {
+pub fn turn_down(seen: &Seen, left: &mut calls::Left, number: u64, so: impl Fn(&Seen) -> bool) {
     refuse_where(left, number, || so(seen));
     if left.number == number {
         left.sheet = *seen.sheet;
     }
 }
 
-/// Changes the sheet where the field was photographed before.
-fn again(seen: &Seen, left: &mut calls::Left, change: impl Fn(&Seen, &mut Sheet)) {
+/// Changes the sheet of an accepted call where the field was photographed before.
+pub fn again(seen: &Seen, left: &mut calls::Left, change: impl Fn(&Seen, &mut Sheet)) {
     if left.number == 0 && seen.is_photographed() {
         change(seen, &mut left.sheet);
     }

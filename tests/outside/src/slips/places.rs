@@ -100,10 +100,10 @@ pub const SLIPS: &[Listed] = &[
         desk.taken = |call| each_call(call, |c| vec![c[0], c[1] % 64, c[2]])
     }),
     replaying("a clear that takes the first 32 answers away", |desk| {
-        desk.step = |book, sheet, call| cleared_up_to(book, sheet, call, BEHIND)
+        desk.step = |_, book, sheet, call| cleared_up_to(book, sheet, call, BEHIND)
     }),
     replaying("a clear that leaves the last answer", |desk| {
-        desk.step = |book, sheet, call| cleared_up_to(book, sheet, call, LAST)
+        desk.step = |_, book, sheet, call| cleared_up_to(book, sheet, call, LAST)
     }),
     wrong_filter("tables on fields from 32 on not filtered by", |desk| {
         desk.largest = |book, answers| largest(&without_tables(book, |f| f >= BEHIND), answers)
