@@ -214,10 +214,11 @@ impl Sheet {
                 if lists::wide(book[list + field]) <= code {
                     return refuse(self, Reason::Code, 0);
                 }
-                if replaces_photographed(answers[field], photographed[field], code) {
+                // the test reads the copy that is written, so that there is one
+                let mut next = answers;
+                if replaces_photographed(next[field], photographed[field], code) {
                     return refuse(self, Reason::Photographed, 0);
                 }
-                let mut next = answers;
                 next[field] = code as u8;
                 Handed {
                     answer: Answer::Done,
