@@ -1,4 +1,5 @@
--- "Entering the code already held is accepted and changes nothing", and a photograph set again changes nothing. Assumes nothing.
+-- "Entering the code already held is accepted and changes nothing", a photograph set again changes nothing, and what a photographed field refuses.
+-- Assumes nothing.
 use Prim.Native.Nat.{ℕ, _<_}
 use mathlib.Core.Path.{_≡_, refl, sym, ap, _∙_}
 use mathlib.Core.Logic.{_≢_}

@@ -1,8 +1,8 @@
--- Document 02, M-107: "One old answer changes". Enter by M-105's rule beside enter as it is: they differ on the one input that the request names,
--- and along lists of calls the answers are the same. Assumes nothing.
+-- Document 02, M-107: "One old answer changes". Enter by M-105's rule beside enter as it is: they differ on the one input that the request names;
+-- along lists of calls only the numbers of such calls do, and the answers are the same. Assumes nothing.
 use Prim.Native.Nat.{ℕ, _≤_}
-use mathlib.Core.Path.{_≡_, refl, sym, ap, _∙_}
-use mathlib.Core.Bool.{Bool, true, false, not, _&&_}
+use mathlib.Core.Path.{_≡_, refl, sym, ap, ap₂, _∙_}
+use mathlib.Core.Bool.{Bool, true, false, true≢false}
 use mathlib.Core.List.{List, [], _∷_}
 use borrow.Author.Tests.{ltb-true, lt-ltb}
 use lib.ListN.{length}
@@ -88,10 +88,14 @@ unfoldable pub answersBefore : Book → Answers → List Call → Answers
 answersBefore b a [] = a
 answersBefore b a (call ∷ calls) = answersBefore b (afterBefore b a call) calls
 
--- an answer without a photograph refuses no code
-unbacked-free : (x : Answer) (c : ℕ) → isBacked x ≡ false → refusesCode x c ≡ false
-unbacked-free none c e = refl
-unbacked-free (is d p) c e = ap (λ (t : Bool). t && not (eqb c d)) e
+-- but for a photographed answer sent again, the photograph decides
+refuses-else : (x : Answer) (c : ℕ) → (x ≡ is c true → ⊥) → refusesCode x c ≡ isBacked x
+refuses-else none c n = refl
+refuses-else (is d p) c n = replaces-else d p c (λ q e. n (ap₂ is (sym e) q))
+
+-- so every other call has the number that it had
+pub numbers-same : (b : Book) (a : Answers) (f c : ℕ) → (a f ≡ is c true → ⊥) → refusalOf b a (enter f c) ≡ refusalBefore b a (enter f c)
+numbers-same b a f c n = rw (refuses-else (a f) c n)
 
 -- one call leaves the same answers by either rule
 after-same : (b : Book) (a : Answers) (call : Call) → after b a call ≡ afterBefore b a call
@@ -103,12 +107,12 @@ after-same b a (enter f c) = at (ltb f (length (b .counts))) (ltb c (codes b f))
     at true false p q i j k l = rw (i, j)
     at true true true true i j k l = rw (i, j, k, l)
     at true true true false i j k l = rw (i, j, l, k) (put-held a f (is c true) (sym (held-again (a f) c k l) ∙ ap (is c) k))
-    at true true false q i j k l = rw (i, j, unbacked-free (a f) c k, k)
+    at true true false q i j k l = rw (i, j, refuses-else (a f) c (λ z. true≢false (sym (ap isBacked z) ∙ k)), k)
 after-same b a (withdraw f) = refl
 after-same b a (photograph f) = refl
 after-same b a clear = refl
 
--- the answers after any list are those that it had before M-107: only numbers moved
+-- the answers after any list are those that it had before M-107
 pub answers-same : (b : Book) (a : Answers) (calls : List Call) → answersFrom b a calls ≡ answersBefore b a calls
 unfolding answersFrom answersBefore
 answers-same b a [] = refl

@@ -1,5 +1,5 @@
--- Requests M-105 and M-107 at work: on E1, a list of calls with a photograph, and what listing, filtering and storing answer behind it; sheets at fault. All
--- computed. Assumes nothing.
+-- Requests M-105 and M-107 at work: on E1, a list of calls with a photograph, and what listing, filtering and storing answer behind it; sheets at
+-- fault. All computed. Assumes nothing.
 use Prim.Native.Nat.{_-_}
 use mathlib.Core.Path.{_≡_, refl}
 use mathlib.Core.Bool.{true, false}

@@ -17,7 +17,7 @@ use Rattle.calls.specs.Histories.{Call, enter, Answer, is, Answers, refu
 use Rattle.calls.specs.Photographs.{OnField, Request107}
 use Rattle.calls.proofs.CallLaws.{pick-cases, Where, sheet-where}
 use Rattle.calls.proofs.Sheets.{put-same, put-other, Sound}
-use Rattle.calls.proofs.Steps.{called-step}
+use Rattle.calls.proofs.Steps.{answering, called-step}
 use Rattle.calls.proofs.CallLists.{sheet-after, sound-after}
 use Rattle.calls.proofs.Held.{held-same, same-code, on-field, enter-held}
 
@@ -66,10 +66,6 @@ module _ (b : Book) (a : Answers) (f c : ℕ) (p : Bool) (e : a f ≡ is c p) (l
 
   again-after : after b a (enter f c) ≡ a
   again-after = rw (again-0, e) (put-held a f (is c p) e)
-
--- a call that counts nothing and is lent nothing, by its number and sheet
-abbrev answering : ℕ → Sheet → Result
-answering n s = record { outcome = record { number = n; place = 0; counts = [] }; sheet = s; buffer = [] }
 
 -- the sheet through two lists, one behind the other
 through-append : (bytes : List ℕ) (s : Sheet) (xs ys : List Call) → sheetThrough bytes s (xs ++ ys) ≡ sheetThrough bytes (sheetThrough bytes s xs) ys

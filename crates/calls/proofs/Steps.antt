@@ -19,10 +19,13 @@ use Rattle.calls.specs.Histories.{Call, enter, withdraw, photograph, cle
 use Rattle.calls.proofs.CallLaws.{sheet-go}
 use Rattle.calls.proofs.Sheets.{sheet-at, backed-at, sheet-fresh, answer-store, photograph-store, Within, accepted-within, Sound, sound-none, answered-given, backed-is, no-fault}
 
+-- a call that counts nothing and is lent nothing, by its number and the sheet that it hands back
+abbrev pub answering : ℕ → Sheet → Result
+answering n s = record { outcome = record { number = n; place = 0; counts = [] }; sheet = s; buffer = [] }
+
 -- what the book and the answers before a call give for it: the number of its refusal, and the sheet that holds the answers after it
 abbrev pub stepOf : Book → Answers → Call → Result
-stepOf b a call =
-    record { outcome = record { number = refusalOf b a call; place = 0; counts = [] }; sheet = sheetOf (after b a call); buffer = [] }
+stepOf b a call = answering (refusalOf b a call) (sheetOf (after b a call))
 
 module _ (bytes : List ℕ) (ok : Accepted bytes) (a : Answers) (s : Sound (bookOf bytes) a) where
   abbrev b : Book

@@ -20,6 +20,11 @@ use Rattle.consistency.proofs.Booleans.{T-ext, T-true, any-in, any-out}
 use Rattle.consistency.proofs.Elements.{answer-at}
 use Rattle.calls.proofs.Faults.{fault-free, backed-known}
 
+-- what the code reads of a field's place is the answer
+held : (bytes : List ℕ) (s : Sheet) (f list fields : ℕ) → IsOpen bytes s list fields → length (s .answers) ≡ places → f < fields
+    → getD (s .answers) f 0 ≡ answer (s .answers) f
+held bytes s f list fields o long h = answer-at (s .answers) f (omega (arith, fields-few bytes list fields (o .at)))
+
 -- ---- enter
 
 module _ (bytes : List ℕ) (s : Sheet) (f c : ℕ) where
@@ -52,10 +57,8 @@ module _ (bytes : List ℕ) (s : Sheet) (f c : ℕ) where
           entered-go : {t : Bool} → u ≡ t → pick t (turned 0 s [] 22 0) (done [] (setAnswer s f c) []) ≡ entered bytes s f c
           unfolding entered
           entered-go {t} q =
-              let held : getD (s .answers) f 0 ≡ answer (s .answers) f =
-              answer-at (s .answers) f (omega (arith, fields-few bytes list fields (o .at))) in
               let test : replacesBacked (answer (s .answers) f) (backed s f) c ≡ t =
-              sym (ap (λ (x : ℕ). replacesBacked x (backed s f) c) held) ∙ sym e ∙ q in
+              sym (ap (λ (x : ℕ). replacesBacked x (backed s f) c) (held bytes s f list fields o long h)) ∙ sym e ∙ q in
               on-ready 0 bytes s [] _ (o .passes) _
               (simp (fields-count bytes list fields (o .at), lt-ltb f fields h, codes-at bytes list fields (o .at) f h, lt-ltb c (byte bytes (list + f)) k, test))
 
@@ -81,21 +84,17 @@ module _ (bytes : List ℕ) (s : Sheet) (f : ℕ) (r : Result) where
     answered-15 h = on-ready 0 bytes s [] _ (o .passes) _ (simp (fields-count bytes list fields (o .at), le-ltb))
 
     module _ (long : length (s .answers) ≡ places) (h : f < fields) where
-      -- what the code reads is the answer
-      held : getD (s .answers) f 0 ≡ answer (s .answers) f
-      held = answer-at (s .answers) f (omega (arith, fields-few bytes list fields (o .at)))
-
       -- the field has no answer
       pub answered-17 : getD (s .answers) f 0 ≡ 255 → turned 0 s [] 17 0 ≡ onAnswered bytes s f r
       answered-17 k =
           on-ready 0 bytes s [] _ (o .passes) _
-          (simp (fields-count bytes list fields (o .at), lt-ltb f fields h, eq-eqb (answer (s .answers) f) 255 (sym held ∙ k)))
+          (simp (fields-count bytes list fields (o .at), lt-ltb f fields h, eq-eqb (answer (s .answers) f) 255 (sym (held bytes s f list fields o long h) ∙ k)))
 
       -- it has one
       pub answered-go : (getD (s .answers) f 0 ≡ 255 → ⊥) → r ≡ onAnswered bytes s f r
       answered-go k =
           on-ready 0 bytes s [] _ (o .passes) _
-          (simp (fields-count bytes list fields (o .at), lt-ltb f fields h, ne-eqb (answer (s .answers) f) 255 (λ e. k (held ∙ e))))
+          (simp (fields-count bytes list fields (o .at), lt-ltb f fields h, ne-eqb (answer (s .answers) f) 255 (λ e. k (held bytes s f list fields o long h ∙ e))))
 
 module _ (bytes : List ℕ) (s : Sheet) (f : ℕ) where
   pub withdrawn-turned : (number place : ℕ) → fail number place ≡ opening bytes s → turned 0 s [] number place ≡ withdrawn bytes s f
