@@ -6,7 +6,7 @@ use lib.ListN.{length}
 use Rattle.format.specs.Format.{codeLimit}
 use Rattle.format.specs.Writing.{showing, writing, bookLimit, listingLimit}
 use Rattle.consistency.specs.Consistency.{places, Sheet}
-use Rattle.calls.specs.Calls.{filtered, alternatives, stored}
+use Rattle.calls.specs.Calls.{filtered, alternatives, stored, nearestReading}
 
 -- bytes for alternatives: a pair for each code of each place
 abbrev pub pairsEnough : ℕ
@@ -16,7 +16,7 @@ pairsEnough = 2 * (places * codeLimit)
 abbrev pub numbersEnough : ℕ
 numbersEnough = places
 
--- bytes for storing: one for each place
+-- bytes for storing, and for a reading: one for each place
 abbrev pub formEnough : ℕ
 formEnough = places
 
@@ -25,6 +25,7 @@ pub record Suffices : Type 0 where
   pub pairs : (bytes : List ℕ) (s : Sheet) (o : List ℕ) → pairsEnough ≤ length o → alternatives bytes s o .outcome .number ≢ 18
   pub numbers : (bytes : List ℕ) (s : Sheet) (f : ℕ) (o : List ℕ) → numbersEnough ≤ length o → filtered bytes s f o .outcome .number ≢ 18
   pub form : (bytes : List ℕ) (s : Sheet) (o : List ℕ) → formEnough ≤ length o → stored bytes s o .outcome .number ≢ 18
+  pub reading : (bytes : List ℕ) (s : Sheet) (o : List ℕ) → formEnough ≤ length o → nearestReading bytes s o .outcome .number ≢ 18
   -- Request M-100: numbers for a book's listing, bytes for a book
   pub listing : (bytes o : List ℕ) → listingLimit ≤ length o → showing bytes o .outcome .number ≢ 18
   pub book : (l o : List ℕ) → bookLimit ≤ length o → writing l o .outcome .number ≢ 18

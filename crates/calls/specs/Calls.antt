@@ -12,6 +12,7 @@ use Rattle.consistency.specs.Counting.{anyBelow}
 use Rattle.consistency.specs.Consistency.{places, Sheet, sheetWith, codes, nth, answer, backed, relax}
 use Rattle.consistency.specs.Counts.{total, struck, lines, lineBytes, masks}
 use Rattle.consistency.specs.Rows.{RowFound, at-row, no-row, hasField, firstSupport}
+use Rattle.consistency.specs.Nearest.{Nearest, none, found, nearest, product}
 
 -- what a call leaves behind: its answer, the sheet handed back, and the contents of the buffer lent (none lent: [])
 pub record Result : Type 0 where
@@ -172,3 +173,26 @@ rowBehind bytes s f c i =
     (pick (hasField (nth b i) f) (done (rowCounts (firstSupport b (s .answers) f c i)) s []) (turned 2 s [] 21 0))
     (turned 2 s [] 16 0))
     (turned 2 s [] 15 0))
+
+-- the most readings, full or not, that a book may have where the nearest is asked for
+abbrev pub readingLimit : ℕ
+readingLimit = 65536
+
+-- what is counted of the nearest reading: whether there is one, "the number of differing fields", and the bytes written; for none "every count is 0"
+abbrev pub nearestCounts : Nearest → List ℕ
+nearestCounts none = 0 ∷ 0 ∷ 0 ∷ []
+nearestCounts (found d r) = 1 ∷ d ∷ length r ∷ []
+
+-- "It is written one byte a field"; for none "the lent bytes keep their contents"
+abbrev pub readingInto : Nearest → List ℕ → List ℕ
+readingInto none o = o
+readingInto (found d r) o = r ++ drop (length r) o
+
+-- Document 02, M-106: "A contradictory sheet needs a suggestion"; "After 14: 23, place 0, the product of all code counts exceeds 65,536. Then 18,
+-- fewer bytes lent than fields"
+unfoldable pub nearestReading : List ℕ → Sheet → List ℕ → Result
+nearestReading bytes s o =
+    onSheet 3 bytes s o (λ b.
+    pick (ltb readingLimit (product (b .counts))) (turned 3 s o 23 0)
+    (pick (ltb (length o) (length (b .counts))) (turned 3 s o 18 0)
+    (done (nearestCounts (nearest b s)) s (readingInto (nearest b s) o))))

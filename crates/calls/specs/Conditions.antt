@@ -20,7 +20,8 @@ use Rattle.consistency.specs.Counts.{bit, codesIn, outside, answered, inDoubt, 
 use Rattle.consistency.specs.Order.{InOrder, In}
 use Rattle.consistency.specs.Alike.{Alike}
 use Rattle.consistency.specs.Ties.{FieldIn}
-use Rattle.calls.specs.Calls.{Result, freshSheet, done, beside, placeOk, sheetFrom, entered, withdrawn, photographed, cleared, filtered, alternatives, loaded, stored, rowBehind}
+use Rattle.consistency.specs.Nearest.{product}
+use Rattle.calls.specs.Calls.{Result, freshSheet, done, beside, placeOk, sheetFrom, entered, withdrawn, photographed, cleared, filtered, alternatives, loaded, stored, rowBehind, readingLimit, nearestReading}
 use Rattle.calls.specs.Histories.{Call, Answers, given, doubtful, noAnswers, answersAfter, refusalsFrom, sheetOf, results, sheetAfter}
 
 -- ---- Condition 1: "The answer to any bytes, sheet and call is the one that document 01 defines" is the contracts of the calls;
@@ -39,6 +40,7 @@ pub data Request : Type 0 where
   to-store : List ℕ → Request
   to-load : List ℕ → Request
   to-row : ℕ → ℕ → ℕ → Request
+  to-nearest : List ℕ → Request
   to-show : List ℕ → Request
   to-write : List ℕ → List ℕ → Request
 
@@ -54,6 +56,7 @@ resultOf bytes s (to-list o) = alternatives bytes s o
 resultOf bytes s (to-store o) = stored bytes s o
 resultOf bytes s (to-load form) = loaded bytes form
 resultOf bytes s (to-row f c i) = rowBehind bytes s f c i
+resultOf bytes s (to-nearest o) = nearestReading bytes s o
 resultOf bytes s (to-show o) = beside s (showing bytes o)
 resultOf bytes s (to-write l o) = beside s (writing l o)
 
@@ -70,6 +73,7 @@ givenBook (to-list o) = true
 givenBook (to-store o) = true
 givenBook (to-load form) = true
 givenBook (to-row f c i) = true
+givenBook (to-nearest o) = true
 givenBook (to-show o) = true
 givenBook (to-write l o) = false
 
@@ -86,6 +90,7 @@ sheetGiven s (to-list o) = s
 sheetGiven s (to-store o) = s
 sheetGiven s (to-load form) = freshSheet
 sheetGiven s (to-row f c i) = s
+sheetGiven s (to-nearest o) = s
 sheetGiven s (to-show o) = s
 sheetGiven s (to-write l o) = s
 
@@ -101,6 +106,7 @@ lentTo (to-list o) = o
 lentTo (to-store o) = o
 lentTo (to-load form) = []
 lentTo (to-row f c i) = []
+lentTo (to-nearest o) = o
 lentTo (to-show o) = o
 lentTo (to-write l o) = o
 
@@ -117,6 +123,7 @@ countsOf (to-list o) = 2
 countsOf (to-store o) = 0
 countsOf (to-load form) = 0
 countsOf (to-row f c i) = 2
+countsOf (to-nearest o) = 3
 countsOf (to-show o) = 1
 countsOf (to-write l o) = 1
 
@@ -178,6 +185,10 @@ pub data Refusal (b : Book) (s : Sheet) : Request → ℕ → ℕ → Type 0 whe
   row-15 : {f c i : ℕ} → NoFault b s → length (b .counts) ≤ f → Refusal b s (to-row f c i) 15 0
   row-16 : {f c i : ℕ} → NoFault b s → f < length (b .counts) → codes b f ≤ c → Refusal b s (to-row f c i) 16 0
   row-21 : {f c i : ℕ} → NoFault b s → f < length (b .counts) → c < codes b f → NotInTable b f i → Refusal b s (to-row f c i) 21 0
+  -- Request M-106: "After 14: 23, place 0, the product of all code counts exceeds 65,536. Then 18, fewer bytes lent than fields"
+  nearest-14 : {p : ℕ} {o : List ℕ} → FirstFault b s p → Refusal b s (to-nearest o) 14 p
+  nearest-23 : {o : List ℕ} → NoFault b s → readingLimit < product (b .counts) → Refusal b s (to-nearest o) 23 0
+  nearest-18 : {o : List ℕ} → NoFault b s → product (b .counts) ≤ readingLimit → length o < length (b .counts) → Refusal b s (to-nearest o) 18 0
   -- Request M-100: "Showing: 1 to 13, then 18, too few numbers lent"
   show-18 : {o : List ℕ} → length o < length (listingOf b) → Refusal b s (to-show o) 18 0
 

@@ -3,12 +3,13 @@
 use Prim.Native.Nat.{ℕ}
 use mathlib.Core.Path.{_≡_}
 use mathlib.Core.List.{List, [], _∷_, _++_, map}
-use mathlib.Core.Bool.{Bool, true, false, _&&_}
-use lib.ListN.{length, getD, replicate}
-use Rattle.format.specs.Format.{Table, Book, encode, bookOf, isIn}
+use mathlib.Core.Bool.{false}
+use lib.ListN.{length, replicate}
+use Rattle.format.specs.Format.{Book, encode, bookOf}
 use Rattle.format.specs.Reading.{Outcome, refused, accepted, reading}
 use Rattle.format.specs.Examples.{e1}
 use Rattle.consistency.specs.Consistency.{Sheet}
+use Rattle.consistency.specs.Nearest.{isFull}
 use Rattle.calls.specs.Calls.{loaded, filtered, alternatives, rowBehind}
 
 -- the rows of a table that makes two fields of two codes differ
@@ -145,15 +146,7 @@ answered e =
 abbrev pub ExamplesHold : Type 0
 ExamplesHold = map answered examples ≡ examples
 
--- "no full reading exists": a reading of three fields is full when each table has the row of its codes for the table's fields
-abbrev pub rowFor : List ℕ → List ℕ → List ℕ
-rowFor reading [] = []
-rowFor reading (f ∷ fs) = getD reading f 0 ∷ rowFor reading fs
-
-abbrev pub isFull : List Table → List ℕ → Bool
-isFull [] reading = true
-isFull (t ∷ ts) reading = isIn (rowFor reading (t .fields)) (t .rows) && isFull ts reading
-
+-- "no full reading exists": E4's eight readings
 abbrev pub readingsOfE4 : List (List ℕ)
 readingsOfE4 =
     (0 ∷ 0 ∷ 0 ∷ []) ∷ (0 ∷ 0 ∷ 1 ∷ []) ∷ (0 ∷ 1 ∷ 0 ∷ []) ∷ (0 ∷ 1 ∷ 1 ∷ []) ∷ (1 ∷ 0 ∷ 0 ∷ []) ∷ (1 ∷ 0 ∷ 1 ∷ []) ∷ (1 ∷ 1 ∷ 0 ∷ []) ∷ (1 ∷ 1 ∷ 1 ∷ []) ∷ []

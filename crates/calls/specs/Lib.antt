@@ -5,3 +5,4 @@ pub mod Conditions
 pub mod Examples
 pub mod Rows
 pub mod Photographs
+pub mod Nearest

@@ -8,3 +8,5 @@ pub mod Alike
 pub mod Ties
 pub mod Unary
 pub mod Rows
+pub mod Readings
+pub mod Nearest
