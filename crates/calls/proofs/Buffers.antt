@@ -18,7 +18,7 @@ use Rattle.consistency.specs.Counts.{total}
 use Rattle.consistency.proofs.Limits.{total-few}
 use Rattle.calls.specs.Calls.{freshSheet}
 use Rattle.calls.specs.Buffers.{Suffices}
-use Rattle.calls.specs.Conditions.{Request, to-filter, to-list, to-store, to-show, to-write, resultOf, givenBook, Refusal, filter-14, filter-15, filter-17, filter-18, list-14, list-18, store-14, store-22, store-18, show-18, WriteRefusal, write-missing, write-left-over, write-too-large, write-unread, write-18, RefusedBy, the-book, the-call, the-listing}
+use Rattle.calls.specs.Conditions.{Request, to-filter, to-list, to-store, to-nearest, to-show, to-write, resultOf, givenBook, Refusal, filter-14, filter-15, filter-17, filter-18, list-14, list-18, store-14, store-22, store-18, nearest-14, nearest-23, nearest-18, show-18, WriteRefusal, write-missing, write-left-over, write-too-large, write-unread, write-18, RefusedBy, the-book, the-call, the-listing}
 use Rattle.calls.proofs.Sheets.{Within, accepted-within}
 use Rattle.calls.proofs.Condition1.{condition1}
 
@@ -56,6 +56,11 @@ module _ {b : Book} {s : Sheet} {o : List ℕ} where
   store-short (store-22 w k p) n = absurd (omega arith)
   store-short (store-18 w p l) n = l
 
+  nearest-short : {number place : ℕ} → Refusal b s (to-nearest o) number place → number ≡ 18 → length o < length (b .counts)
+  nearest-short (nearest-14 h) n = absurd (omega arith)
+  nearest-short (nearest-23 w h) n = absurd (omega arith)
+  nearest-short (nearest-18 w h l) n = l
+
   show-short : {number place : ℕ} → Refusal b s (to-show o) number place → length o < length (listingOf b)
   show-short (show-18 l) = l
 
@@ -79,6 +84,9 @@ suffices =
       form = λ bytes s o l e.
           let r = refused-18 bytes s (to-store o) refl e in
           omega (arith, store-short (r .1) e, accepted-within bytes (r .0) .few);
+      reading = λ bytes s o l e.
+          let r = refused-18 bytes s (to-nearest o) refl e in
+          omega (arith, nearest-short (r .1) e, accepted-within bytes (r .0) .few);
       listing = λ bytes o l e.
           let r = refused-18 bytes freshSheet (to-show o) refl e in
           let well = promise-well bytes (accepted-promise bytes (r .0)) in

@@ -19,10 +19,11 @@ use Rattle.format.proofs.ByteTests.{bytes-true, true-bytes}
 use Rattle.consistency.specs.Consistency.{places, Sheet, codes, nth, answer, backed, relax}
 use Rattle.consistency.specs.Counts.{total}
 use Rattle.consistency.specs.Rows.{hasField}
+use Rattle.consistency.specs.Nearest.{product}
 use Rattle.consistency.proofs.Booleans.{true-T, false-T, T-true, T-false, any-in, any-out}
 use Rattle.consistency.proofs.FirstRows.{has-field}
-use Rattle.calls.specs.Calls.{Result, turned, done, beside, faultOf, onSheet, replacesBacked, anyBacked, masksInto, sheetFrom, entered, withdrawn, photographed, filtered, alternatives, loaded, stored, rowBehind}
-use Rattle.calls.specs.Conditions.{Request, to-read, to-fresh, to-enter, to-withdraw, to-photograph, to-clear, to-filter, to-list, to-store, to-load, to-row, to-show, to-write, resultOf, givenBook, sheetGiven, lentTo, countsOf, FirstFault, NoFault, NoPhotograph, NotInTable, Refusal, enter-14, enter-15, enter-16, enter-22, withdraw-14, withdraw-15, withdraw-17, withdraw-22, photograph-14, photograph-15, photograph-17, filter-14, filter-15, filter-17, filter-18, list-14, list-18, store-14, store-22, store-18, load-19, load-14, row-14, row-15, row-16, row-21, show-18, WriteRefusal, write-missing, write-left-over, write-too-large, write-unread, write-18, RefusedBy, the-book, the-call, the-listing, IsRefusal, Condition1}
+use Rattle.calls.specs.Calls.{Result, turned, done, beside, faultOf, onSheet, replacesBacked, anyBacked, masksInto, sheetFrom, entered, withdrawn, photographed, filtered, alternatives, loaded, stored, rowBehind, readingLimit, nearestReading}
+use Rattle.calls.specs.Conditions.{Request, to-read, to-fresh, to-enter, to-withdraw, to-photograph, to-clear, to-filter, to-list, to-store, to-load, to-row, to-nearest, to-show, to-write, resultOf, givenBook, sheetGiven, lentTo, countsOf, FirstFault, NoFault, NoPhotograph, NotInTable, Refusal, enter-14, enter-15, enter-16, enter-22, withdraw-14, withdraw-15, withdraw-17, withdraw-22, photograph-14, photograph-15, photograph-17, filter-14, filter-15, filter-17, filter-18, list-14, list-18, store-14, store-22, store-18, load-19, load-14, row-14, row-15, row-16, row-21, nearest-14, nearest-23, nearest-18, show-18, WriteRefusal, write-missing, write-left-over, write-too-large, write-unread, write-18, RefusedBy, the-book, the-call, the-listing, IsRefusal, Condition1}
 use Rattle.calls.proofs.Faults.{first-fault, fault-free, backed-known}
 use Rattle.calls.proofs.CallLaws.{pick-cases, fault-holds, book-holds, sheet-holds}
 use Rattle.calls.proofs.Held.{other-code}
@@ -148,7 +149,7 @@ none-backed : (s : Sheet) → anyBacked s ≡ false → NoPhotograph s
 none-backed s t k l = T-false (λ u. false-T t (any-in places (backed s) k l u))
 
 pub condition1 : Condition1
-unfolding entered withdrawn photographed filtered alternatives loaded stored rowBehind
+unfolding entered withdrawn photographed filtered alternatives loaded stored rowBehind nearestReading
 condition1 bytes s to-read = read-settled bytes s
 condition1 bytes s to-fresh = done-settled
 condition1 bytes s (to-enter f c) =
@@ -216,5 +217,12 @@ condition1 bytes s (to-row f c i) =
     fail-settled e (ltb c (codes b f)) (λ u. row-16 w (ltb-true f n t) (ltb-false c (codes b f) u)) (λ u.
     fail-settled e (hasField (nth b i) f) (λ v. row-21 w (ltb-true f n t) (ltb-true c (codes b f) u) (not-there b f i v)) (λ v.
     done-settled))))
+condition1 bytes s (to-nearest o) =
+    let b : Book = bookOf bytes in
+    let n : ℕ = length (b .counts) in
+    let m : ℕ = product (b .counts) in
+    sheet-settled refl _ (λ p. nearest-14) (λ e w.
+    pass-settled e (ltb readingLimit m) (λ t. nearest-23 w (ltb-true readingLimit m t)) (λ t.
+    pass-settled e (ltb (length o) n) (λ u. nearest-18 w (ltb-false readingLimit m t) (ltb-true (length o) n u)) (λ u. done-settled)))
 condition1 bytes s (to-show o) = show-settled bytes s o
 condition1 bytes s (to-write l o) = write-settled bytes s l o

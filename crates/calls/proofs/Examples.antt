@@ -8,8 +8,11 @@ use Rattle.consistency.specs.Largest.{removeFrom, remove, countOf, count, rowSu
 use Rattle.consistency.specs.Emptiness.{noneEmpty}
 use Rattle.consistency.specs.Counts.{codesIn, outside, total, struck, lines, masks}
 use Rattle.consistency.specs.Rows.{firstSupport}
-use Rattle.calls.specs.Calls.{loaded, filtered, alternatives, rowBehind}
+use Rattle.consistency.specs.Readings.{differing}
+use Rattle.consistency.specs.Nearest.{keepsBacked, after, readings, nearest}
+use Rattle.calls.specs.Calls.{loaded, filtered, alternatives, rowBehind, nearestReading}
 use Rattle.calls.specs.Examples.{ExamplesHold, NoneFull}
+use Rattle.calls.specs.Nearest.{NearestExamplesHold}
 
 pub examples-hold : ExamplesHold
 unfolding scan firstBad encode tableBytes trailerBytes rowsAt tableAt tablesAt bookOf trailerTest listTest rowsStep tableStep tablesStep verdict reading tabulate removeFrom remove countOf count rowSupports tableSupports bookSupports start rounds largestDomains noneEmpty codesIn outside total struck lines masks firstSupport loaded filtered alternatives rowBehind
@@ -17,3 +20,7 @@ examples-hold = refl
 
 pub none-full : NoneFull
 none-full = refl
+
+pub nearest-examples : NearestExamplesHold
+unfolding scan firstBad encode tableBytes trailerBytes rowsAt tableAt tablesAt bookOf trailerTest listTest rowsStep tableStep tablesStep verdict tabulate differing keepsBacked after readings nearest nearestReading
+nearest-examples = refl

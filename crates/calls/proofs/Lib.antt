@@ -11,6 +11,7 @@ pub mod Written
 pub mod Condition3
 pub mod Condition1
 pub mod RowsShown
+pub mod NearestShown
 pub mod Buffers
 pub mod Condition2
 pub mod Repeats
