@@ -24,3 +24,7 @@ pub mod Answers
 pub mod Chains
 pub mod ChainsExample
 pub mod FirstRows
+pub mod Suiting
+pub mod Choosing
+pub mod ReadingOrder
+pub mod Nearest

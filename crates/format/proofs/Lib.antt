@@ -31,3 +31,4 @@ pub mod ListingWords
 pub mod Writable
 pub mod WriteAndShow
 pub mod E1Listing
+pub mod SameCodes

@@ -8,11 +8,11 @@ use native.Mathlib.Omega.{arith}
 use lib.ListN.{length, getD}
 use lib.Seq.{ext-getD}
 use lib.Dec.{eqb}
-use borrow.Author.Tests.{eq-eqb, ne-eqb, eqb-true}
+use borrow.Author.Tests.{eq-eqb, ne-eqb}
 use Rattle.format.specs.Basics.{All}
 use Rattle.format.specs.Format.{Table, TableOk, RowOk, codeLimit, sameCodes, isIn, different, rowsAt}
 use Rattle.format.proofs.Elements.{all-at, all-or}
-use Rattle.format.proofs.Picks.{both-true}
+use Rattle.format.proofs.SameCodes.{same-codes, codes-same}
 use Rattle.format.specs.Examples.{e1}
 use Rattle.words.specs.Sorting.{isAmong, distinct}
 use Rattle.words.specs.RowWord.{rowWord, SameWords, EqualRows}
@@ -57,20 +57,6 @@ module _ (n : ℕ) (few : n ≤ 4) (r q : List ℕ) (w : RowOf n r) (v : RowOf n
   -- two rows of n codes are equal exactly when their words are
   rows-equal : (r ≡ q) ↔ (rowWord r ≡ rowWord q)
   rows-equal = (λ e. ap rowWord e, words-rows)
-
-same-codes : (r q : List ℕ) → sameCodes r q ≡ true → r ≡ q
-same-codes [] [] e = refl
-same-codes [] (d ∷ q) e = cc
-same-codes (c ∷ r) [] e = cc
-same-codes (c ∷ r) (d ∷ q) e =
-    let b = both-true (eqb c d) (sameCodes r q) e in
-    let x = eqb-true c d (b .0) in
-    let y = same-codes r q (b .1) in
-    cc
-
-codes-same : (r : List ℕ) → sameCodes r r ≡ true
-codes-same [] = refl
-codes-same (c ∷ r) = rw (eq-eqb c c refl) (codes-same r)
 
 module _ (n : ℕ) (few : n ≤ 4) where
   -- comparing rows is comparing words
