@@ -15,7 +15,8 @@ use Rattle.format.proofs.Accepted.{accepted-verdict, verdict-accepted}
 use Rattle.consistency.specs.Consistency.{Sheet}
 use Rattle.consistency.specs.Alike.{Alike}
 use Rattle.consistency.specs.Readings.{Suits, differing, IsNearest}
-use Rattle.consistency.specs.Nearest.{Nearest, none, found, nearest, product, NearestLaw}
+use Rattle.consistency.specs.Nearest.{Nearest, none, found, nearest, product}
+use Rattle.consistency.proofs.Nearest.{nearest-law}
 use Rattle.calls.specs.Calls.{Result, turned, done, readingLimit, nearestCounts, readingInto, nearestReading}
 use Rattle.calls.specs.Conditions.{NoFault}
 use Rattle.calls.specs.Nearest.{tellsReading, tellsNone, Request106}
@@ -71,7 +72,7 @@ module _ (bytes : List ℕ) (s : Sheet) (o : List ℕ) where
       sheet-go 3 bytes s o _ (accepted-verdict bytes (p .0)) (omega (arith, fault-none b s (p .1)))
       ∙ simp (le-ltb readingLimit (product (b .counts)) (p .2), le-ltb (length o) (length (b .counts)) (p .3))
 
-  module _ (law : NearestLaw) (n : nearestReading bytes s o .outcome .number ≡ 0) where
+  module _ (n : nearestReading bytes s o .outcome .number ≡ 0) where
     -- so this is what an accepted call answers
     answers : nearestReading bytes s o ≡ told s o (nearest (bookOf bytes) s)
     answers = reading-go (passes n)
@@ -82,35 +83,35 @@ module _ (bytes : List ℕ) (s : Sheet) (o : List ℕ) where
         let b : Book = bookOf bytes in (
           λ e.
               let same : told s o (nearest b s) ≡ tellsReading bytes s o r = sym answers ∙ e in
-              law .exactly b s r .0
+              nearest-law .exactly b s r .0
               (reading-told (nearest b s) (differing b (s .answers) r) r o (ap (λ (y : Result). y .outcome .counts) same) (ap (λ (y : Result). y .buffer) same)),
-          λ h. answers ∙ ap (told s o) (law .exactly b s r .1 h),
+          λ h. answers ∙ ap (told s o) (nearest-law .exactly b s r .1 h),
         )
 
     -- it tells none exactly when there is none to choose from
     none-exactly : (nearestReading bytes s o ≡ tellsNone s o) ↔ ((r : List ℕ) → Suits (bookOf bytes) s r → ⊥)
     none-exactly =
         let b : Book = bookOf bytes in (
-          λ e. law .none-exactly b s .0 (none-told (nearest b s) (ap (λ (y : Result). y .outcome .counts) (sym answers ∙ e))),
-          λ h. answers ∙ ap (told s o) (law .none-exactly b s .1 h),
+          λ e. nearest-law .none-exactly b s .0 (none-told (nearest b s) (ap (λ (y : Result). y .outcome .counts) (sym answers ∙ e))),
+          λ h. answers ∙ ap (told s o) (nearest-law .none-exactly b s .1 h),
         )
 
 -- ---- alike books
 
 -- 14, 23 and 18 turn on the field list alone, and the nearest is the same for both
-same-reading : NearestLaw → (bytes bytes′ : List ℕ) → Accepted bytes → Accepted bytes′ → Alike (bookOf bytes) (bookOf bytes′) → (s : Sheet) (o : List ℕ)
+same-reading : (bytes bytes′ : List ℕ) → Accepted bytes → Accepted bytes′ → Alike (bookOf bytes) (bookOf bytes′) → (s : Sheet) (o : List ℕ)
     → nearestReading bytes s o ≡ nearestReading bytes′ s o
 unfolding nearestReading
-same-reading law bytes bytes′ ok ok′ alike s o =
+same-reading bytes bytes′ ok ok′ alike s o =
     book-go bytes (turned 3 s o) _ (accepted-verdict bytes ok)
-    ∙ rw (← law .alike (bookOf bytes) (bookOf bytes′) s alike, ← alike .same-counts)
+    ∙ rw (← nearest-law .alike (bookOf bytes) (bookOf bytes′) s alike, ← alike .same-counts)
     (sym (book-go bytes′ (turned 3 s o) _ (accepted-verdict bytes′ ok′)))
 
-pub request106 : NearestLaw → Request106
-request106 law =
+pub request106 : Request106
+request106 =
     record {
       accepts-exactly = λ bytes s o. (passes bytes s o, λ p. ap (λ (r : Result). r .outcome .number) (reading-go bytes s o p));
-      shows-exactly = λ bytes s o. shows-exactly bytes s o law;
-      none-exactly = λ bytes s o. none-exactly bytes s o law;
-      alike = same-reading law;
+      shows-exactly = shows-exactly;
+      none-exactly = none-exactly;
+      alike = same-reading;
     }
