@@ -29,7 +29,7 @@ fn row_mask(arity: usize) -> usize
 
 // The row of arity codes at p as a word: the first code in the highest byte, zeros behind the last. Four bytes are read in any case,
 // at once, and those behind the row cleared: a book goes on behind its tables.
-fn row_word(book: &[u8], p: usize, arity: usize) -> u32
+pub fn row_word(book: &[u8], p: usize, arity: usize) -> u32
     requires { ⌜ RowFits (now book) arity p ⌝ }
     ensures { λ r. ⌜ r ≡ rowWord (part (now (book .entry)) p arity) ⌝ }
 {

@@ -12,8 +12,9 @@ mod different;
 mod scans;
 mod tests;
 
-// The crates above copy bytes into memory lent with it.
+// The crates above copy bytes into memory lent with it, and hold rows against others by their words.
 pub use copies::copy;
+pub use different::row_word;
 
 // The last byte of every book.
 pub const CLOSING_BYTE: u8 = 0xE5;

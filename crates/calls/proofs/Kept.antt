@@ -10,7 +10,8 @@ use Rattle.format.proofs.Picks.{pick-holds}
 use Rattle.consistency.specs.Consistency.{places, Sheet, codes, nth, answer}
 use Rattle.consistency.specs.Counts.{total}
 use Rattle.consistency.specs.Rows.{hasField}
-use Rattle.calls.specs.Calls.{Result, turned, faultOf, withBook, faultThen, onSheet, anyBacked, masksInto, filtered, alternatives, stored, rowBehind}
+use Rattle.consistency.specs.Nearest.{product, readingLimit}
+use Rattle.calls.specs.Calls.{Result, turned, faultOf, withBook, faultThen, onSheet, anyBacked, masksInto, filtered, alternatives, stored, rowBehind, nearestReading}
 
 module _ (bytes : List ℕ) (s : Sheet) (o : List ℕ) where
   -- a result with this sheet
@@ -43,6 +44,12 @@ module _ (bytes : List ℕ) (s : Sheet) (o : List ℕ) where
   unfolding stored
   stored-keeps =
       on-sheet 0 _ (pick-holds Kept (anyBacked s) refl (pick-holds Kept (ltb (length o) (length (bookOf bytes .counts))) refl refl))
+
+  pub nearest-keeps : nearestReading bytes s o .sheet ≡ s
+  unfolding nearestReading
+  nearest-keeps =
+      on-sheet 3 _
+      (pick-holds Kept (ltb readingLimit (product (bookOf bytes .counts))) refl (pick-holds Kept (ltb (length o) (length (bookOf bytes .counts))) refl refl))
 
 pub row-keeps : (bytes : List ℕ) (s : Sheet) (f c i : ℕ) → rowBehind bytes s f c i .sheet ≡ s
 unfolding rowBehind

@@ -15,9 +15,9 @@ use Rattle.format.proofs.Accepted.{accepted-verdict, verdict-accepted}
 use Rattle.consistency.specs.Consistency.{Sheet}
 use Rattle.consistency.specs.Alike.{Alike}
 use Rattle.consistency.specs.Readings.{Suits, differing, IsNearest}
-use Rattle.consistency.specs.Nearest.{Nearest, none, found, nearest, product}
+use Rattle.consistency.specs.Nearest.{Nearest, none, found, nearest, product, readingLimit}
 use Rattle.consistency.proofs.Nearest.{nearest-law}
-use Rattle.calls.specs.Calls.{Result, turned, done, readingLimit, nearestCounts, readingInto, nearestReading}
+use Rattle.calls.specs.Calls.{Result, turned, done, nearestCounts, readingInto, nearestReading}
 use Rattle.calls.specs.Conditions.{NoFault}
 use Rattle.calls.specs.Nearest.{tellsReading, tellsNone, Request106}
 use Rattle.calls.proofs.Faults.{fault-free, fault-none}

@@ -12,7 +12,7 @@ use Rattle.consistency.specs.Counting.{anyBelow}
 use Rattle.consistency.specs.Consistency.{places, Sheet, sheetWith, codes, nth, answer, backed, relax}
 use Rattle.consistency.specs.Counts.{total, struck, lines, lineBytes, masks}
 use Rattle.consistency.specs.Rows.{RowFound, at-row, no-row, hasField, firstSupport}
-use Rattle.consistency.specs.Nearest.{Nearest, none, found, nearest, product}
+use Rattle.consistency.specs.Nearest.{Nearest, none, found, nearest, product, readingLimit}
 
 -- what a call leaves behind: its answer, the sheet handed back, and the contents of the buffer lent (none lent: [])
 pub record Result : Type 0 where
@@ -173,10 +173,6 @@ rowBehind bytes s f c i =
     (pick (hasField (nth b i) f) (done (rowCounts (firstSupport b (s .answers) f c i)) s []) (turned 2 s [] 21 0))
     (turned 2 s [] 16 0))
     (turned 2 s [] 15 0))
-
--- the most readings, full or not, that a book may have where the nearest is asked for
-abbrev pub readingLimit : ℕ
-readingLimit = 65536
 
 -- what is counted of the nearest reading: whether there is one, "the number of differing fields", and the bytes written; for none "every count is 0"
 abbrev pub nearestCounts : Nearest → List ℕ

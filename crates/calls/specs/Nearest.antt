@@ -4,16 +4,16 @@ use Prim.Native.Nat.{ℕ, _≤_}
 use mathlib.Core.Path.{_≡_}
 use mathlib.Core.Logic.{_↔_}
 use mathlib.Core.List.{List, [], _∷_, _++_, map}
-use mathlib.Core.Bool.{Bool, true, false}
+use mathlib.Core.Bool.{Bool, true}
 use lib.ListN.{length, drop, replicate}
 use Rattle.format.specs.Format.{encode, bookOf}
 use Rattle.format.specs.Reading.{Outcome, accepted, refused, Accepted}
 use Rattle.format.specs.Examples.{e1}
 use Rattle.consistency.specs.Consistency.{Sheet, sheetWith}
 use Rattle.consistency.specs.Readings.{Suits, differing, IsNearest}
-use Rattle.consistency.specs.Nearest.{product}
+use Rattle.consistency.specs.Nearest.{product, readingLimit}
 use Rattle.consistency.specs.Alike.{Alike}
-use Rattle.calls.specs.Calls.{Result, done, sheetFrom, readingLimit, nearestReading}
+use Rattle.calls.specs.Calls.{Result, done, sheetFrom, nearestReading}
 use Rattle.calls.specs.Conditions.{NoFault}
 use Rattle.calls.specs.Examples.{e4}
 

@@ -85,11 +85,11 @@ OneColumn t = (j k : ℕ) → j < length (t .fields) → k < length (t .fields) 
 
 module _ (t : Table) (f : ℕ) where
   -- a column below the number of columns is for the field
-  column-is : columnOf t f < length (t .fields) → fieldOf t (columnOf t f) ≡ f
+  pub column-is : columnOf t f < length (t .fields) → fieldOf t (columnOf t f) ≡ f
   column-is l = eqb→eq (fieldOf t (columnOf t f)) f (where-holds (λ j. eqb (fieldOf t j) f) (length (t .fields)) l)
 
   -- a field of the table has its column
-  column-there : FieldIn f t → columnOf t f < length (t .fields)
+  pub column-there : FieldIn f t → columnOf t f < length (t .fields)
   column-there q = go (decLt (q .0) (columnOf t f))
     where
       go : Dec (q .0 < columnOf t f) → columnOf t f < length (t .fields)

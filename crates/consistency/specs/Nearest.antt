@@ -61,6 +61,10 @@ abbrev pub product : List ℕ → ℕ
 product [] = 1
 product (c ∷ cs) = c * product cs
 
+-- 23, "the product of all code counts exceeds 65,536": the most readings, full or not, of a book in which the nearest is sought
+abbrev pub readingLimit : ℕ
+readingLimit = 65536
+
 -- ---- that it is the one to show
 
 pub record NearestLaw : Type 0 where

@@ -6,23 +6,25 @@ use native.Mathlib.Omega.{arith}
 use lib.ListN.{getD}
 use Rattle.format.specs.Reading.{Outcome}
 use Rattle.book.specs.declared.Refusal.the-variants as book
-use Rattle.sheet.specs.Shown.{numberOf, shown, shownListing, shownRow}
+use Rattle.sheet.specs.Shown.{numberOf, shown, shownListing, shownRow, shownReading}
 use Rattle.sheet.specs.declared.Reason.{Reason}
-use Rattle.sheet.specs.declared.Reason.the-variants.{Book, Fault, Field, Code, NoAnswer, Room, Length, Table, Photographed}
+use Rattle.sheet.specs.declared.Reason.the-variants.{Book, Fault, Field, Code, NoAnswer, Room, Length, Table, Photographed, Readings}
 use Rattle.sheet.specs.declared.Answer.{Answer}
 use Rattle.sheet.specs.declared.Answer.the-variants.{Done, Refused}
 use Rattle.sheet.specs.declared.Listing.{Listing}
 use Rattle.sheet.specs.declared.Listing.the-variants.{Listed, Unlisted}
 use Rattle.sheet.specs.declared.RowAnswer.{RowAnswer}
 use Rattle.sheet.specs.declared.RowAnswer.the-variants.{Row, NoRow, Unshown}
+use Rattle.sheet.specs.declared.ReadingAnswer.{ReadingAnswer}
+use Rattle.sheet.specs.declared.ReadingAnswer.the-variants.{Reading, NoReading, Unread}
 
--- the reason of a number from 1 to 19, of 21 and of 22
+-- the reason of a number from 1 to 19 and from 21 to 23
 reasonOf : ℕ → Reason
 reasonOf n =
     getD
     (Length ∷ Book book.Length ∷ Book book.Closing ∷ Book book.Version ∷ Book book.FieldCount ∷ Book book.TableCount
     ∷ Book book.ListPlace ∷ Book book.CodeCount ∷ Book book.Short ∷ Book book.Arity ∷ Book book.FieldNumber ∷ Book book.Code
-    ∷ Book book.RowCount ∷ Book book.LeftOver ∷ Fault ∷ Field ∷ Code ∷ NoAnswer ∷ Room ∷ Length ∷ Length ∷ Table ∷ Photographed ∷ [])
+    ∷ Book book.RowCount ∷ Book book.LeftOver ∷ Fault ∷ Field ∷ Code ∷ NoAnswer ∷ Room ∷ Length ∷ Length ∷ Table ∷ Photographed ∷ Readings ∷ [])
     n Length
 
 -- a reason's number is not 0, and tells the reason
@@ -49,6 +51,7 @@ numbered Room = (omega arith, refl)
 numbered Length = (omega arith, refl)
 numbered Table = (omega arith, refl)
 numbered Photographed = (omega arith, refl)
+numbered Readings = (omega arith, refl)
 
 -- no refusal is shown as accepted
 pub number-some : (r : Reason) → 1 ≤ numberOf r
@@ -93,3 +96,15 @@ shownRow-injective NoRow (Unshown r p) e = absurd (omega (arith, numbers e, numb
 shownRow-injective (Unshown r p) (Row n) e = absurd (omega (arith, numbers e, number-some r))
 shownRow-injective (Unshown r p) NoRow e = absurd (omega (arith, numbers e, number-some r))
 shownRow-injective (Unshown r p) (Unshown r′ p′) e = ap₂ Unshown (number-injective r r′ (numbers e)) (places e)
+
+-- the answers of nearest
+pub shownReading-injective : (x y : ReadingAnswer) → shownReading x ≡ shownReading y → x ≡ y
+shownReading-injective (Reading d w) (Reading d′ w′) e = ap₂ Reading (count 1 e) (count 2 e)
+shownReading-injective (Reading d w) NoReading e = let z : _≡_ {A = ℕ} 1 0 = count 0 e in absurd (omega arith)
+shownReading-injective (Reading d w) (Unread r p) e = absurd (omega (arith, numbers e, number-some r))
+shownReading-injective NoReading (Reading d w) e = let z : _≡_ {A = ℕ} 0 1 = count 0 e in absurd (omega arith)
+shownReading-injective NoReading NoReading e = refl
+shownReading-injective NoReading (Unread r p) e = absurd (omega (arith, numbers e, number-some r))
+shownReading-injective (Unread r p) (Reading d w) e = absurd (omega (arith, numbers e, number-some r))
+shownReading-injective (Unread r p) NoReading e = absurd (omega (arith, numbers e, number-some r))
+shownReading-injective (Unread r p) (Unread r′ p′) e = ap₂ Unread (number-injective r r′ (numbers e)) (places e)

@@ -6,6 +6,7 @@ pub mod OwnCases
 pub mod PlainMasks
 pub mod ListCases
 pub mod RowCases
+pub mod NearestCases
 pub mod Replays
 pub mod Openings
 pub mod Places

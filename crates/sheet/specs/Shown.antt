@@ -8,7 +8,7 @@ use Rattle.book.specs.Shown as book
 use Rattle.filter.specs.declared.Supporting.{Supporting}
 use Rattle.filter.specs.declared.Supporting.the-variants as filter
 use Rattle.sheet.specs.declared.Reason.{Reason}
-use Rattle.sheet.specs.declared.Reason.the-variants.{Book, Fault, Field, Code, NoAnswer, Room, Length, Table, Photographed}
+use Rattle.sheet.specs.declared.Reason.the-variants.{Book, Fault, Field, Code, NoAnswer, Room, Length, Table, Photographed, Readings}
 use Rattle.sheet.specs.declared.Sheet.{Sheet}
 use Rattle.sheet.specs.declared.Answer.{Answer}
 use Rattle.sheet.specs.declared.Answer.the-variants.{Done, Refused}
@@ -16,9 +16,12 @@ use Rattle.sheet.specs.declared.Listing.{Listing}
 use Rattle.sheet.specs.declared.Listing.the-variants.{Listed, Unlisted}
 use Rattle.sheet.specs.declared.RowAnswer.{RowAnswer}
 use Rattle.sheet.specs.declared.RowAnswer.the-variants.{Row, NoRow, Unshown}
+use Rattle.sheet.specs.declared.ReadingAnswer.{ReadingAnswer}
+use Rattle.sheet.specs.declared.ReadingAnswer.the-variants.{Reading, NoReading, Unread}
 use Rattle.sheet.specs.declared.Handed.{Handed}
 use Rattle.sheet.specs.declared.HandedList.{HandedList}
 use Rattle.sheet.specs.declared.HandedRow.{HandedRow}
+use Rattle.sheet.specs.declared.HandedReading.{HandedReading}
 
 -- the papers' number of each reason
 abbrev pub numberOf : Reason → ℕ
@@ -31,6 +34,7 @@ numberOf Room = 18
 numberOf Length = 19
 numberOf Table = 21
 numberOf Photographed = 22
+numberOf Readings = 23
 
 -- what a sheet holds: its answers and its photographs
 abbrev pub heldBy : Sheet → consistency.Sheet
@@ -52,6 +56,12 @@ shownRow (Row number) = accepted (1 ∷ number ∷ [])
 shownRow NoRow = accepted (0 ∷ 0 ∷ [])
 shownRow (Unshown reason place) = refused 2 (numberOf reason) place
 
+-- the answer of nearest: 1, the number of differing fields and the bytes written; or 0, 0 and 0 for none
+abbrev pub shownReading : ReadingAnswer → Outcome
+shownReading (Reading differing written) = accepted (1 ∷ differing ∷ written ∷ [])
+shownReading NoReading = accepted (0 ∷ 0 ∷ 0 ∷ [])
+shownReading (Unread reason place) = refused 3 (numberOf reason) place
+
 -- what the filter found, as an answer: 21 where the table has no column for the field
 abbrev pub rowAnswerOf : Supporting → RowAnswer
 rowAnswerOf (filter.Row number) = Row number
@@ -67,3 +77,6 @@ listResultOf r o = record { outcome = shownListing (r .answer); sheet = heldBy (
 
 abbrev pub rowResultOf : HandedRow → Result
 rowResultOf r = record { outcome = shownRow (r .answer); sheet = heldBy (r .sheet); buffer = [] }
+
+abbrev pub readingResultOf : HandedReading → List ℕ → Result
+readingResultOf r o = record { outcome = shownReading (r .answer); sheet = heldBy (r .sheet); buffer = o }

@@ -1,4 +1,4 @@
-// The sheet and its calls. Document 01, "The sheet and its one pass" and "When a call is turned down"; document 02, M-104, M-105 and M-107.
+// The sheet and its calls. Document 01, "The sheet and its one pass" and "When a call is turned down"; document 02, M-104 to M-107.
 ghost use mathlib.Core.Path.{_≡_};
 ghost use mathlib.Core.Bool.{false};
 ghost use mathlib.Core.List.{List, [], _∷_};
@@ -6,9 +6,9 @@ ghost use Prim.Native.Nat.{ℕ, _≤_};
 ghost use lib.ListN.{getD};
 ghost use Rattle.consistency.specs.Counting.{anyBelow};
 ghost use Rattle.consistency.specs.Consistency.{places};
-ghost use Rattle.calls.specs.Calls.{freshSheet, turned, done, replacesBacked, entered, withdrawn, photographed, cleared, filtered, alternatives, stored, loaded, rowBehind};
+ghost use Rattle.calls.specs.Calls.{freshSheet, turned, done, replacesBacked, entered, withdrawn, photographed, cleared, filtered, alternatives, stored, loaded, rowBehind, nearestReading};
 ghost use Rattle.calls.specs.Histories.{callsIn, sheetAfter};
-ghost use Rattle.sheet.specs.Shown.{numberOf, heldBy, resultOf, listResultOf, rowAnswerOf, rowResultOf};
+ghost use Rattle.sheet.specs.Shown.{numberOf, heldBy, resultOf, listResultOf, rowAnswerOf, rowResultOf, readingResultOf};
 ghost use Rattle.sheet.specs.Replayed.{Replayed};
 use book::Checked;
 use book::PLACES;
@@ -28,7 +28,7 @@ pub struct Sheet {
     pub photographed: [bool; PLACES],
 }
 
-// Why a call is turned down: the reader's refusal of the book, 14 to 19, 21, or 22. numberOf (specs) gives each the papers' number.
+// Why a call is turned down: the reader's refusal of the book, 14 to 19, or 21 to 23. numberOf (specs) gives each the papers' number.
 pub enum Reason {
     Book(Refusal),
     Fault,
@@ -39,6 +39,7 @@ pub enum Reason {
     Length,
     Table,
     Photographed,
+    Readings,
 }
 
 // The papers' number of a reason.
@@ -55,6 +56,7 @@ pub fn number(reason: Reason) -> u64
         Reason::Length => 19,
         Reason::Table => 21,
         Reason::Photographed => 22,
+        Reason::Readings => 23,
     }
 }
 
@@ -92,6 +94,19 @@ pub enum RowAnswer {
 // The answer of row beside the sheet that it hands back.
 pub struct HandedRow {
     pub answer: RowAnswer,
+    pub sheet: Sheet,
+}
+
+// The answer of nearest: in how many fields the reading written differs from the answers, and its number of bytes; or that there is none.
+pub enum ReadingAnswer {
+    Reading { differing: usize, written: usize },
+    NoReading,
+    Unread(Reason, usize),
+}
+
+// The answer of nearest beside the sheet that it hands back.
+pub struct HandedReading {
+    pub answer: ReadingAnswer,
     pub sheet: Sheet,
 }
 
@@ -134,6 +149,16 @@ fn refuse_row(sheet: Sheet, reason: Reason, place: usize) -> HandedRow
 {
     HandedRow {
         answer: RowAnswer::Unshown(reason, place),
+        sheet: sheet,
+    }
+}
+
+// A refusal of nearest.
+fn refuse_reading(sheet: Sheet, reason: Reason, place: usize) -> HandedReading
+    ensures { λ r. ⌜ ((o : List ℕ) → readingResultOf r o ≡ turned 3 (heldBy sheet) o (numberOf reason) place) ⌝ }
+{
+    HandedReading {
+        answer: ReadingAnswer::Unread(reason, place),
         sheet: sheet,
     }
 }
@@ -405,6 +430,48 @@ impl Sheet {
                 let answer = row_answer(found);
                 HandedRow {
                     answer: answer,
+                    sheet: self,
+                }
+            }
+        }
+    }
+
+    // The nearest full reading that keeps the photographed answers, a byte for each field; or that there is none.
+    pub fn nearest(self, book: &[u8], out: &mut [u8]) -> HandedReading
+        ensures { λ r. ⌜ readingResultOf r (now (out .exit)) ≡ nearestReading (now (book .entry)) (heldBy self) (now (out .entry)) ⌝ }
+    {
+        let answers = self.answers;
+        let photographed = self.photographed;
+        let opened = opened::open(book, opened::seen_bytes(answers, photographed));
+        match opened {
+            Opened::Turned(reason, place) => refuse_reading(self, reason, place),
+            Opened::Ready {
+                list,
+                fields,
+                tables,
+                rows: _,
+            } => {
+                if nearest::too_many(book, list, fields, tables) {
+                    return refuse_reading(self, Reason::Readings, 0);
+                }
+                if out.len() < fields {
+                    return refuse_reading(self, Reason::Room, 0);
+                }
+                let found = nearest::search(book, list, fields, tables, answers, &photographed);
+                let least = found.least;
+                if fields < least {
+                    return HandedReading {
+                        answer: ReadingAnswer::NoReading,
+                        sheet: self,
+                    };
+                }
+                let reading = found.reading;
+                book::copy(&reading[..fields], out);
+                HandedReading {
+                    answer: ReadingAnswer::Reading {
+                        differing: least,
+                        written: fields,
+                    },
                     sheet: self,
                 }
             }

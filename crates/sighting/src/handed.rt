@@ -2,7 +2,7 @@
 ghost use mathlib.Core.List.{List, [], _∷_};
 ghost use Prim.Native.Nat.{ℕ};
 ghost use Rattle.format.specs.Reading.{accepted, refused};
-ghost use Rattle.sheet.specs.Shown.{numberOf, shown, shownListing, shownRow, resultOf, listResultOf};
+ghost use Rattle.sheet.specs.Shown.{numberOf, shown, shownListing, shownRow, shownReading, resultOf, listResultOf};
 ghost use Rattle.sighting.specs.Exported.{Tells, Changes, Makes};
 use super::sheets::SHEET_BYTES;
 use super::sheets::put;
@@ -10,6 +10,7 @@ use sheet::Answer;
 use sheet::Handed;
 use sheet::HandedList;
 use sheet::Listing;
+use sheet::ReadingAnswer;
 use sheet::Reason;
 use sheet::RowAnswer;
 
@@ -64,6 +65,26 @@ pub(crate) fn tell_row(answer: RowAnswer, outcome: &mut [u64; 3]) -> u64
             0
         }
         RowAnswer::Unshown(reason, place) => tell_refused(reason, place, outcome),
+    }
+}
+
+// The answer of the call for the nearest reading: whether there is one, its number of differing fields, and the bytes written.
+pub(crate) fn tell_reading(answer: ReadingAnswer, outcome: &mut [u64; 4]) -> u64
+    ensures { λ r. ⌜ Tells r (now (outcome .exit)) (shownReading answer) ⌝ }
+{
+    match answer {
+        ReadingAnswer::Reading { differing, written } => {
+            *outcome = [0, 1, differing as u64, written as u64];
+            0
+        }
+        ReadingAnswer::NoReading => {
+            *outcome = [0, 0, 0, 0];
+            0
+        }
+        ReadingAnswer::Unread(reason, place) => {
+            *outcome = [place as u64, 0, 0, 0];
+            sheet::number(reason)
+        }
     }
 }
 

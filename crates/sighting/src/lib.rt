@@ -9,7 +9,7 @@ ghost use Rattle.format.specs.Layout.{HasLayout};
 ghost use Rattle.format.specs.Reading.{reading};
 ghost use Rattle.format.specs.Writing.{into, showing, writing};
 ghost use Rattle.format.specs.WriteAndShow.{HasListing};
-ghost use Rattle.calls.specs.Calls.{freshSheet, cleared, entered, withdrawn, photographed, filtered, alternatives, loaded, stored, rowBehind};
+ghost use Rattle.calls.specs.Calls.{freshSheet, cleared, entered, withdrawn, photographed, filtered, alternatives, loaded, stored, rowBehind, nearestReading};
 ghost use Rattle.calls.specs.Histories.{sheetAfter, callsIn};
 ghost use Rattle.report.specs.Text.{reportText};
 ghost use Rattle.sheet.specs.Replayed.{Replayed};
@@ -21,6 +21,7 @@ use handed::hand_list;
 use handed::tell;
 use handed::tell_declined;
 use handed::tell_list;
+use handed::tell_reading;
 use handed::tell_row;
 use handed::tell_written;
 use listing::Shown;
@@ -207,6 +208,22 @@ pub extern "C" fn sighting_row(
     let handed = given.row(book, field, code, table);
     let answer = handed.answer;
     tell_row(answer, outcome)
+}
+
+// The nearest full reading, written one byte a field. Cells: place, found, differing, written.
+#[no_mangle]
+pub extern "C" fn sighting_nearest(
+    sheet: &[u8; SHEET_BYTES],
+    book: &[u8],
+    out: &mut [u8],
+    outcome: &mut [u64; 4],
+) -> u64
+    ensures { λ r. ⌜ Exports r (now (outcome .exit)) (now (sheet .entry)) (now (out .exit)) (nearestReading (now (book .entry)) (sheetIn (now (sheet .entry))) (now (out .entry))) ⌝ }
+{
+    let given = held(*sheet);
+    let handed = given.nearest(book, out);
+    let answer = handed.answer;
+    tell_reading(answer, outcome)
 }
 
 // Reads the stored form of a sheet; a refusal leaves a fresh one. Cells: place.

@@ -36,7 +36,7 @@ digits a b c d a′ b′ c′ d′ hb hc hd hb′ hc′ hd′ e =
     (p, q, r, omega arith)
 
 -- a code, or the zero behind the last
-code-small : (n : ℕ) (r : List ℕ) → RowOf n r → (k : ℕ) → getD r k 0 < 256
+pub code-small : (n : ℕ) (r : List ℕ) → RowOf n r → (k : ℕ) → getD r k 0 < 256
 code-small n r w k = all-or (λ c. c < 256) r 0 (omega arith) (w .bytes) k
 
 module _ (n : ℕ) (few : n ≤ 4) (r q : List ℕ) (w : RowOf n r) (v : RowOf n q) where
@@ -88,7 +88,7 @@ sizes [] h = tt
 sizes (c ∷ cs) h = (h .0 .1, sizes cs (h .1))
 
 -- a row of a table whose fields have at most 256 codes
-table-row : (counts fields r : List ℕ) → All (λ c. (1 ≤ c) × (c ≤ codeLimit)) counts → RowOk counts fields r → RowOf (length fields) r
+pub table-row : (counts fields r : List ℕ) → All (λ c. (1 ≤ c) × (c ≤ codeLimit)) counts → RowOk counts fields r → RowOf (length fields) r
 table-row counts [] [] h w = record { long = refl; bytes = tt }
 table-row counts [] (c ∷ r) h w = absurd w
 table-row counts (f ∷ fs) [] h w = absurd w

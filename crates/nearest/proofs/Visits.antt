@@ -1,0 +1,138 @@
+-- The turns of the search over an accepted book, as the code takes them. Assumes nothing.
+use mathlib.Core.Path.{_≡_, refl, sym, ap, _∙_}
+use mathlib.Core.Logic.{_⊎_, ⊎-elim}
+use mathlib.Core.Bool.{Bool, true, false, not, _&&_}
+use mathlib.Core.List.{List, [], _∷_, _++_}
+use Prim.Native.Nat.{ℕ, _+_, _-_, _≤_, _<_}
+use native.Mathlib.Nat.{sub-zero}
+use native.Mathlib.Omega.{arith}
+use lib.ListN.{length, getD, take, set}
+use lib.Seq.{length-take-le}
+use lib.Dec.{T, eqb}
+use Rattle.format.specs.Basics.{pick}
+use Rattle.format.specs.Format.{Book, WellFormed, byte, versionOf, bookOf}
+use Rattle.format.proofs.Decode.{promise-well}
+use Rattle.format.proofs.Limits.{limit-most}
+use Rattle.format.proofs.Views.{counts-count, counts-view}
+use Rattle.book.specs.View.{Numbered}
+use Rattle.consistency.specs.Consistency.{places, Sheet, codes, backed}
+use Rattle.consistency.specs.Readings.{differs}
+use Rattle.consistency.specs.Nearest.{Nearest, choose, readings, nearest}
+use Rattle.consistency.proofs.Limits.{many-few}
+use Rattle.nearest.specs.Words.{canHold}
+use Rattle.nearest.specs.Asks.{held, Ready}
+use Rattle.nearest.specs.declared.Found.{Found}
+use Rattle.nearest.proofs.CodeTurns.{restOf, rest-start, rest-on, held-none}
+use Rattle.nearest.proofs.Prefixes.{taken, apart-is, rows-missing, photograph-lost, too-far, ready-next, ready-leaf}
+
+-- a field differs where the count grows
+grows : (t : Bool) (d : ℕ) → d < d + pick t 1 0 → t ≡ true
+grows true d h = refl
+grows false d h = absurd (omega arith)
+
+stays : (t : Bool) (d : ℕ) → d + pick t 1 0 ≤ d → t ≡ false
+stays true d h = absurd (omega arith)
+stays false d h = refl
+
+-- no photograph, or no other code
+kept-not : (x y : Bool) → x ≡ false → T (not (x && y))
+kept-not x y e = rw e tt
+
+kept-same : (x y : Bool) → y ≡ false → T (not (x && y))
+kept-same true y e = rw e tt
+kept-same false y e = tt
+
+-- one field more differs, or none
+pub one-more : (b : Book) (z : Sheet) (R : List ℕ) (f d least m : ℕ) (t : Bool) → Ready b z R f d least → m ≡ pick t 1 0 → d + m ≤ f + 1
+one-more b z R f d least m true o e = omega (arith, o .counted, many-few f (differs (z .answers) R))
+one-more b z R f d least m false o e = omega (arith, o .counted, many-few f (differs (z .answers) R))
+
+module _ (s : List ℕ) (list fields tables : ℕ) (v : Numbered s list fields tables) where
+  -- the book has as many fields as the view says, and no more than a sheet has places
+  pub fields-are : length (bookOf s .counts) ≡ fields
+  fields-are = counts-count s (v .promise .whole) ∙ sym (v .fields-is)
+
+  pub few-fields : fields ≤ places
+  few-fields = omega (arith, v .fields-is, v .promise .few, limit-most (versionOf s))
+
+  well : WellFormed (bookOf s)
+  well = promise-well s (v .promise)
+
+  module _ (z : Sheet) where
+    -- the search begins with no code and nothing found
+    pub begins : (F : Found) → F .least ≡ fields + 1
+        → choose (bookOf s) z (readings (bookOf s) (fields - 0) []) (held fields F) ≡ nearest (bookOf s) z
+    unfolding nearest
+    begins F e =
+        ap (λ (x : Nearest). choose (bookOf s) z (readings (bookOf s) (fields - 0) []) x) (held-none fields F (omega arith))
+        ∙ rw (sub-zero, fields-are)
+
+    pub begins-ready : (R : List ℕ) (least : ℕ) → least ≡ fields + 1 → Ready (bookOf s) z R 0 0 least
+    begins-ready R least e =
+        record { within = omega arith; rows = λ g l. absurd (omega arith); kept = λ g l. absurd (omega arith); counted = refl; fewer = omega arith }
+
+    module _ (R : List ℕ) (f d : ℕ) (long : length R ≡ places) where
+      -- every field has its code
+      pub leaf : (F : Found) → Ready (bookOf s) z R f d (F .least) → fields ≤ f
+          → held fields (record { least = d; reading = R }) ≡ choose (bookOf s) z (readings (bookOf s) (fields - f) (take f R)) (held fields F)
+      leaf F o h = ready-leaf (bookOf s) well z fields fields-are R f d F (omega (arith, few-fields)) o h
+
+      module _ (count : ℕ) (h : f < fields) where
+        -- the codes of field f, from the first on
+        pub codes-start : (x : Nearest) → count ≡ byte s (list + f)
+            → restOf (bookOf s) z (take f R) (fields - (f + 1)) 0 (count - 0) x ≡ choose (bookOf s) z (readings (bookOf s) (fields - f) (take f R)) x
+        codes-start x e =
+            rest-start (bookOf s) z (take f R) (fields - (f + 1)) (fields - f) count x (omega arith)
+            (e ∙ sym at-list ∙ ap (codes (bookOf s)) (sym (length-take-le f R (omega (arith, few-fields)))))
+          where
+            at-list : codes (bookOf s) f ≡ byte s (list + f)
+            at-list = counts-view s f (omega (arith, v .fields-is)) ∙ ap (λ (l : ℕ). byte s (l + f)) (sym (v .list-is))
+
+        module _ (c : ℕ) (l : c < count) where
+          -- y is the nearest after code c
+          turn : (y x : Nearest) → y ≡ choose (bookOf s) z (readings (bookOf s) (fields - (f + 1)) (take f R ++ (c ∷ []))) x
+              → restOf (bookOf s) z (take f R) (fields - (f + 1)) (c + 1) (count - (c + 1)) y ≡ restOf (bookOf s) z (take f R) (fields - (f + 1)) c (count - c) x
+          turn y x e =
+              ap (restOf (bookOf s) z (take f R) (fields - (f + 1)) (c + 1) (count - (c + 1))) e
+              ∙ rest-on (bookOf s) z (take f R) (fields - (f + 1)) c count x l
+
+          -- a table cannot hold the codes
+          pub turn-rows : (x : Nearest) (t : Bool) → t ≡ canHold (bookOf s .tables) (set R f c) f → t ≡ false
+              → restOf (bookOf s) z (take f R) (fields - (f + 1)) (c + 1) (count - (c + 1)) x ≡ restOf (bookOf s) z (take f R) (fields - (f + 1)) c (count - c) x
+          turn-rows x t e u =
+              turn x x (sym (rows-missing (bookOf s) well z fields fields-are R f c h (omega (arith, few-fields)) (fields - (f + 1)) x (sym e ∙ u)))
+
+          -- the readings that begin with the code were searched
+          pub turn-deeper : (y x : Nearest) → y ≡ choose (bookOf s) z (readings (bookOf s) (fields - (f + 1)) (take (f + 1) (set R f c))) x
+              → restOf (bookOf s) z (take f R) (fields - (f + 1)) (c + 1) (count - (c + 1)) y ≡ restOf (bookOf s) z (take f R) (fields - (f + 1)) c (count - c) x
+          turn-deeper y x e = turn y x (rw (taken (bookOf s) well z fields fields-are R f c h (omega (arith, few-fields))) at e)
+
+          -- m: what the field adds to the differing ones
+          module _ (longa : length (z .answers) ≡ places) (m : ℕ) (one : m ≡ pick (not (eqb (getD (z .answers) f 0) 255) && not (eqb c (getD (z .answers) f 0))) 1 0) where
+            one-is : m ≡ pick (differs (z .answers) (set R f c) f) 1 0
+            one-is = apart-is (bookOf s) well z fields fields-are R f c h (omega (arith, few-fields)) m (omega (arith, few-fields)) one
+
+            -- too many fields differ
+            pub turn-far : (F : Found) (least : ℕ) → Ready (bookOf s) z R f d least → F .least ≤ d + m
+                → restOf (bookOf s) z (take f R) (fields - (f + 1)) (c + 1) (count - (c + 1)) (held fields F)
+                ≡ restOf (bookOf s) z (take f R) (fields - (f + 1)) c (count - c) (held fields F)
+            turn-far F least o k =
+                turn (held fields F) (held fields F)
+                (sym (too-far (bookOf s) well z fields fields-are R f c h (omega (arith, few-fields)) (fields - (f + 1)) F d m (o .counted) one-is k))
+
+            -- a photographed answer is another
+            pub turn-photograph : (x : Nearest) → backed z f ≡ true → d < d + m
+                → restOf (bookOf s) z (take f R) (fields - (f + 1)) (c + 1) (count - (c + 1)) x ≡ restOf (bookOf s) z (take f R) (fields - (f + 1)) c (count - c) x
+            turn-photograph x e k =
+                turn x x
+                (sym (photograph-lost (bookOf s) well z fields fields-are R f c h (omega (arith, few-fields)) (fields - (f + 1)) x e
+                (grows (differs (z .answers) (set R f c) f) d (rw one-is at k))))
+
+            -- the code is right
+            pub turn-ready : (least least′ : ℕ) → Ready (bookOf s) z R f d least → (t : Bool) → t ≡ canHold (bookOf s .tables) (set R f c) f → t ≡ true
+                → (backed z f ≡ false) ⊎ (d + m ≤ d) → d + m < least′ → Ready (bookOf s) z (set R f c) (f + 1) (d + m) least′
+            turn-ready least least′ o t e u k n =
+                ready-next (bookOf s) well z fields fields-are R f c h (omega (arith, few-fields)) d m least least′ o one-is (sym e ∙ u)
+                (⊎-elim (λ w. kept-not (backed z f) (differs (z .answers) (set R f c) f) w)
+                (λ w. kept-same (backed z f) (differs (z .answers) (set R f c) f) (stays (differs (z .answers) (set R f c) f) d (rw one-is at w))) k)
+                n

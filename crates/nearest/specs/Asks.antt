@@ -1,0 +1,42 @@
+-- What the search's inner functions ask of their callers, and what they answer. Assumes nothing.
+use Prim.Native.Nat.{ℕ, _+_, _*_, _≤_, _<_}
+use mathlib.Core.Path.{_≡_}
+use mathlib.Core.List.{List}
+use mathlib.Core.Bool.{not, _&&_}
+use lib.ListN.{length, take}
+use lib.Dec.{T, leb}
+use Rattle.format.specs.Basics.{pick}
+use Rattle.format.specs.Format.{Book, arityLimit, lengthLimit, byte, arityAt, firstRow}
+use Rattle.consistency.specs.Counting.{howMany}
+use Rattle.consistency.specs.Consistency.{places, Sheet, backed}
+use Rattle.consistency.specs.Readings.{differs}
+use Rattle.consistency.specs.Nearest.{Nearest, none, found}
+use Rattle.nearest.specs.Words.{canHold}
+use Rattle.nearest.specs.declared.Found.{Found}
+
+-- the nearest so far, as the search holds it: none where more fields than the book has would differ
+unfoldable pub held : ℕ → Found → Nearest
+held fields x = pick (leb (x .least) fields) (found (x .least) (take fields (x .reading))) none
+
+-- n rows of a codes from p on, and what fills up the last, lie within the bytes; there is room for their words from k on
+pub record RowsPack (s : List ℕ) (a p n : ℕ) (w : List ℕ) (k : ℕ) : Type 0 where
+  pub some : 1 ≤ a
+  pub few : a ≤ arityLimit
+  pub within : p + n * a + arityLimit ≤ length s
+  pub room : k + n ≤ length w
+
+-- the table at p has few fields; they lie within the bytes, and a reading has a code for each
+pub record HeadFits (s : List ℕ) (p : ℕ) : Type 0 where
+  pub few : arityAt s p ≤ arityLimit
+  pub within : firstRow s p ≤ length s
+  pub short : length s ≤ lengthLimit
+  pub known : (j : ℕ) → j < arityAt s p → byte s (p + 1 + j) < places
+
+-- r has right codes for the fields below f: the tables can hold them, the photographed answers are kept, and d of them differ, fewer than in the
+-- nearest so far
+pub record Ready (b : Book) (s : Sheet) (r : List ℕ) (f d least : ℕ) : Type 0 where
+  pub within : f ≤ length (b .counts)
+  pub rows : (g : ℕ) → g < f → T (canHold (b .tables) r g)
+  pub kept : (g : ℕ) → g < f → T (not (backed s g && differs (s .answers) r g))
+  pub counted : d ≡ howMany f (differs (s .answers) r)
+  pub fewer : d < least

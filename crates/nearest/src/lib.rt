@@ -1,0 +1,147 @@
+// The nearest full reading of an accepted book. Document 02, M-106.
+ghost use mathlib.Core.Path.{_≡_};
+ghost use mathlib.Core.Bool.{not, _&&_};
+ghost use Prim.Native.Nat.{_-_};
+ghost use lib.ListN.{take};
+ghost use lib.Dec.{eqb, ltb};
+ghost use Rattle.format.specs.Basics.{pick};
+ghost use Rattle.format.specs.Format.{bookOf};
+ghost use Rattle.book.specs.View.{Numbered};
+ghost use Rattle.consistency.specs.Consistency.{sheetWith};
+ghost use Rattle.consistency.specs.Nearest.{choose, readings, nearest, product, readingLimit};
+ghost use Rattle.nearest.specs.Asks.{held, Ready};
+ghost use Rattle.nearest.specs.Words.{Searched};
+use book::PLACES;
+
+mod rows;
+
+// The most readings, full or not, of a book that is searched.
+const READINGS: usize = 65536;
+
+// The nearest reading so far, and in how many fields it differs; more fields than the book has where none is found.
+pub struct Found {
+    pub least: usize,
+    pub reading: [u8; PLACES],
+}
+
+// 1 where the field has an answer and this is another code, else 0.
+fn apart(answer: u8, code: u8) -> usize
+    ensures { λ r. ⌜ r ≡ pick (not (eqb answer 255) && not (eqb code answer)) 1 0 ⌝ }
+{
+    if answer == 255 {
+        return 0;
+    }
+    if code == answer {
+        return 0;
+    }
+    1
+}
+
+// The nearest of best and of the readings that begin with the codes of the fields below f, of which differing differ. A code is passed over where
+// the best is not beaten, where a photographed answer is another, or where a table cannot hold it.
+fn visit(
+    book: &[u8],
+    list: usize,
+    fields: usize,
+    tables: usize,
+    words: &[u32],
+    answers: [u8; PLACES],
+    photographed: &[bool; PLACES],
+    reading: [u8; PLACES],
+    f: usize,
+    differing: usize,
+    best: Found,
+) -> Found
+    requires { ⌜ Searched (now book) list fields tables (now words) × Ready (bookOf (now book)) (sheetWith answers (now photographed)) reading f differing (best .least) ⌝ }
+    ensures { λ r. ⌜ held fields r ≡ choose (bookOf (now (book .entry))) (sheetWith answers (now (photographed .entry))) (readings (bookOf (now (book .entry))) (fields - f) (take f reading)) (held fields best) ⌝ }
+{
+    if fields <= f {
+        return Found {
+            least: differing,
+            reading: reading,
+        };
+    }
+    let count = book[list + f];
+    let mut found = best;
+    for code in 0..count {
+        let more = differing + apart(answers[f], code);
+        let least = found.least;
+        if least <= more {
+            continue;
+        }
+        if photographed[f] {
+            if differing < more {
+                continue;
+            }
+        }
+        let mut next = reading;
+        next[f] = code;
+        if !rows::can_hold(book, list, fields, tables, words, &next, f) {
+            continue;
+        }
+        found = visit(
+            book,
+            list,
+            fields,
+            tables,
+            words,
+            answers,
+            photographed,
+            next,
+            f + 1,
+            more,
+            found,
+        );
+    }
+    found
+}
+
+// The nearest full reading that keeps the photographed answers.
+pub fn search(
+    book: &[u8],
+    list: usize,
+    fields: usize,
+    tables: usize,
+    answers: [u8; PLACES],
+    photographed: &[bool; PLACES],
+) -> Found
+    requires { ⌜ Numbered (now book) list fields tables ⌝ }
+    ensures { λ r. ⌜ held fields r ≡ nearest (bookOf (now (book .entry))) (sheetWith answers (now (photographed .entry))) ⌝ }
+{
+    let mut words = [0u32; book::ROW_LIMIT];
+    rows::pack(book, list, fields, tables, &mut words);
+    let start = Found {
+        least: fields + 1,
+        reading: [0; PLACES],
+    };
+    visit(
+        book,
+        list,
+        fields,
+        tables,
+        &words,
+        answers,
+        photographed,
+        [0; PLACES],
+        0,
+        0,
+        start,
+    )
+}
+
+// Whether the product of all code counts exceeds READINGS.
+pub fn too_many(book: &[u8], list: usize, fields: usize, tables: usize) -> bool
+    requires { ⌜ Numbered (now book) list fields tables ⌝ }
+    ensures { λ r. ⌜ r ≡ ltb readingLimit (product (bookOf (now (book .entry)) .counts)) ⌝ }
+{
+    let mut many = 1;
+    let mut f = 0;
+    while f < fields {
+        many = many * rows::wide(book[list + f]);
+        if READINGS < many {
+            return true;
+        }
+        f += 1;
+    }
+    false
+}
