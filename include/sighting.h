@@ -47,6 +47,7 @@
  *       20  no book has this listing                                             0
  *       21  the book has no such table, or the field is not in it                0
  *       22  a photographed answer would change; for storing, there is one        0
+ *       23  all fields' numbers of codes multiplied are above 65,536             0
  *
  * 14 looks for the first place that is at fault in any of these ways: a field that holds neither 255 nor one of its codes, a place behind
  * the book's fields that does not hold 255, a place without an answer that is photographed.
@@ -79,7 +80,7 @@
  */
 #define SIGHTING_PAIRS_BYTES 3840      /* sighting_alternatives, sighting_replay */
 #define SIGHTING_NUMBERS 60            /* sighting_filtered */
-#define SIGHTING_STORED_BYTES 60       /* sighting_store */
+#define SIGHTING_STORED_BYTES 60       /* sighting_store, sighting_nearest */
 #define SIGHTING_REPORT_BYTES 21162    /* sighting_report */
 #define SIGHTING_LISTING_NUMBERS 16831 /* sighting_show */
 #define SIGHTING_BOOK_BYTES 16898      /* sighting_write */
@@ -170,6 +171,18 @@ uint64_t sighting_alternatives(const uint8_t *sheet, const uint8_t *book, size_t
  */
 uint64_t sighting_row(const uint8_t *sheet, const uint8_t *book, size_t book_len, size_t field, size_t code, size_t table,
                       uint64_t *outcome);
+
+/*
+ * The nearest full reading: a suggestion for a sheet whose answers contradict each other. A full reading gives each field one of its
+ * codes so that each table has the row of its fields' codes. Of those that keep every photographed answer it is the one that differs
+ * from the answers in the fewest fields, where a field without an answer never differs; among several, the one with the lower code in the
+ * first field where they part. It is written as one byte for each field of the book. Where no full reading keeps the photographed answers
+ * the call is accepted too: it says none, and leaves every byte of `out` as it was.
+ *   outcome[4]  place, found (1, or 0 where there is none), differing (the fields in which it differs from the answers), written (how many
+ *               bytes were written, the number of fields); differing and written are 0 where there is none
+ * Refusals: 1 to 13, 14, 23, 18 where out_len is below the number of fields, also where there is no reading to write.
+ */
+uint64_t sighting_nearest(const uint8_t *sheet, const uint8_t *book, size_t book_len, uint8_t *out, size_t out_len, uint64_t *outcome);
 
 /*
  * Loads a stored sheet, one byte for each field; none is photographed. What the sheet held before plays no part; a refused load makes it

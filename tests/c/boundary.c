@@ -19,6 +19,10 @@ static const uint8_t answered[SIGHTING_SHEET_BYTES] = {ANSWERS};
 /* The same with field 0 photographed. */
 static const uint8_t photographed[SIGHTING_SHEET_BYTES] = {ANSWERS, [SIGHTING_PLACES] = 1};
 
+/* Example E4: three fields of two codes, of which each two differ, so that no reading is full. */
+static const uint8_t each_pair_differs[] = {2, 0, 1, 2, 0, 0, 1, 1, 0, 2, 0, 2, 2, 0, 0, 1, 1, 0,
+                                            2, 1, 2, 2, 0, 0, 1, 1, 0, 2, 2, 2, 27, 0, 3, 3, 1, 0xE5};
+
 static int differences = 0;
 
 static void expect(const char *what, uint64_t expected, uint64_t got) {
@@ -58,13 +62,15 @@ static void wide_numbers(void) {
 static void read_only_sheet(void) {
     uint8_t pairs[SIGHTING_PAIRS_BYTES], stored[SIGHTING_STORED_BYTES];
     uint32_t numbers[SIGHTING_NUMBERS];
-    uint64_t place[1], found[3];
+    uint64_t place[1], found[3], reading[4];
     expect("filtered", 0, sighting_filtered(answered, book, sizeof book, SIGHTING_NO_ANSWER, numbers, SIGHTING_NUMBERS, place));
     expect("codes that stand in field 2", 2, numbers[2]);
     expect("alternatives", 0, sighting_alternatives(answered, book, sizeof book, pairs, sizeof pairs, found));
     expect("total", 4, found[1]);
     expect("row", 0, sighting_row(answered, book, sizeof book, 2, 1, 0, found));
     expect("the row", 1, found[2]);
+    expect("nearest", 0, sighting_nearest(answered, book, sizeof book, stored, sizeof stored, reading));
+    expect("the last code of the reading", 1, stored[2]);
     expect("store", 0, sighting_store(answered, book, sizeof book, stored, sizeof stored, place));
     expect("stored form", 0, (uint64_t)(memcmp(stored, form, sizeof form) != 0));
 }
@@ -251,6 +257,70 @@ static void last_row(void) {
     expect("row 300 found", 300, found[2]);
 }
 
+/* The sheet of E1 with field 0 answered by 1 and field 1 by 0, and each photographed or not. */
+static void contradictory(uint8_t *sheet, uint8_t first, uint8_t second) {
+    memcpy(sheet, answered, SIGHTING_SHEET_BYTES);
+    sheet[0] = 1;
+    sheet[1] = 0;
+    sheet[SIGHTING_PLACES] = first;
+    sheet[SIGHTING_PLACES + 1] = second;
+}
+
+/*
+ * Asks for the nearest reading of a book of three fields with so many of seven bytes lent. All four cells are written, and none beside
+ * them; the seven bytes have to be these then.
+ */
+static void ask_nearest(const char *what, const uint8_t *sheet, const uint8_t *bytes, size_t length, size_t lent, uint64_t number,
+                        uint64_t found, uint64_t differing, const char *left) {
+    uint8_t out[8] = "7777777";
+    uint64_t cells[6] = {7, 7, 7, 7, 7, 7};
+    expect(what, number, sighting_nearest(sheet, bytes, length, out, lent, cells + 1));
+    expect("its place", 0, cells[1]);
+    expect("whether it was found", found, cells[2]);
+    expect("in how many fields it differs", differing, cells[3]);
+    expect("how many bytes were written", found * 3, cells[4]);
+    expect("the cell before", 7, cells[0]);
+    expect("the cell behind", 7, cells[5]);
+    expect(what, 0, (uint64_t)(memcmp(out, left, sizeof out) != 0));
+}
+
+/* Found, none, and 18, by E1 and by E4. */
+static void nearest_outcome(void) {
+    uint8_t sheet[SIGHTING_SHEET_BYTES], given[SIGHTING_SHEET_BYTES];
+    ask_nearest("the reading of E1", answered, book, sizeof book, 7, 0, 1, 0, "\0\1\1" "7777");
+    contradictory(sheet, 0, 0);
+    ask_nearest("the lower of two", sheet, book, sizeof book, 3, 0, 1, 1, "\0\0\0" "7777");
+    ask_nearest("one byte too few", sheet, book, sizeof book, 2, 18, 0, 0, "7777777");
+    ask_nearest("no byte", sheet, book, sizeof book, 0, 18, 0, 0, "7777777");
+    contradictory(sheet, 1, 0);
+    ask_nearest("field 0 photographed", sheet, book, sizeof book, 4, 0, 1, 1, "\1\1\2" "7777");
+    contradictory(sheet, 0, 255);
+    ask_nearest("field 1 photographed", sheet, book, sizeof book, 4, 0, 1, 1, "\0\0\0" "7777");
+    contradictory(sheet, 2, 128);
+    memcpy(given, sheet, sizeof given);
+    ask_nearest("none that keeps both", sheet, book, sizeof book, 7, 0, 0, 0, "7777777");
+    ask_nearest("none, one byte too few", sheet, book, sizeof book, 2, 18, 0, 0, "7777777");
+    expect_sheet("the sheet stays byte for byte", given, sheet);
+    ask_nearest("none by E4", answered, each_pair_differs, sizeof each_pair_differs, 3, 0, 0, 0, "7777777");
+    ask_nearest("none by E4, one byte too few", answered, each_pair_differs, sizeof each_pair_differs, 2, 18, 0, 0, "7777777");
+}
+
+/* A refused book and a sheet at fault have their places, and come before what is lent. */
+static void refused_nearest(void) {
+    uint8_t sheet[SIGHTING_SHEET_BYTES], out[1] = {7};
+    uint64_t cells[4] = {7, 7, 7, 7};
+    expect("a reading by no book", 2, sighting_nearest(answered, book, sizeof book - 1, out, 0, cells));
+    expect("place of 2", 33, cells[0]);
+    contradictory(sheet, 1, 1);
+    sheet[SIGHTING_PLACES + 2] = 1;
+    expect("a photograph without an answer", 14, sighting_nearest(sheet, book, sizeof book, out, 0, cells));
+    expect("place of 14", 2, cells[0]);
+    expect("found by a refusal", 0, cells[1]);
+    expect("differing by a refusal", 0, cells[2]);
+    expect("written by a refusal", 0, cells[3]);
+    expect("the byte lent", 7, out[0]);
+}
+
 /* The outcome of a report has two cells, place and length, and both are 0 where the text does not fit. */
 static void report_outcome(void) {
     uint8_t text[SIGHTING_REPORT_BYTES];
@@ -356,6 +426,31 @@ static size_t sixty(uint8_t *bytes) {
     return 60 + sizeof trailer;
 }
 
+/* 60 fields with as many readings as are searched, all of them full: 16 fields have two codes. With one more there are too many. */
+static void most_readings(void) {
+    uint8_t bytes[66], sheet[SIGHTING_SHEET_BYTES], out[SIGHTING_STORED_BYTES];
+    uint64_t cells[4] = {7, 7, 7, 7};
+    size_t length = sixty(bytes);
+    sighting_fresh(sheet);
+    expect("a reading of 32 codes each", 23, sighting_nearest(sheet, bytes, length, out, sizeof out, cells));
+    expect("place of 23", 0, cells[0]);
+    expect("written by 23", 0, cells[3]);
+    memset(bytes, 1, 44);
+    memset(bytes + 44, 2, 16);
+    memset(sheet, 0, 44);
+    memset(sheet + 44, 1, 16);
+    memset(out, 7, sizeof out);
+    expect("a reading of 65,536", 0, sighting_nearest(sheet, bytes, length, out, sizeof out, cells));
+    expect("it is found", 1, cells[1]);
+    expect("it differs in none", 0, cells[2]);
+    expect("bytes of 60 fields", 60, cells[3]);
+    expect("it is the sheet's", 0, (uint64_t)(memcmp(out, sheet, sizeof out) != 0));
+    expect("59 bytes for 60 fields", 18, sighting_nearest(sheet, bytes, length, out, sizeof out - 1, cells));
+    bytes[0] = 2;
+    expect("a reading of 131,072", 23, sighting_nearest(sheet, bytes, length, out, sizeof out, cells));
+    expect("the same with no bytes", 23, sighting_nearest(sheet, bytes, length, out, 0, cells));
+}
+
 /* All fields answered by their last code: the header's lengths suffice, and one element less is refused by 18. */
 static void sixty_fields(void) {
     uint8_t bytes[66], sheet[SIGHTING_SHEET_BYTES], pairs[SIGHTING_PAIRS_BYTES];
@@ -440,7 +535,10 @@ int main(void) {
     photographs_in_a_list();
     row_outcome();
     last_row();
+    nearest_outcome();
+    refused_nearest();
     report_outcome();
+    most_readings();
     sixty_fields();
     sixty_photographs();
     sixty_places();

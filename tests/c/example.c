@@ -1,4 +1,7 @@
-/* Prints the alternatives of example E1, the row that keeps the open code, and what a photograph of field 0 leaves in doubt. */
+/*
+ * Prints the alternatives of example E1, the row that keeps the open code, what a photograph of field 0 leaves in doubt, and the nearest
+ * full reading to answers that contradict each other.
+ */
 #include <sighting.h>
 #include <stdio.h>
 
@@ -6,8 +9,8 @@ static const uint8_t book[] = {2, 0, 2, 4, 0, 0, 0, 0, 1, 1, 2, 0, 1, 2, 1, 2, 4
                                1, 1, 1, 2, 2, 2, 2, 3, 3, 0x1A, 0, 3, 2, 1, 0xE5};
 
 int main(void) {
-    uint8_t sheet[SIGHTING_SHEET_BYTES], pairs[SIGHTING_PAIRS_BYTES];
-    uint64_t place[1], found[3];
+    uint8_t sheet[SIGHTING_SHEET_BYTES], pairs[SIGHTING_PAIRS_BYTES], codes[SIGHTING_STORED_BYTES];
+    uint64_t place[1], found[3], nearest[4];
     sighting_fresh(sheet);
     if (sighting_enter(sheet, book, sizeof book, 0, 0, place) != 0) return 1;
     if (sighting_enter(sheet, book, sizeof book, 1, 1, place) != 0) return 1;
@@ -19,5 +22,8 @@ int main(void) {
     if (sighting_photograph(sheet, book, sizeof book, 0, place) != 0) return 1;
     if (sighting_alternatives(sheet, book, sizeof book, pairs, sizeof pairs, found) != 0) return 1;
     printf("field 0 photographed: %d alternatives, %d struck\n", (int)found[1], (int)found[2]);
+    if (sighting_enter(sheet, book, sizeof book, 1, 2, place) != 0) return 1;
+    if (sighting_nearest(sheet, book, sizeof book, codes, sizeof codes, nearest) != 0) return 1;
+    if (nearest[1] == 1) printf("field 1 code 2: nearest reading %d %d %d, %d changed\n", codes[0], codes[1], codes[2], (int)nearest[2]);
     return 0;
 }

@@ -33,6 +33,14 @@ extern "C" {
         table: usize,
         outcome: *mut u64,
     ) -> u64;
+    pub fn sighting_nearest(
+        sheet: *const u8,
+        book: *const u8,
+        book_len: usize,
+        out: *mut u8,
+        out_len: usize,
+        outcome: *mut u64,
+    ) -> u64;
     pub fn sighting_load(
         sheet: *mut u8,
         book: *const u8,

@@ -48,6 +48,43 @@
 //! # }
 //! ```
 //!
+//! Answers that contradict each other leave no code standing. The nearest full reading, with a code for each field, is then a
+//! suggestion: it keeps what is photographed, and changes as few of the other answers as it can.
+//!
+//! ```
+//! use sighting::{Nearest, Sheet};
+//!
+//! # fn main() -> Result<(), sighting::Refusal> {
+//! # let book = [
+//! #     2, 0, 2, 4, 0, 0, 0, 0, 1, 1, 2, 0, 1, 2, 1, 2, 4, 0, 0, 0, 1, 1, 1, 2, 2, 2, 2, 3, 3, 0x1A, 0, 3, 2, 1, 0xE5,
+//! # ];
+//! let mut sheet = Sheet::fresh();
+//! sheet.enter(&book, 0, 1)?;
+//! sheet.enter(&book, 1, 0)?; // no row of the same book has both
+//!
+//! let mut reading = [255; sighting::STORED_BYTES];
+//! assert_eq!(sheet.nearest(&book, &mut reading)?, Some(Nearest { differing: 1, written: 3 }));
+//! assert_eq!(reading[..4], [0, 0, 0, 255]); // field 0 is changed; 1 1 2, in which field 1 is, has the higher code first
+//!
+//! sheet.photograph(&book, 0)?;
+//! assert_eq!(sheet.nearest(&book, &mut reading)?, Some(Nearest { differing: 1, written: 3 }));
+//! assert_eq!(reading[..4], [1, 1, 2, 255]); // now field 1 has to change
+//!
+//! sheet.photograph(&book, 1)?;
+//! assert_eq!(sheet.nearest(&book, &mut reading)?, None); // no full reading keeps both
+//! assert_eq!(reading[..4], [1, 1, 2, 255]); // and the bytes stay as they were
+//!
+//! let each_pair_differs = [
+//!     2, 0, 1, 2, 0, 0, 1, 1, 0, // fields 0 and 1: 2 rows
+//!     2, 0, 2, 2, 0, 0, 1, 1, 0, // fields 0 and 2
+//!     2, 1, 2, 2, 0, 0, 1, 1, 0, // fields 1 and 2
+//!     2, 2, 2, 27, 0, 3, 3, 1, 0xE5, // two codes each
+//! ];
+//! assert_eq!(Sheet::fresh().nearest(&each_pair_differs, &mut reading)?, None); // though every code stands
+//! # Ok(())
+//! # }
+//! ```
+//!
 //! A compiler makes such a book from a listing, and sees a book's listing again:
 //!
 //! ```
@@ -97,7 +134,7 @@ pub const PAIRS_BYTES: usize = 3840;
 /// So many numbers suffice for [`Sheet::filtered`].
 pub const NUMBERS: usize = 60;
 
-/// So many bytes suffice for [`Sheet::store`].
+/// So many bytes suffice for [`Sheet::store`] and [`Sheet::nearest`].
 pub const STORED_BYTES: usize = 60;
 
 /// So many bytes suffice for [`report`].
@@ -123,6 +160,13 @@ pub struct Counts {
 pub struct Alternatives {
     pub total: u64,
     pub struck: u64,
+}
+
+/// What is told of the nearest full reading: in how many fields it differs from the answers, and how many bytes were written.
+#[derive(Clone, Copy, Debug, PartialEq, Eq)]
+pub struct Nearest {
+    pub differing: u64,
+    pub written: u64,
 }
 
 /// A call in a list for [`Sheet::replay`]. In the list's bytes a field and a code are bytes.
@@ -352,6 +396,20 @@ impl Sheet {
             unsafe { ffi::sighting_row(self.0.as_ptr(), book.as_ptr(), book.len(), field, code, table, cells.as_mut_ptr()) };
         let [place, found, row] = cells;
         answer(number, place, (found == 1).then_some(row))
+    }
+
+    /// The nearest full reading, written as one byte for each field of the book; or `None` where there is none, and then no byte is
+    /// written. A full reading gives each field one of its codes so that each table has the row of its fields' codes. Of those that keep
+    /// every photographed answer it is the one that differs from the other answers in the fewest fields; among several, the one with the
+    /// lower code in the first field where they part. A field without an answer never differs. Refusals: 1 to 13, 14, 23, and 18 where
+    /// fewer bytes are lent than the book has fields, also where there is no reading.
+    pub fn nearest(&self, book: &[u8], out: &mut [u8]) -> Result<Option<Nearest>, Refusal> {
+        let mut cells = [0; 4];
+        let number = unsafe {
+            ffi::sighting_nearest(self.0.as_ptr(), book.as_ptr(), book.len(), out.as_mut_ptr(), out.len(), cells.as_mut_ptr())
+        };
+        let [place, found, differing, written] = cells;
+        answer(number, place, (found == 1).then_some(Nearest { differing, written }))
     }
 
     /// Loads a stored sheet, one byte for each field of the book; none is photographed. Refusals: 1 to 13, 19, 14.

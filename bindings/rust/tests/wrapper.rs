@@ -1,6 +1,6 @@
 //! What the wrapper adds to the library: its types, and what it does with numbers and buffers.
 
-use sighting::{read, report, show, write, Alternatives, Call, Refusal, Sheet};
+use sighting::{read, report, show, write, Alternatives, Call, Nearest, Refusal, Sheet};
 use sighting::{BOOK_BYTES, LISTING_NUMBERS, NO_ANSWER, NUMBERS, PAIRS_BYTES, PLACES, REPORT_BYTES, SHEET_BYTES, STORED_BYTES};
 
 /// Example E1: three fields of 2, 3 and 3 codes, and two tables.
@@ -17,6 +17,7 @@ const NO_BOOK: Refusal = Refusal { number: 20, place: 0 };
 const NO_TABLE: Refusal = Refusal { number: 21, place: 0 };
 const NO_ANSWER_YET: Refusal = Refusal { number: 17, place: 0 };
 const PHOTOGRAPHED: Refusal = Refusal { number: 22, place: 0 };
+const TOO_MANY_READINGS: Refusal = Refusal { number: 23, place: 0 };
 
 /// E1's sheet: field 0 answered by 0 and field 1 by 1.
 fn answered() -> Sheet {
@@ -60,6 +61,7 @@ fn several_readers_share_a_sheet() {
         assert_eq!(sheet.alternatives(&BOOK, &mut pairs), Ok(Alternatives { total: 4, struck: 11 }));
         assert_eq!(sheet.filtered(&BOOK, Some(0), &mut numbers), Ok(()));
         assert_eq!(sheet.row(&BOOK, 2, 1, 0), Ok(Some(1)));
+        assert_eq!(sheet.nearest(&BOOK, &mut form), Ok(Some(Nearest { differing: 0, written: 3 })));
         assert_eq!(sheet.store(&BOOK, &mut form), Ok(()));
         assert_eq!((numbers[0], &form[..3]), (0b11, &[0, 1, NO_ANSWER][..]));
     });
@@ -182,6 +184,32 @@ fn a_row_or_none() {
     assert_eq!((answered().row(&BOOK, 1, 0, 0), answered().row(&BOOK, 0, 0, 2)), (Err(NO_TABLE), Err(NO_TABLE)));
     assert_eq!(faulty().row(&BOOK, 0, 0, 0), Err(Refusal { number: 14, place: 0 }));
     assert_eq!(faulty().row(&BOOK[..34], 0, 0, 0), Err(Refusal { number: 2, place: 33 }));
+}
+
+/// Answers 1 and 0 contradict each other. Field 0 is changed, or field 1 where field 0 is photographed; with both there is no reading.
+#[test]
+fn a_reading_or_none() {
+    let (mut sheet, mut out) = (Sheet::fresh(), [7; 4]);
+    assert_eq!((sheet.enter(&BOOK, 0, 1), sheet.enter(&BOOK, 1, 0)), (Ok(()), Ok(())));
+    let changed = Ok(Some(Nearest { differing: 1, written: 3 }));
+    assert_eq!((sheet.nearest(&BOOK, &mut out[..2]), out), (Err(TOO_FEW), [7; 4]));
+    assert_eq!((sheet.nearest(&BOOK, &mut out[..3]), out), (changed, [0, 0, 0, 7]));
+    assert_eq!((sheet.photograph(&BOOK, 0), sheet.nearest(&BOOK, &mut out), out), (Ok(()), changed, [1, 1, 2, 7]));
+    assert_eq!((sheet.photograph(&BOOK, 1), sheet.nearest(&BOOK, &mut out), out), (Ok(()), Ok(None), [1, 1, 2, 7]));
+    assert_eq!(sheet.nearest(&BOOK, &mut out[..2]), Err(TOO_FEW));
+    assert_eq!(faulty().nearest(&BOOK, &mut []), Err(Refusal { number: 14, place: 0 }));
+    assert_eq!(faulty().nearest(&BOOK[..34], &mut []), Err(Refusal { number: 2, place: 33 }));
+}
+
+/// 32 * 32 * 32 * 2 readings are searched; where the last field has three codes there are too many, whatever is lent.
+#[test]
+fn too_many_readings() {
+    let book = |last: u8| [32, 32, 32, last, 0, 0, 4, 0, 1, 0xE5];
+    let (sheet, mut out) = (Sheet::load(&book(2), &[31, 30, NO_ANSWER, 1]).expect("accepted"), [7; 5]);
+    assert_eq!(sheet.nearest(&book(2), &mut out), Ok(Some(Nearest { differing: 0, written: 4 })));
+    assert_eq!(out, [31, 30, 0, 1, 7]);
+    assert_eq!(sheet.nearest(&book(3), &mut out), Err(TOO_MANY_READINGS));
+    assert_eq!((sheet.nearest(&book(3), &mut []), out), (Err(TOO_MANY_READINGS), [31, 30, 0, 1, 7]));
 }
 
 #[test]
@@ -330,8 +358,19 @@ fn the_lengths_named_suffice() {
     assert_eq!(sheet.filtered(&book, None, &mut [0; NUMBERS - 1]), Err(TOO_FEW));
     assert_eq!(sheet.store(&book, &mut [0; STORED_BYTES]), Ok(()));
     assert_eq!(sheet.store(&book, &mut [0; STORED_BYTES - 1]), Err(TOO_FEW));
+    assert_eq!(sheet.nearest(&book, &mut [0; STORED_BYTES]), Err(TOO_MANY_READINGS));
     assert!(report(&book, &[NO_ANSWER; 60], &mut [0; REPORT_BYTES]).is_ok());
     assert_eq!(read(&book).map(|counts| counts.fields), Ok(60));
+}
+
+/// The longest reading: 60 fields of one code.
+#[test]
+fn the_longest_reading_suffices() {
+    let book = [&[1; 60][..], &[0, 0, 60, 0, 2, 0xE5]].concat();
+    let mut out = [7; STORED_BYTES];
+    assert_eq!(Sheet::fresh().nearest(&book, &mut out[..STORED_BYTES - 1]), Err(TOO_FEW));
+    assert_eq!(Sheet::fresh().nearest(&book, &mut out), Ok(Some(Nearest { differing: 0, written: 60 })));
+    assert_eq!(out, [0; STORED_BYTES]);
 }
 
 /// The longest book and listing: 60 fields, and 64 tables of 64 rows on four fields.

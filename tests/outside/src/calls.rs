@@ -15,6 +15,7 @@ pub enum Call {
     Filtered { relaxed: usize },
     Alternatives,
     Row { field: usize, code: usize, table: usize },
+    Nearest,
     Load { form: Vec<u8> },
     Store,
     Replay { calls: Vec<u8> },
@@ -23,12 +24,8 @@ pub enum Call {
     Write { listing: Vec<u16> },
 }
 
-/// The calls that read a book.
-pub const OF_A_BOOK: &[&str] =
-    &["read", "enter", "withdraw", "photograph", "filtered", "alternatives", "row", "load", "store", "replay", "report", "show"];
-
 /// The calls that are given a sheet with answers.
-pub const OF_A_SHEET: &[&str] = &["enter", "withdraw", "photograph", "filtered", "alternatives", "row", "store"];
+pub const OF_A_SHEET: &[&str] = &["enter", "withdraw", "photograph", "filtered", "alternatives", "row", "nearest", "store"];
 
 /// Those of them that hand it back changed, or as it was given.
 pub const CHANGING: &[&str] = &["enter", "withdraw", "photograph"];
@@ -42,7 +39,7 @@ pub const OF_A_FIELD: &[&str] = &["enter", "withdraw", "photograph", "filtered",
 /// The calls that are given a code of it.
 pub const OF_A_CODE: &[&str] = &["enter", "row"];
 
-/// The calls that tell a place.
+/// The calls that tell a place; the last is the only one that reads no book.
 pub const TELLING: &[&str] = &[
     "read",
     "enter",
@@ -51,6 +48,7 @@ pub const TELLING: &[&str] = &[
     "filtered",
     "alternatives",
     "row",
+    "nearest",
     "load",
     "store",
     "replay",
@@ -58,6 +56,12 @@ pub const TELLING: &[&str] = &[
     "show",
     "write",
 ];
+
+/// The calls that read a book.
+pub const OF_A_BOOK: &[&str] = TELLING.split_at(TELLING.len() - 1).0;
+
+/// The calls that ask for one element for each field of the book.
+pub const ONE_FOR_EACH: &[&str] = &["filtered", "nearest", "store"];
 
 /// The calls that list alternatives.
 pub const LISTING: &[&str] = &["alternatives", "replay", "report"];
@@ -80,6 +84,7 @@ impl Call {
             Call::Filtered { .. } => "filtered",
             Call::Alternatives => "alternatives",
             Call::Row { .. } => "row",
+            Call::Nearest => "nearest",
             Call::Load { .. } => "load",
             Call::Store => "store",
             Call::Replay { .. } => "replay",
@@ -94,6 +99,7 @@ impl Call {
         match self {
             Call::Fresh | Call::Clear => 0,
             Call::Read => 5,
+            Call::Nearest => 4,
             Call::Alternatives | Call::Row { .. } | Call::Replay { .. } => 3,
             Call::Report { .. } | Call::Show | Call::Write { .. } => 2,
             _ => 1,
@@ -139,7 +145,7 @@ impl Call {
 
     /// Whether the call only reads the sheet.
     pub fn only_reads_sheet(&self) -> bool {
-        matches!(self, Call::Filtered { .. } | Call::Alternatives | Call::Row { .. } | Call::Store)
+        matches!(self, Call::Filtered { .. } | Call::Alternatives | Call::Row { .. } | Call::Nearest | Call::Store)
     }
 
     /// Whether the call lists alternatives.
@@ -152,7 +158,7 @@ impl Call {
         match self {
             Call::Filtered { .. } => Some(sighting::NUMBERS),
             Call::Alternatives | Call::Replay { .. } => Some(sighting::PAIRS_BYTES),
-            Call::Store => Some(sighting::STORED_BYTES),
+            Call::Nearest | Call::Store => Some(sighting::STORED_BYTES),
             Call::Report { .. } => Some(sighting::REPORT_BYTES),
             Call::Show => Some(sighting::LISTING_NUMBERS),
             Call::Write { .. } => Some(sighting::BOOK_BYTES),
@@ -202,12 +208,14 @@ impl Buffers {
     }
 }
 
-/// What a call answers where enough is lent: the counts or a refusal, the sheet handed back, and what it writes.
+/// What a call answers where enough is lent: the counts or a refusal, the sheet handed back, what it writes, and how many elements have
+/// to be lent for it.
 #[derive(Debug, PartialEq)]
 pub struct Answer {
     pub result: Result<Vec<u64>, Refusal>,
     pub sheet: Sheet,
     pub written: Buffers,
+    pub asked: usize,
 }
 
 /// What a call leaves in all memory lent, with the number returned.
@@ -224,7 +232,7 @@ impl Answer {
     pub fn left(&self, call: &Call, lent: &Buffers) -> Left {
         let mut left = Left { number: 0, cells: Vec::new(), sheet: self.sheet, out: lent.clone() };
         let result = match &self.result {
-            Ok(_) if lent.elements() < self.written.elements() => refuse(18, 0),
+            Ok(_) if lent.elements() < self.asked => refuse(18, 0),
             other => other.clone(),
         };
         match result {

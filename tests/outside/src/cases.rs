@@ -7,6 +7,7 @@ use crate::draft::Draft;
 use crate::faults::{changed, faulty, some_faults, turned};
 use crate::listing::Listing;
 use crate::listings;
+use crate::near;
 use crate::photographs;
 use crate::random::{self, Random};
 use crate::repeats;
@@ -36,14 +37,18 @@ pub fn random(seed: u64, index: u64) -> Random {
     Random(seed.wrapping_add(index.wrapping_mul(0x1_0000_0001)))
 }
 
+/// One case of so many is made for the nearest full reading.
+const NEAR: u64 = 16;
+
 pub fn case(seed: u64, index: u64) -> Case {
     let mut r = random(seed, index);
-    let BookCase { model, bytes, boundary, faults } = book(&mut r);
-    let sheet = sheet(&mut r, &model);
+    let (book, sheet) = if index.is_multiple_of(NEAR) { near(&mut r) } else { drawn(&mut r) };
+    let BookCase { model, bytes, boundary, faults } = book;
     let mut calls = calls(&mut r, &model, &sheet);
     let (listing, numbers) = listings::some_listing(&mut r, Listing::of(&model));
     calls.extend([Call::Show, Call::Write { listing: numbers }]);
     calls.extend(asking::rows(&mut r, &model, &sheet));
+    calls.push(Call::Nearest);
     Case { book: bytes, sheet, calls, boundary, faults, listing }
 }
 
@@ -53,6 +58,23 @@ struct BookCase {
     bytes: Vec<u8>,
     boundary: Option<&'static str>,
     faults: Vec<usize>,
+}
+
+fn drawn(r: &mut Random) -> (BookCase, Sheet) {
+    let book = book(r);
+    let sheet = sheet(r, &book.model);
+    (book, sheet)
+}
+
+/// Few of these books and sheets are damaged.
+fn near(r: &mut Random) -> (BookCase, Sheet) {
+    let model = near::book(r);
+    let mut sheet = near::sheet(r, &model);
+    if r.one_in(12) {
+        spoil(r, &model, &mut sheet);
+    }
+    let bytes = if r.one_in(12) { changed(r, &model) } else { model.write() };
+    (BookCase { model, bytes, boundary: None, faults: Vec::new() }, sheet)
 }
 
 fn book(r: &mut Random) -> BookCase {

@@ -21,7 +21,8 @@ pub struct Trial<'a> {
     pub left: Left,
 }
 
-/// How many elements a call writes, and how many it would write if it listed a field although another is empty.
+/// How many elements a call asks for, which are those that it writes where it writes any, and how many it would ask for if it listed a
+/// field although another is empty.
 #[derive(Clone, Copy)]
 pub struct Asked {
     pub written: usize,
@@ -71,7 +72,7 @@ pub fn trials<'a>(case: &'a Case, reading: &Reading, seed: u64, index: u64) -> V
     let mut trials = Vec::new();
     for call in &case.calls {
         let answer = desk.answer(call, reading, &case.sheet);
-        let asked = Asked::by(call, reading, case, answer.written.elements());
+        let asked = Asked::by(call, reading, case, answer.asked);
         for length in lengths(&mut r, call, asked) {
             let lent = lent(&mut r, call, length);
             let left = answer.left(call, &lent);

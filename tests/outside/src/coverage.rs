@@ -11,6 +11,7 @@ use crate::faults::FAULTS;
 use crate::listing::book_bytes;
 use crate::listings::{reason, ways, REASONS};
 use crate::made::{self, of_list, Made, Shape};
+use crate::nearest_shapes::{self, Asked as ReadingAsked};
 use crate::photograph_shapes;
 use crate::reader::Reader;
 use crate::resend_shapes;
@@ -30,12 +31,12 @@ pub struct Coverage {
     /// What the cases had beside that, by its name.
     had: BTreeMap<String, u64>,
     /// What the calls that list had to list, the lengths lent for it, what the calls that count had to count, what the calls for a row
-    /// had to find, and what each call had of M-103, M-105 and M-107, by call and name.
+    /// or a reading had to find, and what each call had of M-103, M-105 and M-107, by call and name.
     by_call: BTreeMap<(&'static str, &'static str), u64>,
 }
 
 /// The refusals that each call has beside 1 to 13; `true` for a place behind the book's fields.
-const BESIDE: [(&str, &[Kind]); 12] = [
+const BESIDE: [(&str, &[Kind]); 13] = [
     ("read", &[]),
     ("enter", &[(14, false), (14, true), (15, false), (16, false), (22, false)]),
     ("withdraw", &[(14, false), (14, true), (15, false), (17, false), (22, false)]),
@@ -43,6 +44,7 @@ const BESIDE: [(&str, &[Kind]); 12] = [
     ("filtered", &[(14, false), (14, true), (15, false), (17, false), (18, false)]),
     ("alternatives", &[(14, false), (14, true), (18, false)]),
     ("row", &[(14, false), (14, true), (15, false), (16, false), (21, false)]),
+    ("nearest", &[(14, false), (14, true), (23, false), (18, false)]),
     ("load", &[(14, false), (19, false)]),
     ("store", &[(14, false), (14, true), (22, false), (18, false)]),
     ("replay", &[(18, false)]),
@@ -60,7 +62,7 @@ struct Had {
 /// The call that reads no book, and its refusals.
 const WITHOUT_BOOK: (&str, &[Kind]) = ("write", &[(20, false), (18, false)]);
 
-/// At how many different places a refusal has to be reached: 1 and 15 to 22 have place 0 alone.
+/// At how many different places a refusal has to be reached: 1 and 15 to 23 have place 0 alone.
 fn places_asked(number: u64) -> usize {
     match number {
         2..=11 | 13 | 14 => 3,
@@ -95,7 +97,7 @@ const LENGTHS: [Length; 5] = [
     ("the wider list's", |lent, asked| lent == asked.wider),
 ];
 
-/// How often each of them has to be lent in a run of 37,500 cases.
+/// How often each of them has to be lent in a run of 40,000 cases.
 const LENGTHS_ASKED: u64 = 200;
 
 /// The sheet whose alternatives the call lists; none where it is refused.
@@ -142,6 +144,7 @@ impl Coverage {
         if let Ok(book) = reading {
             self.note_book(case, reading, book);
             self.note_rows(case, book, trials);
+            self.note_readings(case, book, trials);
         }
         trials.iter().for_each(|trial| self.note_trial(reading, trial));
         for of_call in of_each_call(trials) {
@@ -170,6 +173,13 @@ impl Coverage {
     fn note_rows(&mut self, case: &Case, book: &Book, trials: &[Trial]) {
         let standing = row_shapes::standing(book, &case.sheet);
         for asked in trials.iter().filter_map(|trial| RowAsked::by(book, &case.sheet, &standing, trial)) {
+            asked.shapes().for_each(|shape| self.count(asked.call, shape));
+        }
+    }
+
+    /// Notes what the calls for the nearest full reading had to find, by an accepted book.
+    fn note_readings(&mut self, case: &Case, book: &Book, trials: &[Trial]) {
+        for asked in of_each_call(trials).filter_map(|of_call| ReadingAsked::by(book, &case.sheet, of_call)) {
             asked.shapes().for_each(|shape| self.count(asked.call, shape));
         }
     }
@@ -236,6 +246,7 @@ impl Coverage {
         complete = LISTING.iter().fold(complete, |complete, call| complete & self.print_listed(call));
         complete = COUNTING.iter().fold(complete, |complete, call| complete & self.print_counted(call));
         complete &= print_had("rows", row_shapes::all().map(|(name, least)| self.had_by("row", name, least)));
+        complete &= print_had("readings", nearest_shapes::all().map(|(name, least)| self.had_by("nearest", name, least)));
         for (call, _) in &kinds {
             complete &= self.print_made("versions, fields and places", versions::SHAPES, call);
         }

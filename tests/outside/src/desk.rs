@@ -5,6 +5,7 @@ use crate::book::{refuse, Book, Refusal};
 use crate::calls::{Answer, Buffers, Call};
 use crate::filter::{alternatives, largest, relaxed, Alternatives, Filter, Subdomain};
 use crate::listing::{self, Listing};
+use crate::nearest::{self, is_too_large};
 use crate::reader::Reader;
 use crate::row::{self, Pointed};
 use crate::sheet::{Sheet, FRESH, NO_ANSWER, PLACES};
@@ -25,6 +26,7 @@ pub struct Desk {
     pub largest: Filter,
     pub alternatives: fn(&Book, &Sheet, Filter) -> Alternatives,
     pub row: row::Search,
+    pub nearest: nearest::Search,
     pub load: fn(&Book, &[u8]) -> Result<Sheet, Refusal>,
     pub enter: Enter,
     /// One call of a list: its number, and the sheet after it.
@@ -47,6 +49,7 @@ impl Default for Desk {
             largest,
             alternatives,
             row: row::first_row,
+            nearest: nearest::nearest,
             load,
             enter,
             step: step_by,
@@ -211,7 +214,7 @@ fn list(desk: &Desk, book: &Book, calls: &[u8]) -> Reached {
 /// An answer that writes nothing, from the sheet that it hands back.
 fn handing_back(result: Result<Sheet, Refusal>, otherwise: &Sheet) -> Answer {
     let sheet = *result.as_ref().unwrap_or(otherwise);
-    Answer { result: result.map(|_| Vec::new()), sheet, written: Buffers::default() }
+    Answer { result: result.map(|_| Vec::new()), sheet, written: Buffers::default(), asked: 0 }
 }
 
 /// An answer that leaves the sheet and writes what comes with its counts.
@@ -220,12 +223,13 @@ fn writing<T: Into<Buffers>>(result: Result<(Vec<u64>, T), Refusal>, sheet: Shee
         Ok((counts, elements)) => (Ok(counts), elements.into()),
         Err(r) => (Err(r), Buffers::default()),
     };
-    Answer { result, sheet, written }
+    let asked = written.elements();
+    Answer { result, sheet, written, asked }
 }
 
 /// An answer that leaves the sheet and writes nothing.
 fn counting(result: Result<Vec<u64>, Refusal>, sheet: Sheet) -> Answer {
-    Answer { result, sheet, written: Buffers::default() }
+    Answer { result, sheet, written: Buffers::default(), asked: 0 }
 }
 
 /// The elements with their number before them.
@@ -271,6 +275,17 @@ impl Desk {
         Ok(row::told((self.row)(book, &sheet.answers, self.largest, pointed).map(|row| row as u64)))
     }
 
+    /// What is told of the nearest full reading and the reading: 1 to 13, 14, 23. As many bytes as fields have to be lent, also where there
+    /// is none.
+    fn nearest(&self, reading: &Reading, sheet: &Sheet, given: Sheet) -> Answer {
+        let book = opened(reading, sheet).and_then(|book| refuse_if(is_too_large(book), 23).map(|()| book));
+        let found = book.map(|book| match (self.nearest)(book, sheet) {
+            Some(found) => (nearest::told(Some([found.differing as u64, found.reading.len() as u64])), found.reading),
+            None => (nearest::told(None), Vec::new()),
+        });
+        Answer { asked: book.map_or(0, |book| book.counts.len()), ..writing(found, given) }
+    }
+
     /// The sheet that a stored one makes: 1 to 13, 19, 14.
     pub fn loaded(&self, reading: &Reading, form: &[u8]) -> Result<Sheet, Refusal> {
         (self.load)(accepted(reading)?, form)
@@ -303,6 +318,7 @@ impl Desk {
             Call::Load { form } => handing_back(self.loaded(reading, &form), &FRESH),
             Call::Alternatives => writing(self.listed(reading, held), *sheet),
             Call::Row { field, code, table } => counting(self.row(reading, held, Pointed { field, code, table }), *sheet),
+            Call::Nearest => self.nearest(reading, held, *sheet),
             Call::Filtered { relaxed } => {
                 writing(self.filtered(reading, held, relaxed).map(|numbers| (Vec::new(), numbers)), *sheet)
             }

@@ -28,6 +28,24 @@ pub const E1_ROWS: [RowAsked; 11] = [
     ([NONE, 1, NONE], [1, 2, 1], Ok([1, 3])),
 ];
 
+/// What the nearest full reading is for: answers, and which of them are photographed; in how many fields it differs, and the reading.
+pub type ReadingAsked = (&'static [u8], &'static [usize], Option<(usize, [u8; 3])>);
+
+/// E1's full readings are 0 0 0, 0 1 1, 1 1 2 and 1 2 2. Answers 1 and 0 are in none of them.
+pub const E1_READINGS: [ReadingAsked; 11] = [
+    (&[], &[], Some((0, [0, 0, 0]))),
+    (&[0, 1], &[], Some((0, [0, 1, 1]))),
+    (&[1], &[], Some((0, [1, 1, 2]))),
+    (&[1, 0], &[], Some((1, [0, 0, 0]))),
+    (&[1, 0], &[0], Some((1, [1, 1, 2]))),
+    (&[1, 0], &[1], Some((1, [0, 0, 0]))),
+    (&[1, 0], &[0, 1], None),
+    (&[0, 2, 0], &[], Some((1, [0, 0, 0]))),
+    (&[0, 2, 0], &[1], Some((2, [1, 2, 2]))),
+    (&[1, 0, 1], &[], Some((2, [0, 0, 0]))),
+    (&[1, 0, 1], &[2], Some((2, [0, 1, 1]))),
+];
+
 /// Calls of a list on E1 and the number of each. Fields 0 and 1 are answered by 0 and 1 then, and field 0 is photographed.
 pub const E1_PHOTOGRAPHED: [([u8; 3], u64); 12] = [
     ([0, 0, 0], 0),

@@ -14,6 +14,7 @@ mod edges;
 pub mod examples;
 pub mod faults;
 pub mod filter;
+pub mod fitting;
 pub mod kept;
 pub mod library;
 pub mod listing;
@@ -21,6 +22,11 @@ pub mod listings;
 pub mod made;
 pub mod many;
 pub mod memory;
+pub mod near;
+pub mod nearest;
+#[cfg(test)]
+mod nearest_edges;
+pub mod nearest_shapes;
 pub mod parts;
 #[cfg(test)]
 mod photograph_edges;

@@ -4,6 +4,7 @@ use sighting::{ffi, Alternatives, Refusal};
 
 use crate::calls::{Call, CHANGING, MAKING};
 use crate::memory::Part;
+use crate::nearest;
 use crate::row;
 use crate::sheet::Sheet;
 
@@ -70,6 +71,7 @@ impl Library for Exported {
             Call::Filtered { relaxed } => ffi::sighting_filtered(s, b, n, *relaxed, lent.numbers.at, lent.numbers.len, o),
             Call::Alternatives => ffi::sighting_alternatives(s, b, n, out, lent_len, o),
             Call::Row { field, code, table } => ffi::sighting_row(s, b, n, *field, *code, *table, o),
+            Call::Nearest => ffi::sighting_nearest(s, b, n, out, lent_len, o),
             Call::Load { .. } => ffi::sighting_load(s, b, n, list, list_len, o),
             Call::Store => ffi::sighting_store(s, b, n, out, lent_len, o),
             Call::Replay { .. } => ffi::sighting_replay(s, b, n, list, list_len, out, lent_len, o),
@@ -108,6 +110,9 @@ impl Library for Wrapper {
             }
             Call::Alternatives => counts(sheet.alternatives(book, bytes)),
             Call::Row { field, code, table } => sheet.row(book, *field, *code, *table).map(row::told),
+            Call::Nearest => {
+                sheet.nearest(book, bytes).map(|found| nearest::told(found.map(|found| [found.differing, found.written])))
+            }
             Call::Load { .. } => {
                 let loaded = sighting::Sheet::load(book, list);
                 sheet = loaded.unwrap_or_default();

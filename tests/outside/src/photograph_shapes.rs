@@ -238,7 +238,7 @@ mod tests {
     use crate::examples::e1;
     use crate::made::{asked, names_of};
     use crate::sheet::{Sheet, FRESH};
-    use crate::{resend_shapes, row_shapes, shapes, versions};
+    use crate::{nearest_shapes, resend_shapes, row_shapes, shapes, versions};
 
     /// The shapes of a call on E1 with fields 0 and 1 answered by 0 and 1, and these places photographed.
     fn names(photographed: &[usize], call: Call) -> Vec<&'static str> {
@@ -322,6 +322,9 @@ mod tests {
             }
             if call == "row" {
                 names.extend(row_shapes::all().map(|(name, _)| name));
+            }
+            if call == "nearest" {
+                names.extend(nearest_shapes::all().map(|(name, _)| name));
             }
             assert_eq!(names.iter().collect::<BTreeSet<_>>().len(), names.len(), "{call}");
         }

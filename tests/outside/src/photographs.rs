@@ -22,7 +22,7 @@ const MANY: usize = field_limit(1);
 const EDGES: [u8; 3] = [field_limit(1) as u8 - 1, field_limit(1) as u8, PLACES as u8 - 2];
 
 /// Mostly 1; else another byte that counts as 1.
-fn byte(r: &mut Random) -> u8 {
+pub fn byte(r: &mut Random) -> u8 {
     let any = r.from(2, 255) as u8;
     if r.one_in(6) {
         r.one_of(&[2, 7, 128, 254, 255, any])

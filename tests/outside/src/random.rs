@@ -189,13 +189,15 @@ fn long_fall(r: &mut Random) -> Book {
     Book::new(vec![codes; fields as usize], tables)
 }
 
-/// A book of the version that its fields ask for; where either has room for them, of either.
 pub fn book(r: &mut Random) -> Book {
-    let mut book = of_some_kind(r);
-    if r.one_in(3) {
-        book.version = 2;
-    }
-    book
+    let book = of_some_kind(r);
+    in_some_version(r, book)
+}
+
+/// The book in the version that its fields ask for; where either has room for them, in either.
+pub fn in_some_version(r: &mut Random, book: Book) -> Book {
+    let version = if r.one_in(3) { 2 } else { book.version };
+    Book { version, ..book }
 }
 
 fn of_some_kind(r: &mut Random) -> Book {

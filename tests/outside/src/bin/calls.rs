@@ -4,9 +4,10 @@
 //! bare and by the safe wrapper, with buffers one short, exact, longer, as long as the header says suffices, and of length 0, and with
 //! its memory flush against a page that nobody may touch, in front and behind; a list of calls is also made one by one, alternatives are
 //! held against plain filtering with each answered field relaxed, photographed or not, rows against plain filtering and the listing, a
-//! book that is shown or written goes the way back too, and an accepted book is turned into the other version. The run prints how often
+//! nearest reading against plain filtering and itself, a book that is shown or written goes the way back too, and an accepted book is
+//! turned into the other version. The run prints how often
 //! each refusal of each call was reached and what else the cases had, and fails if something was missed; some of it has to be had so
-//! often that it takes 37,500 cases.
+//! often that it takes 40,000 cases.
 
 use std::ffi::c_int;
 use std::io::Write;
@@ -98,6 +99,15 @@ fn rows_agree(rooms: &Rooms, case: &Case, reading: &Reading, r: &mut Random) -> 
     disagreement.is_none()
 }
 
+/// The nearest reading is full by plain filtering, and the nearest to itself.
+fn readings_agree(rooms: &Rooms, case: &Case, reading: &Reading) -> bool {
+    let disagreement = rooms.reading_disagreement(&Exported, case, reading);
+    if let Some(disagreement) = &disagreement {
+        println!("the nearest reading and plain filtering do not agree\n{disagreement}");
+    }
+    disagreement.is_none()
+}
+
 /// The ways to make a call.
 fn ways(call: &Call) -> &'static [(&'static str, &'static dyn Library)] {
     let ways: &[(&str, &dyn Library)] = &[("bare", &Exported), ("by the wrapper", &Wrapper), ("one by one", &OneByOne)];
@@ -137,6 +147,7 @@ fn case_agrees(rooms: &Rooms, seed: u64, index: u64, seen: &mut Coverage) -> boo
     trials.iter().all(|trial| trial_agrees(rooms, &case, trial))
         && filterings_agree(rooms, &case, &reading)
         && rows_agree(rooms, &case, &reading, &mut random(seed ^ 0xC0DE, index))
+        && readings_agree(rooms, &case, &reading)
         && versions_agree(rooms, &case, &reading, &trials)
         && case.calls.iter().all(|call| list_agrees(&case, &reading, call) && round_trips_agree(&case, call))
 }

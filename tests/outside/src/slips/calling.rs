@@ -5,18 +5,18 @@ use super::{
     Wrong::{Left, Part},
 };
 use crate::book::{refuse, Book, Refusal};
-use crate::calls::{self, Call, CHANGING, OF_A_CODE, OF_A_FIELD, OF_A_SHEET, TELLING};
+use crate::calls::{self, Call, CHANGING, OF_A_CODE, OF_A_FIELD, OF_A_SHEET, ONE_FOR_EACH, TELLING};
 use crate::compare::UNWRITTEN;
 use crate::desk::{faults, Desk};
 use crate::filter::largest;
 use crate::reader::field_list;
 use crate::sheet::{Sheet, FRESH, NO_ANSWER};
 
-const WRITING: &[&str] = &["filtered", "alternatives", "store", "replay", "report", "show", "write"];
+const WRITING: &[&str] = &["filtered", "alternatives", "nearest", "store", "replay", "report", "show", "write"];
 /// The calls that refuse a field without an answer.
 const OF_AN_ANSWER: &[&str] = &["withdraw", "photograph", "filtered"];
 /// The calls that write and have a count.
-const COUNTING: &[&str] = &["alternatives", "replay", "report", "show", "write"];
+const COUNTING: &[&str] = &["alternatives", "nearest", "replay", "report", "show", "write"];
 
 pub const SLIPS: &[Listed] = &[
     ("a field taken as a byte", OF_A_FIELD, Part(|desk| desk.taken = |call| taken(call, byte, whole))),
@@ -35,7 +35,7 @@ pub const SLIPS: &[Listed] = &[
     ("16 tested before 14", OF_A_CODE, Left(|seen, left| before(left, 14, 16, || seen.has_no_code()))),
     ("17 tested before 14", OF_AN_ANSWER, Left(|seen, left| before(left, 14, 17, || seen.has_no_answer()))),
     ("17 tested before 15", OF_AN_ANSWER, Left(|_, left| before(left, 15, 17, || true))),
-    ("18 tested before 14", &["filtered", "store"], Left(|seen, left| before(left, 14, 18, || seen.lacks_room()))),
+    ("18 tested before 14", ONE_FOR_EACH, Left(|seen, left| before(left, 14, 18, || seen.lacks_room()))),
     ("18 tested before 15", &["filtered"], Left(|seen, left| before(left, 15, 18, || seen.lacks_room()))),
     ("18 tested before 17", &["filtered"], Left(|seen, left| before(left, 17, 18, || seen.lacks_room()))),
     ("a code that does not stand refused by 16", &["enter"], Left(standing_codes_only)),
@@ -100,7 +100,7 @@ fn fault_first(book: &Book, form: &[u8]) -> Result<Sheet, Refusal> {
 
 impl Seen<'_> {
     pub fn accepted(&self) -> &Book {
-        self.reading.as_ref().expect("14 to 18, 21 and 22 come after the book was read")
+        self.reading.as_ref().expect("14 to 18 and 21 to 23 come after the book was read")
     }
 
     pub fn field(&self) -> usize {
@@ -200,7 +200,7 @@ pub fn refused_by_18(left: &mut calls::Left) {
 }
 
 fn more_room_asked(seen: &Seen, left: &mut calls::Left) {
-    if left.number == 0 && seen.answer.written.elements() == seen.lent {
+    if left.number == 0 && seen.answer.asked == seen.lent {
         refused_by_18(left);
     }
 }

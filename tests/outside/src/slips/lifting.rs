@@ -200,7 +200,8 @@ fn all_cleared(numbers: &mut [u32], _: usize) {
 
 /// Leaves another answer, with what was lent as it is now.
 fn leave(seen: &Seen, left: &mut calls::Left, bytes: Vec<u8>, counts: Vec<u64>) {
-    *left = Answer { result: Ok(counts), sheet: left.sheet, written: bytes.into() }.left(seen.call, &left.out);
+    let asked = bytes.len();
+    *left = Answer { result: Ok(counts), sheet: left.sheet, written: bytes.into(), asked }.left(seen.call, &left.out);
 }
 
 pub fn lines_of(answer: &Answer) -> impl Iterator<Item = &[u8]> {

@@ -212,7 +212,8 @@ fn laid_out_again(seen: &Seen, left: &mut calls::Left) {
         listing.lay_out_behind(listing.lay_out_tables().ok()?.get(65_536..)?).ok()
     };
     if let Some(bytes) = again().filter(|bytes| Reader::default().read(bytes).is_ok()) {
-        let answer = Answer { result: Ok(vec![bytes.len() as u64]), sheet: *seen.sheet, written: bytes.into() };
+        let asked = bytes.len();
+        let answer = Answer { result: Ok(vec![asked as u64]), sheet: *seen.sheet, written: bytes.into(), asked };
         *left = answer.left(seen.call, &left.out);
     }
 }

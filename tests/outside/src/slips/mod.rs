@@ -7,6 +7,7 @@ mod doubting;
 mod filtering;
 mod lifting;
 mod listing;
+mod nearing;
 mod photographs;
 mod places;
 mod pointing;
@@ -22,6 +23,7 @@ use crate::book::Book;
 use crate::calls::{Answer, Buffers, Call, Left};
 use crate::desk::{Desk, Enter, Reading};
 use crate::library::{Lent, Library};
+use crate::nearest;
 use crate::row::Search;
 use crate::sheet::Sheet;
 pub use lifting::listed_although_empty;
@@ -45,6 +47,8 @@ pub enum Wrong {
     Counted(fn(&Book) -> usize),
     /// The desk looks for the row behind a code by this.
     Sought(Search),
+    /// The desk looks for the nearest full reading by this.
+    Near(nearest::Search),
     /// The desk enters a code of a field by this.
     Entered(Enter),
     /// The desk leaves something else than it answers.
@@ -73,7 +77,7 @@ impl Slip {
 /// All slips, each in each of its calls.
 pub fn all() -> Vec<Slip> {
     let of_document_01 = [reading::SLIPS, filtering::SLIPS, calling::SLIPS].concat();
-    let of_rows = [counting::SLIPS, pointing::SLIPS].concat();
+    let of_rows = [counting::SLIPS, pointing::SLIPS, nearing::SLIPS].concat();
     let of_versions = [versions::SLIPS, places::SLIPS].concat();
     let of_photographs = [photographs::SLIPS, doubting::SLIPS, resending::SLIPS].concat();
     let listed = [&of_document_01, &of_rows[..], &of_versions, &of_photographs, lifting::SLIPS, listing::SLIPS].concat();
@@ -106,6 +110,7 @@ impl SlowLibrary {
             Wrong::Part(exchange) => exchange(&mut desk),
             Wrong::Counted(different_rows) => desk.different_rows = different_rows,
             Wrong::Sought(search) => desk.row = search,
+            Wrong::Near(search) => desk.nearest = search,
             Wrong::Entered(enter) => desk.enter = enter,
             _ => {}
         }
@@ -196,23 +201,37 @@ mod tests {
         }
     }
 
+    /// Nothing is found of the desk without a slip, and of the one with each of these slips this problem.
+    fn are_seen(slips: &[(&str, &str)], found: impl Fn(&SlowLibrary, &Rooms, &Case, &Reading) -> Option<String>) {
+        let told = |library| in_first_cases(|rooms, case, reading| found(&library, rooms, case, reading)).unwrap_or_default();
+        assert_eq!(told(SlowLibrary::default()), "");
+        for (name, problem) in slips {
+            let told = told(named(name));
+            assert!(told.contains(problem), "{name}: {told}");
+        }
+    }
+
     #[test]
     fn rows_that_plain_filtering_and_the_listing_do_not_give_are_seen() {
-        let seen = |library| {
-            in_first_cases(|rooms, case, reading| rooms.row_disagreement(&library, case, reading, &mut Random(1)))
-                .unwrap_or_default()
-        };
-        assert_eq!(seen(SlowLibrary::default()), "");
-        for (name, problem) in [
+        let slips = [
             ("row: the last row that keeps the code", "the row is not the first"),
             ("row: none in tables of one field", "the row is not the first"),
             ("row: tables without rows not filtered by", "the code stands, and a table with its field has no row"),
             ("row: an empty field empties all others", "the code does not stand, and each table with its field has a row"),
             ("show: no version", "an accepted book is not filtered, or not shown"),
-        ] {
-            let told = seen(named(name));
-            assert!(told.contains(problem), "{name}: {told}");
-        }
+        ];
+        are_seen(&slips, |library, rooms, case, reading| rooms.row_disagreement(library, case, reading, &mut Random(1)));
+    }
+
+    #[test]
+    fn readings_that_plain_filtering_does_not_give_are_seen() {
+        let slips = [
+            ("nearest: the last table not tested", "a code of the reading does not stand"),
+            ("nearest: rows tested by their first column", "a code of the reading does not stand"),
+            ("nearest: open fields written as 255", "a code of the reading does not stand"),
+            ("nearest: all answered fields counted", "the reading is not the nearest to itself"),
+        ];
+        are_seen(&slips, |library, rooms, case, reading| rooms.reading_disagreement(library, case, reading));
     }
 
     #[test]

@@ -9,7 +9,7 @@ use super::{
     Wrong::{Left, Part},
 };
 use crate::book::{field_limit, refuse, Book, Refusal};
-use crate::calls::{self, Call, OF_A_FIELD, OF_A_SHEET};
+use crate::calls::{self, Call, OF_A_FIELD, OF_A_SHEET, ONE_FOR_EACH};
 use crate::desk::{faults, is_on_field, step, Desk};
 use crate::filter::{allowed, alternatives, largest, pass_cases, remove, unsupported, Alternatives, Filter, PassCase, Subdomain};
 use crate::sheet::{Sheet, NO_ANSWER, PLACES};
@@ -70,9 +70,9 @@ pub const SLIPS: &[Listed] = &[
     ("15 only for fields that a sheet has no place for", OF_A_FIELD, Left(place_for_field)),
     ("numbers of fields from 32 on 0", &["filtered"], Left(|seen, left| numbers_cleared(seen, left, BEHIND))),
     ("the number of field 59 0", &["filtered"], Left(|seen, left| numbers_cleared(seen, left, LAST))),
-    ("18 only where fewer than 32 elements are lent", &["filtered", "store"], Left(|seen, left| fewer_asked(seen, left, BEHIND))),
-    ("18 where fewer elements are lent than a sheet has places", &["filtered", "store"], Left(places_asked)),
-    ("one element for each place of the sheet", &["filtered", "store"], Left(for_each_place)),
+    ("18 only where fewer than 32 elements are lent", ONE_FOR_EACH, Left(|seen, left| fewer_asked(seen, left, BEHIND))),
+    ("18 where fewer elements are lent than a sheet has places", ONE_FOR_EACH, Left(places_asked)),
+    ("one element for each place of the sheet", ONE_FOR_EACH, Left(for_each_place)),
     loading("stored sheets of more than 32 bytes refused by 19", |desk| {
         desk.load = |book, form| load_if(book, form, form.len() <= BEHIND)
     }),

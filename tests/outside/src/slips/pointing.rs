@@ -199,13 +199,13 @@ fn one_round(book: &Book, answers: &[u8]) -> Subdomain {
     domain
 }
 
-fn without_table(book: &Book, table: usize) -> Book {
+pub fn without_table(book: &Book, table: usize) -> Book {
     let mut others = book.clone();
     others.tables.remove(table);
     others
 }
 
-fn first_tables(book: &Book, tables: usize) -> Book {
+pub fn first_tables(book: &Book, tables: usize) -> Book {
     let mut first = book.clone();
     first.tables.truncate(tables);
     first
@@ -339,14 +339,14 @@ impl Seen<'_> {
     }
 }
 
-fn if_none(left: &mut calls::Left, change: impl Fn(&mut calls::Left)) {
+pub fn if_none(left: &mut calls::Left, change: impl Fn(&mut calls::Left)) {
     if left.number == 0 && left.cells[1] == 0 {
         change(left);
     }
 }
 
 /// Tells none in the place of a refusal where it is so.
-fn none_for(left: &mut calls::Left, number: u64, so: impl Fn() -> bool) {
+pub fn none_for(left: &mut calls::Left, number: u64, so: impl Fn() -> bool) {
     if left.number == number && so() {
         left.number = 0;
     }

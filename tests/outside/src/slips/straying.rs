@@ -74,14 +74,14 @@ const LENT: [(Memory, &[&str]); 9] = [
     (Memory::Sheet, MAKING),
     (Memory::Sheet, OF_A_SHEET),
     (Memory::Outcome, TELLING),
-    (Memory::Bytes, &["alternatives", "store", "replay", "report", "write"]),
+    (Memory::Bytes, &["alternatives", "nearest", "store", "replay", "report", "write"]),
     (Memory::Shown, &["show"]),
     (Memory::Numbers, &["filtered"]),
 ];
 
 /// The calls that each memory is lent to be read only.
 const LENT_TO_READ: [(Memory, &[&str]); 4] =
-    [LENT[0], LENT[1], LENT[2], (Memory::Sheet, &["filtered", "alternatives", "row", "store"])];
+    [LENT[0], LENT[1], LENT[2], (Memory::Sheet, &["filtered", "alternatives", "row", "nearest", "store"])];
 
 const BESIDE: [(Place, Access); 4] = [
     (Place::Before, Access::Read),
