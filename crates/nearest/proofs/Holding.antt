@@ -1,19 +1,19 @@
 -- What tables can hold of the codes up to a field: readings that agree so far hold the same, a full reading holds throughout, and one that holds up to
--- each field is full. Assumes nothing.
+-- each field of two codes or more is full, where no table is empty. Assumes nothing.
 use mathlib.Core.Path.{_≡_, refl, sym, ap, ap₂, subst}
 use mathlib.Core.Logic.{⊎-elim}
 use mathlib.Core.Bool.{Bool, true, false, not, _&&_, _||_}
 use mathlib.Core.List.{List, [], _∷_, map}
 use Prim.Native.Nat.{ℕ, zero, suc, _-_, _≤_, _<_}
 use native.Mathlib.Decide.{decLt}
-use native.Mathlib.Nat.{eq-or-lt-of-le}
+use native.Mathlib.Nat.{eq-or-lt-of-le, le-refl}
 use native.Mathlib.Omega.{arith}
 use lib.ListN.{length, getD, take}
 use lib.Seq.{length-take-le, getD-take, take-all}
-use lib.Dec.{T}
-use borrow.Author.Tests.{ltb-true, lt-ltb}
+use lib.Dec.{T, eqb}
+use borrow.Author.Tests.{ltb-true, lt-ltb, eq-eqb, ne-eqb}
 use Rattle.format.specs.Basics.{All}
-use Rattle.format.specs.Format.{Table, TableOk, codeLimit, sameCodes, isIn}
+use Rattle.format.specs.Format.{Table, RowOk, TableOk, codeLimit, sameCodes, isIn}
 use Rattle.format.proofs.Conditions.{rising-at}
 use Rattle.format.proofs.Elements.{all-at, all-of}
 use Rattle.format.proofs.SameCodes.{same-codes, codes-same}
@@ -22,9 +22,9 @@ use Rattle.consistency.specs.Consistency.{fieldOf}
 use Rattle.consistency.specs.Readings.{rowFor}
 use Rattle.consistency.specs.Nearest.{isFull}
 use Rattle.consistency.specs.Rows.{columnOf, hasField}
-use Rattle.consistency.proofs.Booleans.{T-true, true-T, and-in, and-left, and-right, or-left, or-right, or-out}
+use Rattle.consistency.proofs.Booleans.{T-true, T-false, true-T, false-T, and-in, and-left, and-right, or-left, or-right, or-out}
 use Rattle.consistency.proofs.FirstRows.{column-is, column-there}
-use Rattle.nearest.specs.Words.{widthOf, begins, canHold}
+use Rattle.nearest.specs.Words.{widthOf, begins, canHold, anyEmpty}
 
 -- the same codes below m
 abbrev pub Agree : ℕ → List ℕ → List ℕ → Type 0
@@ -62,6 +62,39 @@ when false u v h = refl
 when-is : (x u : Bool) → x ≡ true → T (not x || u) → T u
 when-is true u e t = t
 when-is false u e t = absurd (subst T (sym e) tt)
+
+either-false : (x y : Bool) → (x || y) ≡ false → (x ≡ false) × (y ≡ false)
+either-false true y e = absurd (subst T e tt)
+either-false false y e = (refl, e)
+
+-- a table with rows has one that begins with no codes
+first-row : (rows : List (List ℕ)) → eqb (length rows) 0 ≡ false → T (isIn [] (map (take 0) rows))
+first-row [] e = subst T e tt
+first-row (r ∷ rows) e = tt
+
+-- ---- a field of one code: a row that begins with a reading's codes before it goes on with that code
+
+module _ (counts : List ℕ) where
+  same-more : (w : ℕ) (fs q r : List ℕ) → RowOk counts fs r → w < length fs → getD counts (getD fs w 0) 0 ≤ 1
+      → getD q (getD fs w 0) 0 < getD counts (getD fs w 0) 0 → T (sameCodes (rowFor q (take w fs)) (take w r))
+      → T (sameCodes (rowFor q (take (suc w) fs)) (take (suc w) r))
+  same-more w [] q r o l one own u = absurd (omega arith)
+  same-more w (f ∷ fs) q [] o l one own u = absurd o
+  same-more zero (f ∷ fs) q (c ∷ r) o l one own u = and-in (eqb (getD q f 0) c) true (true-T (eq-eqb (getD q f 0) c (omega (arith, o .0)))) tt
+  same-more (suc w) (f ∷ fs) q (c ∷ r) o l one own u =
+      and-in (eqb (getD q f 0) c) (sameCodes (rowFor q (take (suc w) fs)) (take (suc w) r))
+      (and-left (eqb (getD q f 0) c) (sameCodes (rowFor q (take w fs)) (take w r)) u)
+      (same-more w fs q r (o .1) (omega arith) one own (and-right (eqb (getD q f 0) c) (sameCodes (rowFor q (take w fs)) (take w r)) u))
+
+  in-more : (w : ℕ) (fs q : List ℕ) (rows : List (List ℕ)) → All (RowOk counts fs) rows → w < length fs → getD counts (getD fs w 0) 0 ≤ 1
+      → getD q (getD fs w 0) 0 < getD counts (getD fs w 0) 0 → T (isIn (rowFor q (take w fs)) (map (take w) rows))
+      → T (isIn (rowFor q (take (suc w) fs)) (map (take (suc w)) rows))
+  in-more w fs q [] o l one own u = absurd u
+  in-more w fs q (r ∷ rows) o l one own u =
+      ⊎-elim
+      (λ v. or-left (sameCodes (rowFor q (take (suc w) fs)) (take (suc w) r)) (isIn (rowFor q (take (suc w) fs)) (map (take (suc w)) rows)) (same-more w fs q r (o .0) l one own v))
+      (λ v. or-right (sameCodes (rowFor q (take (suc w) fs)) (take (suc w) r)) (isIn (rowFor q (take (suc w) fs)) (map (take (suc w)) rows)) (in-more w fs q rows (o .1) l one own v))
+      (or-out (sameCodes (rowFor q (take w fs)) (take w r)) (isIn (rowFor q (take w fs)) (map (take w) rows)) u)
 
 -- ---- a table of a well-formed book
 
@@ -122,21 +155,39 @@ module _ (counts : List ℕ) (sized : All (λ c. (1 ≤ c) × (c ≤ codeLimit))
         subst (λ (x : List ℕ). T (isIn x (map (take (widthOf t f)) (t .rows)))) (sym (row-take (widthOf t f) q (t .fields)))
         (in-take (widthOf t f) (rowFor q (t .fields)) (t .rows) u)
 
-    -- its last field
-    abbrev lastOf : ℕ
-    lastOf = fieldOf t (length (t .fields) - 1)
+    -- a reading of its fields' codes goes on in some row: up to a field of two codes or more because it can be held there, and then with the only
+    -- code of the next
+    begun : (q : List ℕ) → eqb (length (t .rows)) 0 ≡ false
+        → ((g : ℕ) → g < length counts → getD q g 0 < getD counts g 0)
+        → ((g : ℕ) → g < length counts → 1 < getD counts g 0 → T (not (hasField t g) || begins t q g))
+        → (w : ℕ) → w ≤ length (t .fields) → T (isIn (rowFor q (take w (t .fields))) (map (take w) (t .rows)))
+    begun q some own h zero l = first-row (t .rows) some
+    begun q some own h (suc w) l = go (decLt 1 (getD counts g 0)) (begun q some own h w (omega arith))
+      where
+        g : ℕ
+        g = fieldOf t w
 
-    last-has : hasField t lastOf ≡ true
-    last-has =
-        let l : length (t .fields) - 1 < length (t .fields) = omega (arith, o .some) in
-        lt-ltb (columnOf t lastOf) (length (t .fields)) (column-there t lastOf (length (t .fields) - 1, l, refl))
+        known : g < length counts
+        known = all-at (λ f. f < length counts) (t .fields) 0 (o .known) w l
 
-    -- a row that begins so up to the last field is held
-    begins-holds : (q : List ℕ) → T (begins t q lastOf) → T (isIn (rowFor q (t .fields)) (t .rows))
-    begins-holds q u =
-        let l : length (t .fields) - 1 < length (t .fields) = omega (arith, o .some) in
-        let w : widthOf t lastOf ≡ length (t .fields) = omega (arith, own-column (length (t .fields) - 1) l, o .some) in
-        rw (w, take-all (length (t .fields)) (t .fields) (omega arith), rows-whole (length (t .fields)) (t .rows) rows-of) at u
+        has : hasField t g ≡ true
+        has = lt-ltb (columnOf t g) (length (t .fields)) (column-there t g (w, l, refl))
+
+        go : Dec (1 < getD counts g 0) → T (isIn (rowFor q (take w (t .fields))) (map (take w) (t .rows)))
+            → T (isIn (rowFor q (take (suc w) (t .fields))) (map (take (suc w)) (t .rows)))
+        go (yes m) u =
+            let e : widthOf t g ≡ suc w = omega (arith, own-column w l) in
+            rw e at (when-is (hasField t g) (begins t q g) has (h g known m))
+        go (no m) u = in-more counts w (t .fields) q (t .rows) (o .codes) l (omega arith) (own g known) u
+
+    -- so the table holds it
+    begun-holds : (q : List ℕ) → eqb (length (t .rows)) 0 ≡ false
+        → ((g : ℕ) → g < length counts → getD q g 0 < getD counts g 0)
+        → ((g : ℕ) → g < length counts → 1 < getD counts g 0 → T (not (hasField t g) || begins t q g))
+        → T (isIn (rowFor q (t .fields)) (t .rows))
+    begun-holds q some own h =
+        rw (take-all (length (t .fields)) (t .fields) (le-refl _), rows-whole (length (t .fields)) (t .rows) rows-of)
+        at (begun q some own h (length (t .fields)) (le-refl _))
 
   -- ---- all tables
 
@@ -154,13 +205,25 @@ module _ (counts : List ℕ) (sized : All (λ c. (1 ≤ c) × (c ≤ codeLimit))
       (holds-begins t (o .0) q f (and-left (isIn (rowFor q (t .fields)) (t .rows)) (isFull ts q) u)))
       (full-hold ts q f (o .1) (and-right (isIn (rowFor q (t .fields)) (t .rows)) (isFull ts q) u))
 
-  -- one that holds up to each field is full
-  pub hold-full : (ts : List Table) (q : List ℕ) → All (TableOk counts) ts → ((g : ℕ) → g < length counts → T (canHold ts q g)) → T (isFull ts q)
-  hold-full [] q o h = tt
-  hold-full (t ∷ ts) q o h =
-      let g = lastOf t (o .0) in
-      let l : g < length counts = all-at (λ f. f < length counts) (t .fields) 0 (o .0 .known) (length (t .fields) - 1) (omega (arith, o .0 .some)) in
+  -- one that holds up to each field of two codes or more is full, if it has codes of the book and each table a row
+  pub hold-full : (ts : List Table) (q : List ℕ) → All (TableOk counts) ts → anyEmpty ts ≡ false
+      → ((g : ℕ) → g < length counts → getD q g 0 < getD counts g 0)
+      → ((g : ℕ) → g < length counts → 1 < getD counts g 0 → T (canHold ts q g)) → T (isFull ts q)
+  hold-full [] q o some own h = tt
+  hold-full (t ∷ ts) q o some own h =
+      let e = either-false (eqb (length (t .rows)) 0) (anyEmpty ts) some in
       and-in (isIn (rowFor q (t .fields)) (t .rows)) (isFull ts q)
-      (begins-holds t (o .0) q
-      (when-is (hasField t g) (begins t q g) (last-has t (o .0)) (and-left (not (hasField t g) || begins t q g) (canHold ts q g) (h g l))))
-      (hold-full ts q (o .1) (λ f k. and-right (not (hasField t f) || begins t q f) (canHold ts q f) (h f k)))
+      (begun-holds t (o .0) q (e .0) own (λ g k m. and-left (not (hasField t g) || begins t q g) (canHold ts q g) (h g k m)))
+      (hold-full ts q (o .1) (e .1) own (λ g k m. and-right (not (hasField t g) || begins t q g) (canHold ts q g) (h g k m)))
+
+-- no reading is full where some table is empty
+pub empty-full : (ts : List Table) (q : List ℕ) → anyEmpty ts ≡ true → isFull ts q ≡ false
+empty-full [] q e = absurd (subst T (sym e) tt)
+empty-full (t ∷ ts) q e =
+    T-false (λ u.
+    at (t .rows) e (and-left (isIn (rowFor q (t .fields)) (t .rows)) (isFull ts q) u)
+    (λ d. false-T (empty-full ts q d) (and-right (isIn (rowFor q (t .fields)) (t .rows)) (isFull ts q) u)))
+  where
+    at : (rows : List (List ℕ)) → (eqb (length rows) 0 || anyEmpty ts) ≡ true → T (isIn (rowFor q (t .fields)) rows) → (anyEmpty ts ≡ true → ⊥) → ⊥
+    at [] d u v = u
+    at (r ∷ rows) d u v = v (rw (ne-eqb (length (r ∷ rows)) 0 (λ z. omega arith)) at d)

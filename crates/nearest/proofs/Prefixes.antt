@@ -13,7 +13,7 @@ use lib.Dec.{T, eqb}
 use Rattle.format.specs.Basics.{pick}
 use Rattle.format.specs.Format.{Book, WellFormed}
 use Rattle.consistency.specs.Counting.{howMany}
-use Rattle.consistency.specs.Consistency.{Sheet, answer, backed}
+use Rattle.consistency.specs.Consistency.{Sheet, codes, answer, backed}
 use Rattle.consistency.specs.Readings.{differs, differing}
 use Rattle.consistency.specs.Nearest.{Nearest, found, isFull, keepsBacked, after, choose, readings}
 use Rattle.consistency.proofs.Booleans.{T-true, T-false, true-T, false-T, all-in, all-out, below-suc}
@@ -21,7 +21,7 @@ use Rattle.consistency.proofs.Elements.{answer-at}
 use Rattle.consistency.proofs.Limits.{many-few}
 use Rattle.consistency.proofs.Sums.{many-ext}
 use Rattle.consistency.proofs.Choosing.{after-rows, after-keeps, after-near, after-full, choose-still, Continues, continues}
-use Rattle.nearest.specs.Words.{canHold}
+use Rattle.nearest.specs.Words.{canHold, anyEmpty}
 use Rattle.nearest.specs.Asks.{held, Ready}
 use Rattle.nearest.specs.declared.Found.{Found}
 use Rattle.nearest.proofs.CodeTurns.{held-still, held-nearer, held-found}
@@ -133,14 +133,17 @@ module _ (b : Book) (w : WellFormed b) (s : Sheet) (n : ℕ) (en : length (b .co
 
     -- the codes are right up to the field
     pub ready-next : (d m least least′ : ℕ) → Ready b s R f d least → m ≡ pick (differs (s .answers) (set R f c) f) 1 0
-        → canHold (b .tables) (set R f c) f ≡ true → T (not (backed s f && differs (s .answers) (set R f c) f)) → d + m < least′
+        → c < codes b f → (1 < codes b f → canHold (b .tables) (set R f c) f ≡ true) → T (not (backed s f && differs (s .answers) (set R f c) f)) → d + m < least′
         → Ready b s (set R f c) (f + 1) (d + m) least′
-    ready-next d m least least′ o one e k h =
+    ready-next d m least least′ o one own e k h =
         record {
           within = omega arith;
-          rows = λ g l.
-              ⊎-elim (λ (i : g ≡ f). true-T (ap (canHold (b .tables) (set R f c)) i ∙ e))
-              (λ (i : g < f). subst T (hold-agree (b .counts) (w .sized) (b .tables) g R (set R f c) (w .each) (λ j u. sym (set-agree j (omega arith)))) (o .rows g i))
+          own = λ g l.
+              ⊎-elim (λ (i : g ≡ f). subst (λ (j : ℕ). getD (set R f c) j 0 < codes b j) (sym i) (omega (arith, set-here)))
+              (λ (i : g < f). omega (arith, set-agree g i, o .own g i)) (below-suc (rw add-one at l));
+          rows = λ g l m.
+              ⊎-elim (λ (i : g ≡ f). true-T (ap (canHold (b .tables) (set R f c)) i ∙ e (subst (λ (j : ℕ). 1 < codes b j) i m)))
+              (λ (i : g < f). subst T (hold-agree (b .counts) (w .sized) (b .tables) g R (set R f c) (w .each) (λ j u. sym (set-agree j (omega arith)))) (o .rows g i m))
               (below-suc (rw add-one at l));
           kept = λ g l.
               ⊎-elim (λ (i : g ≡ f). subst (λ (j : ℕ). T (not (backed s j && differs (s .answers) (set R f c) j))) (sym i) k)
@@ -152,10 +155,10 @@ module _ (b : Book) (w : WellFormed b) (s : Sheet) (n : ℕ) (en : length (b .co
 
   -- ---- every field has its code
 
-  pub ready-leaf : (R : List ℕ) (f d : ℕ) (F : Found) → n ≤ length R → Ready b s R f d (F .least) → n ≤ f
+  pub ready-leaf : (R : List ℕ) (f d : ℕ) (F : Found) → n ≤ length R → anyEmpty (b .tables) ≡ false → Ready b s R f d (F .least) → n ≤ f
       → held n (record { least = d; reading = R }) ≡ choose b s (readings b (n - f) (take f R)) (held n F)
   unfolding readings
-  ready-leaf R f d F long o h =
+  ready-leaf R f d F long filled o h =
       let e : n - f ≡ 0 = omega arith in
       let e′ : f ≡ n = omega (arith, o .within) in
       let m : d ≤ n = omega (arith, o .counted, many-few f (differs (s .answers) R)) in
@@ -172,8 +175,8 @@ module _ (b : Book) (w : WellFormed b) (s : Sheet) (n : ℕ) (en : length (b .co
 
       full : isFull (b .tables) (take n R) ≡ true
       full =
-          T-true (hold-full (b .counts) (w .sized) (b .tables) (take n R) (w .each)
-          (λ g l. subst T (hold-agree (b .counts) (w .sized) (b .tables) g R (take n R) (w .each) (λ j u. sym (agree j (omega arith)))) (o .rows g (omega arith))))
+          T-true (hold-full (b .counts) (w .sized) (b .tables) (take n R) (w .each) filled (λ g l. omega (arith, agree g (omega arith), o .own g (omega arith)))
+          (λ g l m. subst T (hold-agree (b .counts) (w .sized) (b .tables) g R (take n R) (w .each) (λ j u. sym (agree j (omega arith)))) (o .rows g (omega arith) m)))
 
       kept : keepsBacked b s (take n R) ≡ true
       kept = keeps-all (take n R) (λ g l. subst (λ (x : Bool). T (not (backed s g && x))) (sym (differs-agree (s .answers) n (take n R) R agree g l)) (o .kept g (omega arith)))

@@ -7,7 +7,8 @@ use native.Mathlib.Nat.{sub-zero}
 use native.Mathlib.Omega.{arith}
 use lib.ListN.{length, take, drop, length-append, length-drop, length-map, take-append-drop}
 use lib.Seq.{sets, length-take-le, drop-drop, drop-at, take-at, drop-append-le}
-use borrow.Author.Tests.{ltb-true}
+use lib.Dec.{eqb}
+use borrow.Author.Tests.{ltb-true, eq-eqb, ne-eqb}
 use Rattle.format.specs.Basics.{All}
 use Rattle.format.specs.Format.{Table, TableOk, WellFormed, codeLimit, rowLimit, rowTotal, byte, le16, part, versionOf, tableCount, listPlace, arityAt, tableEnd, rowsAt, tableAt, tablesAt, bookOf}
 use Rattle.format.specs.Promise.{TablePromise, place}
@@ -23,7 +24,7 @@ use Rattle.book.specs.View.{Numbered}
 use Rattle.book.proofs.Rows as rows
 use Rattle.consistency.specs.Rows.{columnOf, hasField}
 use Rattle.nearest.specs.declared.rows.Front.{Front}
-use Rattle.nearest.specs.Words.{widthOf, frontOf, begins, canHold, frontWord, wordFront, IsFront, rowWords, Packed}
+use Rattle.nearest.specs.Words.{widthOf, frontOf, begins, canHold, anyEmpty, frontWord, wordFront, IsFront, rowWords, Packed}
 use Rattle.nearest.specs.Asks.{RowsPack, HeadFits}
 use Rattle.nearest.proofs.Fronts.{fronts-among}
 use Rattle.nearest.proofs.Holding.{rows-of}
@@ -199,6 +200,27 @@ module _ (s : List ℕ) where
       let whole : u ≡ allWords ++ drop (length allWords) w =
       ap (sets u first) (sym (ap rowWords e ∙ words-none)) ∙ d ∙ sets-front w allWords l in
       record { words = ap (take (length allWords)) whole ∙ take-at allWords (drop (length allWords) w) (length allWords) refl }
+
+  -- ---- looking for an empty table
+
+  pub empty-start : (tables : ℕ) → tables ≡ tableCount s → anyEmpty (tablesAt s 0 (tables - 0)) ≡ anyEmpty (bookOf s .tables)
+  unfolding bookOf
+  empty-start tables e = rw (sub-zero, e)
+
+  pub empty-none : (at m : ℕ) → tablesAt s at m ≡ [] → false ≡ anyEmpty (tablesAt s at m)
+  empty-none at m e = rw e
+
+  module _ (tables i at first a n : ℕ) (m : Met tables i at first a n) where
+    empty-cons : anyEmpty (tablesAt s at (tables - i)) ≡ (eqb n 0 || anyEmpty (tablesAt s (at + 3 + a + n * a) (tables - (i + 1))))
+    empty-cons =
+        ap anyEmpty (m .tables-are)
+        ∙ ap (λ (k : ℕ). eqb k 0 || anyEmpty (tablesAt s (at + 3 + a + n * a) (tables - (i + 1)))) (ap length (m .rows-are) ∙ rows-count s a (at + 3 + a) n)
+
+    pub empty-yes : n ≡ 0 → true ≡ anyEmpty (tablesAt s at (tables - i))
+    empty-yes e = sym (rw (eq-eqb n 0 e) at empty-cons)
+
+    pub empty-on : (n ≡ 0 → ⊥) → anyEmpty (tablesAt s (at + 3 + a + n * a) (tables - (i + 1))) ≡ anyEmpty (tablesAt s at (tables - i))
+    empty-on e = sym (rw (ne-eqb n 0 e) at empty-cons)
 
   -- ---- looking
 

@@ -17,12 +17,14 @@ use Rattle.format.proofs.Views.{counts-count, counts-view}
 use Rattle.book.specs.View.{Numbered}
 use Rattle.consistency.specs.Consistency.{places, Sheet, codes, backed}
 use Rattle.consistency.specs.Readings.{differs}
-use Rattle.consistency.specs.Nearest.{Nearest, choose, readings, nearest}
+use Rattle.consistency.specs.Nearest.{Nearest, none, choose, readings, nearest}
 use Rattle.consistency.proofs.Limits.{many-few}
-use Rattle.nearest.specs.Words.{canHold}
+use Rattle.consistency.proofs.Choosing.{after-rows, choose-still}
+use Rattle.nearest.specs.Words.{canHold, anyEmpty}
 use Rattle.nearest.specs.Asks.{held, Ready}
 use Rattle.nearest.specs.declared.Found.{Found}
 use Rattle.nearest.proofs.CodeTurns.{restOf, rest-start, rest-on, held-none}
+use Rattle.nearest.proofs.Holding.{empty-full}
 use Rattle.nearest.proofs.Prefixes.{taken, apart-is, rows-missing, photograph-lost, too-far, ready-next, ready-leaf}
 
 -- a field differs where the count grows
@@ -67,15 +69,27 @@ module _ (s : List ℕ) (list fields tables : ℕ) (v : Numbered s list fields t
         ap (λ (x : Nearest). choose (bookOf s) z (readings (bookOf s) (fields - 0) []) x) (held-none fields F (omega arith))
         ∙ rw (sub-zero, fields-are)
 
+    -- a table without rows: no reading is full
+    pub none-begins : (F : Found) → F .least ≡ fields + 1 → (t : Bool) → t ≡ anyEmpty (bookOf s .tables) → t ≡ true → held fields F ≡ nearest (bookOf s) z
+    unfolding nearest
+    none-begins F e t d u =
+        held-none fields F (omega arith)
+        ∙ sym (choose-still (bookOf s) z (readings (bookOf s) (length (bookOf s .counts)) []) none
+        (λ q m. after-rows (bookOf s) z q none (empty-full (bookOf s .tables) q (sym d ∙ u))))
+
     pub begins-ready : (R : List ℕ) (least : ℕ) → least ≡ fields + 1 → Ready (bookOf s) z R 0 0 least
     begins-ready R least e =
-        record { within = omega arith; rows = λ g l. absurd (omega arith); kept = λ g l. absurd (omega arith); counted = refl; fewer = omega arith }
+        record { within = omega arith; own = λ g l. absurd (omega arith); rows = λ g l m. absurd (omega arith); kept = λ g l. absurd (omega arith); counted = refl; fewer = omega arith }
 
     module _ (R : List ℕ) (f d : ℕ) (long : length R ≡ places) where
       -- every field has its code
-      pub leaf : (F : Found) → Ready (bookOf s) z R f d (F .least) → fields ≤ f
+      pub leaf : (F : Found) → anyEmpty (bookOf s .tables) ≡ false → Ready (bookOf s) z R f d (F .least) → fields ≤ f
           → held fields (record { least = d; reading = R }) ≡ choose (bookOf s) z (readings (bookOf s) (fields - f) (take f R)) (held fields F)
-      leaf F o h = ready-leaf (bookOf s) well z fields fields-are R f d F (omega (arith, few-fields)) o h
+      leaf F e o h = ready-leaf (bookOf s) well z fields fields-are R f d F (omega (arith, few-fields)) e o h
+
+      -- the book's number of codes of the field
+      at-list : f < fields → codes (bookOf s) f ≡ byte s (list + f)
+      at-list h = counts-view s f (omega (arith, v .fields-is)) ∙ ap (λ (l : ℕ). byte s (l + f)) (sym (v .list-is))
 
       module _ (count : ℕ) (h : f < fields) where
         -- the codes of field f, from the first on
@@ -83,10 +97,7 @@ module _ (s : List ℕ) (list fields tables : ℕ) (v : Numbered s list fields t
             → restOf (bookOf s) z (take f R) (fields - (f + 1)) 0 (count - 0) x ≡ choose (bookOf s) z (readings (bookOf s) (fields - f) (take f R)) x
         codes-start x e =
             rest-start (bookOf s) z (take f R) (fields - (f + 1)) (fields - f) count x (omega arith)
-            (e ∙ sym at-list ∙ ap (codes (bookOf s)) (sym (length-take-le f R (omega (arith, few-fields)))))
-          where
-            at-list : codes (bookOf s) f ≡ byte s (list + f)
-            at-list = counts-view s f (omega (arith, v .fields-is)) ∙ ap (λ (l : ℕ). byte s (l + f)) (sym (v .list-is))
+            (e ∙ sym (at-list h) ∙ ap (codes (bookOf s)) (sym (length-take-le f R (omega (arith, few-fields)))))
 
         module _ (c : ℕ) (l : c < count) where
           -- y is the nearest after code c
@@ -129,10 +140,11 @@ module _ (s : List ℕ) (list fields tables : ℕ) (v : Numbered s list fields t
                 (grows (differs (z .answers) (set R f c) f) d (rw one-is at k))))
 
             -- the code is right
-            pub turn-ready : (least least′ : ℕ) → Ready (bookOf s) z R f d least → (t : Bool) → t ≡ canHold (bookOf s .tables) (set R f c) f → t ≡ true
+            pub turn-ready : (least least′ : ℕ) → Ready (bookOf s) z R f d least → count ≡ byte s (list + f)
+                → (1 < count → canHold (bookOf s .tables) (set R f c) f ≡ true)
                 → (backed z f ≡ false) ⊎ (d + m ≤ d) → d + m < least′ → Ready (bookOf s) z (set R f c) (f + 1) (d + m) least′
-            turn-ready least least′ o t e u k n =
-                ready-next (bookOf s) well z fields fields-are R f c h (omega (arith, few-fields)) d m least least′ o one-is (sym e ∙ u)
+            turn-ready least least′ o e u k n =
+                ready-next (bookOf s) well z fields fields-are R f c h (omega (arith, few-fields)) d m least least′ o one-is (omega (arith, e, at-list h)) (λ i. u (omega (arith, e, at-list h)))
                 (⊎-elim (λ w. kept-not (backed z f) (differs (z .answers) (set R f c) f) w)
                 (λ w. kept-same (backed z f) (differs (z .answers) (set R f c) f) (stays (differs (z .answers) (set R f c) f) d (rw one-is at w))) k)
                 n

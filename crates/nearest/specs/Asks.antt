@@ -3,12 +3,12 @@ use Prim.Native.Nat.{ℕ, _+_, _*_, _≤_, _<_}
 use mathlib.Core.Path.{_≡_}
 use mathlib.Core.List.{List}
 use mathlib.Core.Bool.{not, _&&_}
-use lib.ListN.{length, take}
+use lib.ListN.{length, getD, take}
 use lib.Dec.{T, leb}
 use Rattle.format.specs.Basics.{pick}
 use Rattle.format.specs.Format.{Book, arityLimit, lengthLimit, byte, arityAt, firstRow}
 use Rattle.consistency.specs.Counting.{howMany}
-use Rattle.consistency.specs.Consistency.{places, Sheet, backed}
+use Rattle.consistency.specs.Consistency.{places, Sheet, codes, backed}
 use Rattle.consistency.specs.Readings.{differs}
 use Rattle.consistency.specs.Nearest.{Nearest, none, found}
 use Rattle.nearest.specs.Words.{canHold}
@@ -32,11 +32,12 @@ pub record HeadFits (s : List ℕ) (p : ℕ) : Type 0 where
   pub short : length s ≤ lengthLimit
   pub known : (j : ℕ) → j < arityAt s p → byte s (p + 1 + j) < places
 
--- r has right codes for the fields below f: the tables can hold them, the photographed answers are kept, and d of them differ, fewer than in the
+-- r has right codes for the fields below f: the tables with such a field of two codes or more can hold them, the photographed answers are kept, and d of them differ, fewer than in the
 -- nearest so far
 pub record Ready (b : Book) (s : Sheet) (r : List ℕ) (f d least : ℕ) : Type 0 where
   pub within : f ≤ length (b .counts)
-  pub rows : (g : ℕ) → g < f → T (canHold (b .tables) r g)
+  pub own : (g : ℕ) → g < f → getD r g 0 < codes b g
+  pub rows : (g : ℕ) → g < f → 1 < codes b g → T (canHold (b .tables) r g)
   pub kept : (g : ℕ) → g < f → T (not (backed s g && differs (s .answers) r g))
   pub counted : d ≡ howMany f (differs (s .answers) r)
   pub fewer : d < least

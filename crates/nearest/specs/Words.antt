@@ -3,8 +3,9 @@
 use Prim.Native.Nat.{ℕ, _+_, _-_, _*_, _/_, _^_, _<_}
 use mathlib.Core.Path.{_≡_}
 use mathlib.Core.List.{List, [], _∷_, _++_, map}
-use mathlib.Core.Bool.{Bool, true, not, _&&_, _||_}
+use mathlib.Core.Bool.{Bool, true, false, not, _&&_, _||_}
 use lib.ListN.{length, take}
+use lib.Dec.{eqb}
 use Rattle.format.specs.Basics.{pick, All}
 use Rattle.format.specs.Format.{Table, isIn, bookOf}
 use Rattle.words.specs.RowWord.{rowWord, wordBits}
@@ -31,6 +32,11 @@ begins t r f = isIn (frontOf t r f) (map (take (widthOf t f)) (t .rows))
 abbrev pub canHold : List Table → List ℕ → ℕ → Bool
 canHold [] r f = true
 canHold (t ∷ ts) r f = (not (hasField t f) || begins t r f) && canHold ts r f
+
+-- some table has no rows
+abbrev pub anyEmpty : List Table → Bool
+anyEmpty [] = false
+anyEmpty (t ∷ ts) = eqb (length (t .rows)) 0 || anyEmpty ts
 
 -- ---- words
 
@@ -66,7 +72,8 @@ rowWords (t ∷ ts) = map rowWord (t .rows) ++ rowWords ts
 pub record Packed (s w : List ℕ) : Type 0 where
   pub words : take (length (rowWords (bookOf s .tables))) w ≡ rowWords (bookOf s .tables)
 
--- a view of an accepted book, and its packed words
+-- a view of an accepted book in which each table has a row, and its packed words
 pub record Searched (s : List ℕ) (list fields tables : ℕ) (w : List ℕ) : Type 0 where
   pub numbers : Numbered s list fields tables
+  pub filled : anyEmpty (bookOf s .tables) ≡ false
   pub packed : Packed s w

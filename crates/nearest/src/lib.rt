@@ -76,8 +76,11 @@ fn visit(
         }
         let mut next = reading;
         next[f] = code;
-        if !rows::can_hold(book, list, fields, tables, words, &next, f) {
-            continue;
+        // a field of one code needs no test: each row that begins with the codes before it goes on with that one
+        if 1 < count {
+            if !rows::can_hold(book, list, fields, tables, words, &next, f) {
+                continue;
+            }
         }
         found = visit(
             book,
@@ -108,12 +111,15 @@ pub fn search(
     requires { ⌜ Numbered (now book) list fields tables ⌝ }
     ensures { λ r. ⌜ held fields r ≡ nearest (bookOf (now (book .entry))) (sheetWith answers (now (photographed .entry))) ⌝ }
 {
-    let mut words = [0u32; book::ROW_LIMIT];
-    rows::pack(book, list, fields, tables, &mut words);
     let start = Found {
         least: fields + 1,
         reading: [0; PLACES],
     };
+    if rows::any_empty(book, list, fields, tables) {
+        return start;
+    }
+    let mut words = [0u32; book::ROW_LIMIT];
+    rows::pack(book, list, fields, tables, &mut words);
     visit(
         book,
         list,

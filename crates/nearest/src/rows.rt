@@ -9,7 +9,7 @@ ghost use Rattle.book.specs.View.{Numbered};
 ghost use Rattle.words.specs.Sorting.{isAmong};
 ghost use Rattle.words.specs.RowWord.{wordsAt};
 ghost use Rattle.nearest.specs.Asks.{RowsPack, HeadFits};
-ghost use Rattle.nearest.specs.Words.{IsFront, wordFront, canHold, Packed, Searched};
+ghost use Rattle.nearest.specs.Words.{anyEmpty, IsFront, wordFront, canHold, Packed, Searched};
 use book::PLACES;
 
 // The bits of a row's word, a byte for each code that a row may have.
@@ -41,6 +41,25 @@ fn row_count(book: &[u8], at: usize, arity: usize) -> usize
     let low = wide(book[at + 1 + arity]);
     let high = wide(book[at + 2 + arity]);
     low + 256 * high
+}
+
+// Whether some table has no rows, and so holds nothing.
+pub(crate) fn any_empty(book: &[u8], list: usize, fields: usize, tables: usize) -> bool
+    requires { ⌜ Numbered (now book) list fields tables ⌝ }
+    ensures { λ r. ⌜ r ≡ anyEmpty (bookOf (now (book .entry)) .tables) ⌝ }
+{
+    let mut at = 0;
+    let mut i = 0;
+    while i < tables {
+        let arity = wide(book[at]);
+        let count = row_count(book, at, arity);
+        if count == 0 {
+            return true;
+        }
+        at = at + 3 + arity + count * arity;
+        i += 1;
+    }
+    false
 }
 
 // Packs the count rows of arity codes from start on, from word first on.

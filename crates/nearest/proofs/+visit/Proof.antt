@@ -51,7 +51,7 @@ visit-returns : (t : ℕ) → visit-lts.Need-returns (
   visit.Post,
 ) (visit-at t) visit.Post visit-Inv-loop visit-μ-loop
 visit-returns t c = let long : length (c .before .before .before .args .reading) ≡ 60 = c .before .before .before .good .1 .1 .1 .1 .1 .1 .1 .0 .1 .0 .1 in
-    leaf (c .before .before .before .args .book .now) (c .before .before .before .args .list) (c .before .before .before .args .fields) (c .before .before .before .args .tables) (c .before .before .before .pre .1 .0 .numbers) (sheetWith (c .before .before .before .args .t6) (c .before .before .before .args .photographed .now)) (c .before .before .before .args .reading) (c .before .before .before .args .f) (c .before .before .before .args .differing) long (c .before .before .before .args .best) (c .before .before .before .pre .1 .1) (c .if1 .taken)
+    leaf (c .before .before .before .args .book .now) (c .before .before .before .args .list) (c .before .before .before .args .fields) (c .before .before .before .args .tables) (c .before .before .before .pre .1 .0 .numbers) (sheetWith (c .before .before .before .args .t6) (c .before .before .before .args .photographed .now)) (c .before .before .before .args .reading) (c .before .before .before .args .f) (c .before .before .before .args .differing) long (c .before .before .before .args .best) (c .before .before .before .pre .1 .0 .filled) (c .before .before .before .pre .1 .1) (c .if1 .taken)
 
 visit-add-count : (t : ℕ) → visit-lts.Need-add-count (
   apart-reads.Asked,
@@ -206,7 +206,7 @@ visit-can-hold-requires : (t : ℕ) → visit-lts.Need-can-hold-requires (
   visit-below t,
   visit.Post,
 ) (visit-at t) visit.Post visit-Inv-loop visit-μ-loop
-visit-can-hold-requires t c κs = c .before .before .before .before .before .before .before .before .before .before .before .pre .1 .0
+visit-can-hold-requires t c κs = c .before .before .before .before .before .before .before .before .before .before .before .before .pre .1 .0
 
 visit-add-code-3 : (t : ℕ) → visit-lts.Need-add-code-3 (
   apart-reads.Asked,
@@ -216,7 +216,7 @@ visit-add-code-3 : (t : ℕ) → visit-lts.Need-add-code-3 (
   visit-below t,
   visit.Post,
 ) (visit-at t) visit.Post visit-Inv-loop visit-μ-loop
-visit-add-code-3 t c = omega (arith, c .before .before .before .before .before .before .before .before .before .shared-slice-known3 .given (c .before .before .before .before .before .before .before .before .before .before .before .before .before .args .list + c .before .before .before .before .before .before .before .before .before .before .before .before .before .args .f))
+visit-add-code-3 t c = omega (arith, c .before .before .before .before .before .before .before .before .before .before .shared-slice-known3 .given (c .before .before .before .before .before .before .before .before .before .before .before .before .before .before .args .list + c .before .before .before .before .before .before .before .before .before .before .before .before .before .before .args .f))
 
 visit-loop-less-3 : (t : ℕ) → visit-lts.Need-loop-less-3 (
   apart-reads.Asked,
@@ -236,8 +236,8 @@ visit-loop-again-3 : (t : ℕ) → visit-lts.Need-loop-again-3 (
   visit-below t,
   visit.Post,
 ) (visit-at t) visit.Post visit-Inv-loop visit-μ-loop
-visit-loop-again-3 t c = let long : length (c .before .before .before .before .before .before .before .before .before .before .before .before .before .args .reading) ≡ 60 = c .before .before .before .before .before .before .before .before .before .before .before .before .before .good .1 .1 .1 .1 .1 .1 .1 .0 .1 .0 .1 in
-    (omega arith, turn-rows (c .before .before .before .before .before .before .before .before .before .before .before .before .before .args .book .now) (c .before .before .before .before .before .before .before .before .before .before .before .before .before .args .list) (c .before .before .before .before .before .before .before .before .before .before .before .before .before .args .fields) (c .before .before .before .before .before .before .before .before .before .before .before .before .before .args .tables) (c .before .before .before .before .before .before .before .before .before .before .before .before .before .pre .1 .0 .numbers) (sheetWith (c .before .before .before .before .before .before .before .before .before .before .before .before .before .args .t6) (c .before .before .before .before .before .before .before .before .before .before .before .before .before .args .photographed .now)) (c .before .before .before .before .before .before .before .before .before .before .before .before .before .args .reading) (c .before .before .before .before .before .before .before .before .before .before .before .before .before .args .f) (c .before .before .before .before .before .before .before .before .before .before .before .before .before .args .differing) long (byte (c .before .before .before .before .before .before .before .before .before .before .before .before .before .args .book .now) (c .before .before .before .before .before .before .before .before .before .before .before .before .before .args .list + c .before .before .before .before .before .before .before .before .before .before .before .before .before .args .f)) (c .before .before .before .before .before .before .before .before .before .before .if1 .left) (c .before .before .before .before .before .before .before .before .loop .code) (c .before .before .before .before .before .before .before .loop-test .taken) (held (c .before .before .before .before .before .before .before .before .before .before .before .before .before .args .fields) (c .before .before .before .before .before .before .before .before .loop .found)) _ (c .before .can-hold .ensures) (not-true _ (c .if5 .taken)) ∙ c .before .before .before .before .before .before .before .before .loop .inv .1)
+visit-loop-again-3 t c = let long : length (c .before .before .before .before .before .before .before .before .before .before .before .before .before .before .args .reading) ≡ 60 = c .before .before .before .before .before .before .before .before .before .before .before .before .before .before .good .1 .1 .1 .1 .1 .1 .1 .0 .1 .0 .1 in
+    (omega arith, turn-rows (c .before .before .before .before .before .before .before .before .before .before .before .before .before .before .args .book .now) (c .before .before .before .before .before .before .before .before .before .before .before .before .before .before .args .list) (c .before .before .before .before .before .before .before .before .before .before .before .before .before .before .args .fields) (c .before .before .before .before .before .before .before .before .before .before .before .before .before .before .args .tables) (c .before .before .before .before .before .before .before .before .before .before .before .before .before .before .pre .1 .0 .numbers) (sheetWith (c .before .before .before .before .before .before .before .before .before .before .before .before .before .before .args .t6) (c .before .before .before .before .before .before .before .before .before .before .before .before .before .before .args .photographed .now)) (c .before .before .before .before .before .before .before .before .before .before .before .before .before .before .args .reading) (c .before .before .before .before .before .before .before .before .before .before .before .before .before .before .args .f) (c .before .before .before .before .before .before .before .before .before .before .before .before .before .before .args .differing) long (byte (c .before .before .before .before .before .before .before .before .before .before .before .before .before .before .args .book .now) (c .before .before .before .before .before .before .before .before .before .before .before .before .before .before .args .list + c .before .before .before .before .before .before .before .before .before .before .before .before .before .before .args .f)) (c .before .before .before .before .before .before .before .before .before .before .before .if1 .left) (c .before .before .before .before .before .before .before .before .before .loop .code) (c .before .before .before .before .before .before .before .before .loop-test .taken) (held (c .before .before .before .before .before .before .before .before .before .before .before .before .before .before .args .fields) (c .before .before .before .before .before .before .before .before .before .loop .found)) _ (c .before .can-hold .ensures) (not-true _ (c .if6 .taken)) ∙ c .before .before .before .before .before .before .before .before .before .loop .inv .1)
 
 visit-add-visit : (t : ℕ) → visit-lts.Need-add-visit (
   apart-reads.Asked,
@@ -247,7 +247,7 @@ visit-add-visit : (t : ℕ) → visit-lts.Need-add-visit (
   visit-below t,
   visit.Post,
 ) (visit-at t) visit.Post visit-Inv-loop visit-μ-loop
-visit-add-visit t c = omega (arith, few-fields _ _ _ _ (c .before .before .before .before .before .before .before .before .before .before .before .before .before .pre .1 .0 .numbers))
+visit-add-visit t c = omega (arith, few-fields _ _ _ _ (c .before .before .before .before .before .before .before .before .before .before .before .pre .1 .0 .numbers))
 
 visit-visit-requires : (t : ℕ) → visit-lts.Need-visit-requires (
   apart-reads.Asked,
@@ -257,9 +257,9 @@ visit-visit-requires : (t : ℕ) → visit-lts.Need-visit-requires (
   visit-below t,
   visit.Post,
 ) (visit-at t) visit.Post visit-Inv-loop visit-μ-loop
-visit-visit-requires t c κs = let long : length (c .before .before .before .before .before .before .before .before .before .before .before .before .before .args .reading) ≡ 60 = c .before .before .before .before .before .before .before .before .before .before .before .before .before .good .1 .1 .1 .1 .1 .1 .1 .0 .1 .0 .1 in
-    let longa : length (c .before .before .before .before .before .before .before .before .before .before .before .before .before .args .t6) ≡ 60 = c .before .before .before .before .before .before .before .before .before .before .before .before .before .good .1 .1 .1 .1 .1 .0 .1 .0 .1 in
-    (omega (arith, c .before .before .before .before .before .before .before .before .before .before .before .before .before .pre .1 .0 .numbers), (c .before .before .before .before .before .before .before .before .before .before .before .before .before .pre .1 .0, turn-ready (c .before .before .before .before .before .before .before .before .before .before .before .before .before .args .book .now) (c .before .before .before .before .before .before .before .before .before .before .before .before .before .args .list) (c .before .before .before .before .before .before .before .before .before .before .before .before .before .args .fields) (c .before .before .before .before .before .before .before .before .before .before .before .before .before .args .tables) (c .before .before .before .before .before .before .before .before .before .before .before .before .before .pre .1 .0 .numbers) (sheetWith (c .before .before .before .before .before .before .before .before .before .before .before .before .before .args .t6) (c .before .before .before .before .before .before .before .before .before .before .before .before .before .args .photographed .now)) (c .before .before .before .before .before .before .before .before .before .before .before .before .before .args .reading) (c .before .before .before .before .before .before .before .before .before .before .before .before .before .args .f) (c .before .before .before .before .before .before .before .before .before .before .before .before .before .args .differing) long (byte (c .before .before .before .before .before .before .before .before .before .before .before .before .before .args .book .now) (c .before .before .before .before .before .before .before .before .before .before .before .before .before .args .list + c .before .before .before .before .before .before .before .before .before .before .before .before .before .args .f)) (c .before .before .before .before .before .before .before .before .before .before .if1 .left) (c .before .before .before .before .before .before .before .before .loop .code) (c .before .before .before .before .before .before .before .loop-test .taken) longa _ (c .before .before .before .before .before .before .apart .ensures) _ _ (c .before .before .before .before .before .before .before .before .before .before .before .before .before .pre .1 .1) _ (c .before .can-hold .ensures) (not-false _ (c .if5 .left)) (⊎-elim (λ w. inr (w .1 .left)) (λ w. inl (w .left)) (c .before .before .before .if3 .came)) (c .before .before .before .before .before .if2 .left)))
+visit-visit-requires t c κs = let long : length (c .before .before .before .before .before .before .before .before .before .before .before .args .reading) ≡ 60 = c .before .before .before .before .before .before .before .before .before .before .before .good .1 .1 .1 .1 .1 .1 .1 .0 .1 .0 .1 in
+    let longa : length (c .before .before .before .before .before .before .before .before .before .before .before .args .t6) ≡ 60 = c .before .before .before .before .before .before .before .before .before .before .before .good .1 .1 .1 .1 .1 .0 .1 .0 .1 in
+    (omega (arith, c .before .before .before .before .before .before .before .before .before .before .before .pre .1 .0 .numbers), (c .before .before .before .before .before .before .before .before .before .before .before .pre .1 .0, turn-ready (c .before .before .before .before .before .before .before .before .before .before .before .args .book .now) (c .before .before .before .before .before .before .before .before .before .before .before .args .list) (c .before .before .before .before .before .before .before .before .before .before .before .args .fields) (c .before .before .before .before .before .before .before .before .before .before .before .args .tables) (c .before .before .before .before .before .before .before .before .before .before .before .pre .1 .0 .numbers) (sheetWith (c .before .before .before .before .before .before .before .before .before .before .before .args .t6) (c .before .before .before .before .before .before .before .before .before .before .before .args .photographed .now)) (c .before .before .before .before .before .before .before .before .before .before .before .args .reading) (c .before .before .before .before .before .before .before .before .before .before .before .args .f) (c .before .before .before .before .before .before .before .before .before .before .before .args .differing) long (byte (c .before .before .before .before .before .before .before .before .before .before .before .args .book .now) (c .before .before .before .before .before .before .before .before .before .before .before .args .list + c .before .before .before .before .before .before .before .before .before .before .before .args .f)) (c .before .before .before .before .before .before .before .before .if1 .left) (c .before .before .before .before .before .before .loop .code) (c .before .before .before .before .before .loop-test .taken) longa _ (c .before .before .before .before .apart .ensures) _ _ (c .before .before .before .before .before .before .before .before .before .before .before .pre .1 .1) refl (λ l. ⊎-elim (λ w. sym (w .2 .ensures) ∙ not-false _ (w .3 .left)) (λ w. absurd (omega (arith, w .left))) (c .if5 .came)) (⊎-elim (λ w. inr (w .1 .left)) (λ w. inl (w .left)) (c .before .if3 .came)) (c .before .before .before .if2 .left)))
 
 visit-add-code-4 : (t : ℕ) → visit-lts.Need-add-code-4 (
   apart-reads.Asked,
@@ -269,7 +269,7 @@ visit-add-code-4 : (t : ℕ) → visit-lts.Need-add-code-4 (
   visit-below t,
   visit.Post,
 ) (visit-at t) visit.Post visit-Inv-loop visit-μ-loop
-visit-add-code-4 t c = omega (arith, c .before .before .before .before .before .before .before .before .before .before .shared-slice-known3 .given (c .before .before .before .before .before .before .before .before .before .before .before .before .before .before .args .list + c .before .before .before .before .before .before .before .before .before .before .before .before .before .before .args .f))
+visit-add-code-4 t c = omega (arith, c .before .before .before .before .before .before .before .before .shared-slice-known3 .given (c .before .before .before .before .before .before .before .before .before .before .before .before .args .list + c .before .before .before .before .before .before .before .before .before .before .before .before .args .f))
 
 visit-loop-less-4 : (t : ℕ) → visit-lts.Need-loop-less-4 (
   apart-reads.Asked,
@@ -289,8 +289,8 @@ visit-loop-again-4 : (t : ℕ) → visit-lts.Need-loop-again-4 (
   visit-below t,
   visit.Post,
 ) (visit-at t) visit.Post visit-Inv-loop visit-μ-loop
-visit-loop-again-4 t c = let long : length (c .before .before .before .before .before .before .before .before .before .before .before .before .before .before .args .reading) ≡ 60 = c .before .before .before .before .before .before .before .before .before .before .before .before .before .before .good .1 .1 .1 .1 .1 .1 .1 .0 .1 .0 .1 in
-    (omega arith, turn-deeper (c .before .before .before .before .before .before .before .before .before .before .before .before .before .before .args .book .now) (c .before .before .before .before .before .before .before .before .before .before .before .before .before .before .args .list) (c .before .before .before .before .before .before .before .before .before .before .before .before .before .before .args .fields) (c .before .before .before .before .before .before .before .before .before .before .before .before .before .before .args .tables) (c .before .before .before .before .before .before .before .before .before .before .before .before .before .before .pre .1 .0 .numbers) (sheetWith (c .before .before .before .before .before .before .before .before .before .before .before .before .before .before .args .t6) (c .before .before .before .before .before .before .before .before .before .before .before .before .before .before .args .photographed .now)) (c .before .before .before .before .before .before .before .before .before .before .before .before .before .before .args .reading) (c .before .before .before .before .before .before .before .before .before .before .before .before .before .before .args .f) (c .before .before .before .before .before .before .before .before .before .before .before .before .before .before .args .differing) long (byte (c .before .before .before .before .before .before .before .before .before .before .before .before .before .before .args .book .now) (c .before .before .before .before .before .before .before .before .before .before .before .before .before .before .args .list + c .before .before .before .before .before .before .before .before .before .before .before .before .before .before .args .f)) (c .before .before .before .before .before .before .before .before .before .before .before .if1 .left) (c .before .before .before .before .before .before .before .before .before .loop .code) (c .before .before .before .before .before .before .before .before .loop-test .taken) (held (c .before .before .before .before .before .before .before .before .before .before .before .before .before .before .args .fields) (c .visit .result)) (held (c .before .before .before .before .before .before .before .before .before .before .before .before .before .before .args .fields) (c .before .before .before .before .before .before .before .before .before .loop .found)) (c .visit .ensures) ∙ c .before .before .before .before .before .before .before .before .before .loop .inv .1)
+visit-loop-again-4 t c = let long : length (c .before .before .before .before .before .before .before .before .before .before .before .before .args .reading) ≡ 60 = c .before .before .before .before .before .before .before .before .before .before .before .before .good .1 .1 .1 .1 .1 .1 .1 .0 .1 .0 .1 in
+    (omega arith, turn-deeper (c .before .before .before .before .before .before .before .before .before .before .before .before .args .book .now) (c .before .before .before .before .before .before .before .before .before .before .before .before .args .list) (c .before .before .before .before .before .before .before .before .before .before .before .before .args .fields) (c .before .before .before .before .before .before .before .before .before .before .before .before .args .tables) (c .before .before .before .before .before .before .before .before .before .before .before .before .pre .1 .0 .numbers) (sheetWith (c .before .before .before .before .before .before .before .before .before .before .before .before .args .t6) (c .before .before .before .before .before .before .before .before .before .before .before .before .args .photographed .now)) (c .before .before .before .before .before .before .before .before .before .before .before .before .args .reading) (c .before .before .before .before .before .before .before .before .before .before .before .before .args .f) (c .before .before .before .before .before .before .before .before .before .before .before .before .args .differing) long (byte (c .before .before .before .before .before .before .before .before .before .before .before .before .args .book .now) (c .before .before .before .before .before .before .before .before .before .before .before .before .args .list + c .before .before .before .before .before .before .before .before .before .before .before .before .args .f)) (c .before .before .before .before .before .before .before .before .before .if1 .left) (c .before .before .before .before .before .before .before .loop .code) (c .before .before .before .before .before .before .loop-test .taken) (held (c .before .before .before .before .before .before .before .before .before .before .before .before .args .fields) (c .visit .result)) (held (c .before .before .before .before .before .before .before .before .before .before .before .before .args .fields) (c .before .before .before .before .before .before .before .loop .found)) (c .visit .ensures) ∙ c .before .before .before .before .before .before .before .loop .inv .1)
 
 visit-returns-2 : (t : ℕ) → visit-lts.Need-returns-2 (
   apart-reads.Asked,
