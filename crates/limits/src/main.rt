@@ -11,6 +11,7 @@ use report::Printed;
 use report::TEXT_LIMIT;
 use sheet::Answer;
 use sheet::Listing;
+use sheet::ReadingAnswer;
 use sheet::RowAnswer;
 use sheet::Sheet;
 
@@ -250,6 +251,30 @@ fn try_table(table: usize) {
     }
 }
 
+// The nearest reading of a fresh sheet in a book of so many fields of two codes and no tables.
+fn try_readings(fields: u8) {
+    let mut bytes = [0; BYTES];
+    let length = put_book(&mut bytes, 1, fields, 2, 0, 0);
+    let n = within(length, &bytes);
+    let sheet = Sheet::fresh();
+    let mut reading = [0; PLACES];
+    let suggested = sheet.nearest(&bytes[..n], &mut reading);
+    print_tried(b"fields of two codes", fields as u64);
+    let answer = suggested.answer;
+    match answer {
+        ReadingAnswer::Unread(reason, place) => print_refused(sheet::number(reason), place),
+        ReadingAnswer::NoReading => {
+            io::write_all(STDOUT_FILENO, b": no reading\n");
+        }
+        ReadingAnswer::Reading { differing, written } => {
+            io::write_all(STDOUT_FILENO, b": reading");
+            print_number(differing as u64);
+            print_number(written as u64);
+            io::write_all(STDOUT_FILENO, b"\n");
+        }
+    }
+}
+
 // Printing the widest book and sheet, with that many bytes lent.
 fn try_text(lent: usize) {
     let mut bytes = [0; BYTES];
@@ -307,6 +332,8 @@ fn main() {
     try_photograph(PLACES);
     try_table(TABLE_LIMIT - 1);
     try_table(TABLE_LIMIT);
+    try_readings(16);
+    try_readings(17);
     try_text(18315);
     try_text(18314);
 }
