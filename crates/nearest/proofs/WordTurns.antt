@@ -1,7 +1,7 @@
 -- A turn of the loops that look among words, pack the rows of a table, and choose the codes that they are held against. Assumes nothing.
 use mathlib.Core.Path.{_≡_, refl, sym, ap, subst, _∙_}
 use mathlib.Core.Logic.{_≢_}
-use mathlib.Core.Bool.{Bool, true, false, not, _||_}
+use mathlib.Core.Bool.{true, false, not, _||_, or-true, or-false}
 use mathlib.Core.List.{List, [], _∷_, _++_, map}
 use Prim.Native.Nat.{ℕ, zero, suc, _+_, _-_, _*_, _≤_, _<_}
 use native.Mathlib.Nat.{suc-mul}
@@ -27,14 +27,6 @@ use Rattle.nearest.specs.Asks.{HeadFits}
 use Rattle.nearest.proofs.Products.{part-cons}
 use Rattle.nearest.proofs.Fronts.{word-more, word-small}
 
-or-yes : (t : Bool) → (t || true) ≡ true
-or-yes true = refl
-or-yes false = refl
-
-or-no : (t : Bool) → (t || false) ≡ t
-or-no true = refl
-or-no false = refl
-
 -- ---- looking among words: those from k to end are left
 
 module _ (w : List ℕ) (width x : ℕ) where
@@ -52,14 +44,14 @@ module _ (w : List ℕ) (width x : ℕ) where
 
     pub front-yes : k < end → end ≤ length w → x ≡ wordFront width (getD w k 0)
         → (eqb 1 1 || isAmong x (frontsLeft (k + 1) end)) ≡ (eqb found 1 || isAmong x (frontsLeft k end))
-    front-yes h l e = rw (one-left h l, eq-eqb x (wordFront width (getD w k 0)) e) (sym (or-yes (eqb found 1)))
+    front-yes h l e = rw (one-left h l, eq-eqb x (wordFront width (getD w k 0)) e) (sym (or-true (eqb found 1)))
 
     pub front-on : k < end → end ≤ length w → x ≢ wordFront width (getD w k 0)
         → (eqb found 1 || isAmong x (frontsLeft (k + 1) end)) ≡ (eqb found 1 || isAmong x (frontsLeft k end))
     front-on h l e = rw (one-left h l, ne-eqb x (wordFront width (getD w k 0)) e)
 
     pub front-end : end ≤ k → eqb found 1 ≡ (eqb found 1 || isAmong x (frontsLeft k end))
-    front-end h = let d : end - k ≡ 0 = omega arith in rw d (sym (or-no (eqb found 1)))
+    front-end h = let d : end - k ≡ 0 = omega arith in rw d (sym (or-false (eqb found 1)))
 
 -- ---- packing: the rows from at on, left of them, are still to go to the words from k on
 
