@@ -1,18 +1,19 @@
 -- The turns of the search over an accepted book, as the code takes them. Assumes nothing.
 use mathlib.Core.Path.{_≡_, refl, sym, ap, _∙_}
-use mathlib.Core.Logic.{_⊎_, ⊎-elim}
-use mathlib.Core.Bool.{Bool, true, false, not, _&&_}
+use mathlib.Core.Bool.{Bool, true, false, not, _&&_, _||_}
 use mathlib.Core.List.{List, [], _∷_, _++_}
 use Prim.Native.Nat.{ℕ, _+_, _-_, _≤_, _<_}
 use native.Mathlib.Nat.{sub-zero}
 use native.Mathlib.Omega.{arith}
 use lib.ListN.{length, getD, take, set}
 use lib.Seq.{length-take-le}
-use lib.Dec.{T, eqb}
+use lib.Dec.{T, eqb, leb, ltb}
+use borrow.Author.Tests.{ltb-true, ltb-false, lt-leb}
 use Rattle.format.specs.Basics.{pick}
 use Rattle.format.specs.Format.{Book, WellFormed, byte, versionOf, bookOf}
 use Rattle.format.proofs.Decode.{promise-well}
 use Rattle.format.proofs.Limits.{limit-most}
+use Rattle.format.proofs.Picks.{both-true}
 use Rattle.format.proofs.Views.{counts-count, counts-view}
 use Rattle.book.specs.View.{Numbered}
 use Rattle.consistency.specs.Consistency.{places, Sheet, codes, backed}
@@ -20,11 +21,11 @@ use Rattle.consistency.specs.Readings.{differs}
 use Rattle.consistency.specs.Nearest.{Nearest, none, choose, readings, nearest}
 use Rattle.consistency.proofs.Limits.{many-few}
 use Rattle.consistency.proofs.Choosing.{after-rows, choose-still}
-use Rattle.nearest.specs.Words.{canHold, anyEmpty}
+use Rattle.nearest.specs.Words.{canHold, canGoOn, anyEmpty}
 use Rattle.nearest.specs.Asks.{held, Ready}
 use Rattle.nearest.specs.declared.Found.{Found}
 use Rattle.nearest.proofs.CodeTurns.{restOf, rest-start, rest-on, held-none}
-use Rattle.nearest.proofs.Holding.{empty-full}
+use Rattle.nearest.proofs.Holding.{either-false, empty-full}
 use Rattle.nearest.proofs.Prefixes.{taken, apart-is, rows-missing, photograph-lost, too-far, ready-next, ready-leaf}
 
 -- a field differs where the count grows
@@ -32,17 +33,14 @@ grows : (t : Bool) (d : ℕ) → d < d + pick t 1 0 → t ≡ true
 grows true d h = refl
 grows false d h = absurd (omega arith)
 
-stays : (t : Bool) (d : ℕ) → d + pick t 1 0 ≤ d → t ≡ false
-stays true d h = absurd (omega arith)
-stays false d h = refl
-
 -- no photograph, or no other code
-kept-not : (x y : Bool) → x ≡ false → T (not (x && y))
-kept-not x y e = rw e tt
+kept-when : (x y : Bool) (d : ℕ) → (x && ltb d (d + pick y 1 0)) ≡ false → T (not (x && y))
+kept-when true true d e = absurd (omega (arith, ltb-false d (d + 1) e))
+kept-when true false d e = tt
+kept-when false y d e = tt
 
-kept-same : (x y : Bool) → y ≡ false → T (not (x && y))
-kept-same true y e = rw e tt
-kept-same false y e = tt
+or-second : (x y : Bool) → x ≡ false → (x || y) ≡ true → y ≡ true
+or-second x y e d = rw e at d
 
 -- one field more differs, or none
 pub one-more : (b : Book) (z : Sheet) (R : List ℕ) (f d least m : ℕ) (t : Bool) → Ready b z R f d least → m ≡ pick t 1 0 → d + m ≤ f + 1
@@ -108,10 +106,11 @@ module _ (s : List ℕ) (list fields tables : ℕ) (v : Numbered s list fields t
               ∙ rest-on (bookOf s) z (take f R) (fields - (f + 1)) c count x l
 
           -- a table cannot hold the codes
-          pub turn-rows : (x : Nearest) (t : Bool) → t ≡ canHold (bookOf s .tables) (set R f c) f → t ≡ false
+          pub turn-rows : (x : Nearest) (t : Bool) → t ≡ canGoOn (bookOf s) (set R f c) f → t ≡ false
               → restOf (bookOf s) z (take f R) (fields - (f + 1)) (c + 1) (count - (c + 1)) x ≡ restOf (bookOf s) z (take f R) (fields - (f + 1)) c (count - c) x
           turn-rows x t e u =
-              turn x x (sym (rows-missing (bookOf s) well z fields fields-are R f c h (omega (arith, few-fields)) (fields - (f + 1)) x (sym e ∙ u)))
+              turn x x (sym (rows-missing (bookOf s) well z fields fields-are R f c h (omega (arith, few-fields)) (fields - (f + 1)) x
+              (either-false (leb (codes (bookOf s) f) 1) (canHold (bookOf s .tables) (set R f c) f) (sym e ∙ u) .1)))
 
           -- the readings that begin with the code were searched
           pub turn-deeper : (y x : Nearest) → y ≡ choose (bookOf s) z (readings (bookOf s) (fields - (f + 1)) (take (f + 1) (set R f c))) x
@@ -132,19 +131,20 @@ module _ (s : List ℕ) (list fields tables : ℕ) (v : Numbered s list fields t
                 (sym (too-far (bookOf s) well z fields fields-are R f c h (omega (arith, few-fields)) (fields - (f + 1)) F d m (o .counted) one-is k))
 
             -- a photographed answer is another
-            pub turn-photograph : (x : Nearest) → backed z f ≡ true → d < d + m
+            pub turn-photograph : (x : Nearest) (t : Bool) → t ≡ (backed z f && ltb d (d + m)) → t ≡ true
                 → restOf (bookOf s) z (take f R) (fields - (f + 1)) (c + 1) (count - (c + 1)) x ≡ restOf (bookOf s) z (take f R) (fields - (f + 1)) c (count - c) x
-            turn-photograph x e k =
+            turn-photograph x t e k =
+                let b = both-true (backed z f) (ltb d (d + m)) (sym e ∙ k) in
                 turn x x
-                (sym (photograph-lost (bookOf s) well z fields fields-are R f c h (omega (arith, few-fields)) (fields - (f + 1)) x e
-                (grows (differs (z .answers) (set R f c) f) d (rw one-is at k))))
+                (sym (photograph-lost (bookOf s) well z fields fields-are R f c h (omega (arith, few-fields)) (fields - (f + 1)) x (b .0)
+                (grows (differs (z .answers) (set R f c) f) d (rw one-is at (ltb-true d (d + m) (b .1))))))
 
             -- the code is right
             pub turn-ready : (least least′ : ℕ) → Ready (bookOf s) z R f d least → count ≡ byte s (list + f)
-                → (1 < count → canHold (bookOf s .tables) (set R f c) f ≡ true)
-                → (backed z f ≡ false) ⊎ (d + m ≤ d) → d + m < least′ → Ready (bookOf s) z (set R f c) (f + 1) (d + m) least′
-            turn-ready least least′ o e u k n =
-                ready-next (bookOf s) well z fields fields-are R f c h (omega (arith, few-fields)) d m least least′ o one-is (omega (arith, e, at-list h)) (λ i. u (omega (arith, e, at-list h)))
-                (⊎-elim (λ w. kept-not (backed z f) (differs (z .answers) (set R f c) f) w)
-                (λ w. kept-same (backed z f) (differs (z .answers) (set R f c) f) (stays (differs (z .answers) (set R f c) f) d (rw one-is at w))) k)
+                → (t : Bool) → t ≡ (backed z f && ltb d (d + m)) → t ≡ false → (u : Bool) → u ≡ canGoOn (bookOf s) (set R f c) f → u ≡ true
+                → d + m < least′ → Ready (bookOf s) z (set R f c) (f + 1) (d + m) least′
+            turn-ready least least′ o e t et k u eu j n =
+                ready-next (bookOf s) well z fields fields-are R f c h (omega (arith, few-fields)) d m least least′ o one-is (omega (arith, e, at-list h))
+                (λ i. or-second (leb (codes (bookOf s) f) 1) (canHold (bookOf s .tables) (set R f c) f) (lt-leb (codes (bookOf s) f) 1 i) (sym eu ∙ j))
+                (kept-when (backed z f) (differs (z .answers) (set R f c) f) d (rw one-is at (sym et ∙ k)))
                 n

@@ -1,7 +1,7 @@
 -- A turn of the loops that look among words, pack the rows of a table, and choose the codes that they are held against. Assumes nothing.
 use mathlib.Core.Path.{_≡_, refl, sym, ap, subst, _∙_}
 use mathlib.Core.Logic.{_≢_}
-use mathlib.Core.Bool.{true, false, not, _||_, or-true, or-false}
+use mathlib.Core.Bool.{not, _||_, or-true, or-false}
 use mathlib.Core.List.{List, [], _∷_, _++_, map}
 use Prim.Native.Nat.{ℕ, zero, suc, _+_, _-_, _*_, _≤_, _<_}
 use native.Mathlib.Nat.{suc-mul}

@@ -13,6 +13,15 @@ use Rattle.consistency.specs.Readings.{differs}
 use Rattle.consistency.specs.Nearest.{Nearest, none, found}
 use Rattle.nearest.specs.Words.{canHold}
 use Rattle.nearest.specs.declared.Found.{Found}
+use Rattle.nearest.specs.declared.Turn.{Turn}
+
+-- the codes r of the fields below f, of which d differ, and the nearest so far
+abbrev pub turnAt : List ℕ → ℕ → ℕ → Found → Turn
+turnAt r f d x = record { reading = r; f = f; differing = d; best = x }
+
+-- the reading of these codes, once every field has one
+abbrev pub foundAt : Turn → Found
+foundAt t = record { least = t .differing; reading = t .reading }
 
 -- the nearest so far, as the search holds it: none where more fields than the book has would differ
 unfoldable pub held : ℕ → Found → Nearest

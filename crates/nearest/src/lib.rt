@@ -9,7 +9,7 @@ ghost use Rattle.format.specs.Format.{bookOf};
 ghost use Rattle.book.specs.View.{Numbered};
 ghost use Rattle.consistency.specs.Consistency.{sheetWith};
 ghost use Rattle.consistency.specs.Nearest.{choose, readings, nearest, product, readingLimit};
-ghost use Rattle.nearest.specs.Asks.{held, Ready};
+ghost use Rattle.nearest.specs.Asks.{turnAt, foundAt, held, Ready};
 ghost use Rattle.nearest.specs.Words.{Searched};
 use book::PLACES;
 
@@ -37,8 +37,48 @@ fn apart(answer: u8, code: u8) -> usize
     1
 }
 
-// The nearest of best and of the readings that begin with the codes of the fields below f, of which differing differ. A code is passed over where
-// the best is not beaten, where a photographed answer is another, or where a table cannot hold it.
+// Where the search stands: the codes of the fields below f, how many of them differ, and the nearest reading so far.
+pub(crate) struct Turn {
+    pub(crate) reading: [u8; PLACES],
+    pub(crate) f: usize,
+    pub(crate) differing: usize,
+    pub(crate) best: Found,
+}
+
+fn turn_at(reading: [u8; PLACES], f: usize, differing: usize, best: Found) -> Turn
+    ensures { λ r. ⌜ r ≡ turnAt reading f differing best ⌝ }
+{
+    Turn {
+        reading: reading,
+        f: f,
+        differing: differing,
+        best: best,
+    }
+}
+
+// Every field has its code: this reading is nearer than the best.
+fn reached(turn: Turn) -> Found
+    ensures { λ r. ⌜ r ≡ foundAt turn ⌝ }
+{
+    let reading = turn.reading;
+    Found {
+        least: turn.differing,
+        reading: reading,
+    }
+}
+
+// Whether a photographed answer would be another: the field makes one more differ.
+fn loses(photographed: bool, differing: usize, more: usize) -> bool
+    ensures { λ r. ⌜ r ≡ (photographed && ltb differing more) ⌝ }
+{
+    if photographed {
+        return differing < more;
+    }
+    false
+}
+
+// The nearest of the best and of the readings that begin with the codes of the fields below f. A code is passed over where the best is not beaten,
+// where a photographed answer is another, or where a table cannot hold it.
 fn visit(
     book: &[u8],
     list: usize,
@@ -46,55 +86,34 @@ fn visit(
     tables: usize,
     words: &[u32],
     answers: [u8; PLACES],
-    photographed: &[bool; PLACES],
-    reading: [u8; PLACES],
-    f: usize,
-    differing: usize,
-    best: Found,
+    backed: &[bool; PLACES],
+    turn: Turn,
 ) -> Found
-    requires { ⌜ Searched (now book) list fields tables (now words) × Ready (bookOf (now book)) (sheetWith answers (now photographed)) reading f differing (best .least) ⌝ }
-    ensures { λ r. ⌜ held fields r ≡ choose (bookOf (now (book .entry))) (sheetWith answers (now (photographed .entry))) (readings (bookOf (now (book .entry))) (fields - f) (take f reading)) (held fields best) ⌝ }
+    requires { ⌜ Searched (now book) list fields tables (now words) × Ready (bookOf (now book)) (sheetWith answers (now backed)) (turn .reading) (turn .f) (turn .differing) (turn .best .least) ⌝ }
+    ensures { λ r. ⌜ held fields r ≡ choose (bookOf (now (book .entry))) (sheetWith answers (now (backed .entry))) (readings (bookOf (now (book .entry))) (fields - turn .f) (take (turn .f) (turn .reading))) (held fields (turn .best)) ⌝ }
 {
+    let f = turn.f;
     if fields <= f {
-        return Found {
-            least: differing,
-            reading: reading,
-        };
+        return reached(turn);
     }
     let count = book[list + f];
-    let mut found = best;
+    let mut found = turn.best;
     for code in 0..count {
-        let more = differing + apart(answers[f], code);
+        let more = turn.differing + apart(answers[f], code);
         let least = found.least;
         if least <= more {
             continue;
         }
-        if photographed[f] {
-            if differing < more {
-                continue;
-            }
+        if loses(backed[f], turn.differing, more) {
+            continue;
         }
-        let mut next = reading;
-        next[f] = code;
-        // a field of one code needs no test: each row that begins with the codes before it goes on with that one
-        if 1 < count {
-            if !rows::can_hold(book, list, fields, tables, words, &next, f) {
-                continue;
-            }
+        let mut reading = turn.reading;
+        reading[f] = code;
+        if !rows::can_go_on(book, list, fields, tables, words, &reading, f) {
+            continue;
         }
-        found = visit(
-            book,
-            list,
-            fields,
-            tables,
-            words,
-            answers,
-            photographed,
-            next,
-            f + 1,
-            more,
-            found,
-        );
+        let next = turn_at(reading, f + 1, more, found);
+        found = visit(book, list, fields, tables, words, answers, backed, next);
     }
     found
 }
@@ -120,6 +139,7 @@ pub fn search(
     }
     let mut words = [0u32; book::ROW_LIMIT];
     rows::pack(book, list, fields, tables, &mut words);
+    let turn = turn_at([0; PLACES], 0, 0, start);
     visit(
         book,
         list,
@@ -128,10 +148,7 @@ pub fn search(
         &words,
         answers,
         photographed,
-        [0; PLACES],
-        0,
-        0,
-        start,
+        turn,
     )
 }
 

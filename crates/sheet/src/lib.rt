@@ -153,6 +153,19 @@ fn refuse_row(sheet: Sheet, reason: Reason, place: usize) -> HandedRow
     }
 }
 
+// An accepted answer of nearest: a reading is written.
+fn suggested(sheet: Sheet, differing: usize, written: usize) -> HandedReading
+    ensures { λ r. ⌜ ((o : List ℕ) → readingResultOf r o ≡ done (1 ∷ differing ∷ written ∷ []) (heldBy sheet) o) ⌝ }
+{
+    HandedReading {
+        answer: ReadingAnswer::Reading {
+            differing: differing,
+            written: written,
+        },
+        sheet: sheet,
+    }
+}
+
 // A refusal of nearest.
 fn refuse_reading(sheet: Sheet, reason: Reason, place: usize) -> HandedReading
     ensures { λ r. ⌜ ((o : List ℕ) → readingResultOf r o ≡ turned 3 (heldBy sheet) o (numberOf reason) place) ⌝ }
@@ -467,13 +480,7 @@ impl Sheet {
                 }
                 let reading = found.reading;
                 book::copy(&reading[..fields], out);
-                HandedReading {
-                    answer: ReadingAnswer::Reading {
-                        differing: least,
-                        written: fields,
-                    },
-                    sheet: self,
-                }
+                suggested(self, least, fields)
             }
         }
     }

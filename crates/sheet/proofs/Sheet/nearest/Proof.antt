@@ -65,6 +65,9 @@ slice-aggregate-copy c = let o = opens-ready _ _ _ (c .before .before .before .b
 copy-requires : tie.Need-copy-requires
 copy-requires c κs = search needs
 
+suggested-requires : tie.Need-suggested-requires
+suggested-requires c κs = search needs
+
 returns-4 : tie.Need-returns-4
 returns-4 c = c .refuse-reading .ensures _ ∙ nearest-turned _ _ _ _ _ (opens-turned _ _ _ (c .before .before .before .before .«open» .ensures (heldBy (c .before .before .before .before .before .before .before .before .before .before .args .self)) (c .before .before .before .before .before .seen-bytes .ensures)) _ _ (c .before .before .opened .given .1))
 
@@ -72,9 +75,9 @@ same-length : tie.Need-same-length
 same-length c = search needs
 
 returns-5 : tie.Need-returns-5
-returns-5 c = let o = opens-ready _ _ _ (c .before .before .before .before .before .before .before .before .before .before .before .before .before .before .before .«open» .ensures (heldBy (c .before .before .before .before .before .before .before .before .before .before .before .before .before .before .before .before .before .before .before .before .before .args .self)) (c .before .before .before .before .before .before .before .before .before .before .before .before .before .before .before .before .seen-bytes .ensures)) _ _ _ _ (c .before .before .before .before .before .before .before .before .before .before .before .before .before .opened2 .given .1) in
-    let long : length (c .before .before .before .before .before .before .before .search .result .reading) ≡ places = search needs in
-    nearest-done _ _ _ _ _ o _ (c .before .before .before .before .before .before .before .before .before .before .before .too-many .ensures) (c .before .before .before .before .before .before .before .before .before .before .if1 .left) (c .before .before .before .before .before .before .before .before .before .if2 .left) _ (c .before .before .before .before .before .before .before .search .ensures) long (c .before .before .before .before .before .before .if3 .left) _ (c .before .before .copy .ensures)
+returns-5 c = let o = opens-ready _ _ _ (c .before .before .before .before .before .before .before .before .before .before .before .before .before .before .before .before .«open» .ensures (heldBy (c .before .before .before .before .before .before .before .before .before .before .before .before .before .before .before .before .before .before .before .before .before .before .args .self)) (c .before .before .before .before .before .before .before .before .before .before .before .before .before .before .before .before .before .seen-bytes .ensures)) _ _ _ _ (c .before .before .before .before .before .before .before .before .before .before .before .before .before .before .opened2 .given .1) in
+    let long : length (c .before .before .before .before .before .before .before .before .search .result .reading) ≡ places = search needs in
+    c .suggested .ensures _ ∙ nearest-done _ _ _ _ _ o _ (c .before .before .before .before .before .before .before .before .before .before .before .before .too-many .ensures) (c .before .before .before .before .before .before .before .before .before .before .before .if1 .left) (c .before .before .before .before .before .before .before .before .before .before .if2 .left) _ (c .before .before .before .before .before .before .before .before .search .ensures) long (c .before .before .before .before .before .before .before .if3 .left) _ (c .before .before .before .copy .ensures)
 
 pub nearest-spec : {M : Type 1} → statement M
 nearest-spec =
@@ -95,6 +98,7 @@ nearest-spec =
     array-share-prefix-reading
     slice-aggregate-copy
     copy-requires
+    suggested-requires
     returns-4
     same-length
     returns-5)
