@@ -21,6 +21,13 @@ struct Packed<'a> {
     words: &'a [u32],
 }
 
+/// Whether one of the words begins with this front of `width` codes. There is no way out where one is found: so several are compared at a
+/// time.
+fn has_front(words: &[u32], front: u32, width: usize) -> bool {
+    let shift = 32 - 8 * width;
+    words.iter().fold(false, |found, word| found | (word >> shift == front))
+}
+
 impl Packed<'_> {
     /// Whether a row begins with the reading's codes for the table's fields up to f, where it has f.
     fn can_hold(&self, reading: &[u8; PLACES], f: usize) -> bool {
@@ -28,9 +35,7 @@ impl Packed<'_> {
             return true;
         };
         let front = self.fields[..=last].iter().fold(0, |word, &g| word << 8 | reading[g as usize] as u32);
-        let shift = 24 - 8 * last;
-        // no way out where a row is found: so several words are compared at a time
-        self.words.iter().fold(false, |found, word| found | (word >> shift == front))
+        has_front(self.words, front, last + 1)
     }
 }
 
