@@ -52,6 +52,13 @@ struct Search<'a> {
 }
 
 impl Search<'_> {
+    /// Never inlined: within the recursion the loop over the rows is compiled one way or another from build to build, and may take a third
+    /// longer.
+    #[inline(never)]
+    fn can_hold(&self, reading: &[u8; PLACES], f: usize) -> bool {
+        self.tables.iter().all(|table| table.can_hold(reading, f))
+    }
+
     /// Goes on from the codes of the fields below f, of which `differing` differ.
     fn visit(&self, reading: &mut [u8; PLACES], f: usize, differing: usize, best: &mut Found) {
         if f == self.view.fields {
@@ -67,7 +74,7 @@ impl Search<'_> {
             }
             reading[f] = code;
             // where there is no other code, each row that begins with the codes before goes on with this one
-            if codes == 1 || self.tables.iter().all(|table| table.can_hold(reading, f)) {
+            if codes == 1 || self.can_hold(reading, f) {
                 self.visit(reading, f + 1, more, best);
             }
         }
