@@ -1,4 +1,6 @@
-//! The five families of books and two small ones, each with answers for any n.
+//! The five families of books and three small ones, each with answers for any n.
+
+use std::ops::Range;
 
 use sighting::{Sheet, NO_ANSWER, PLACES, SHEET_BYTES};
 
@@ -221,10 +223,10 @@ fn smallest() -> Family {
     Family { name: "E1", what: "3 fields, 2 tables, 8 rows", book, reading: vec![0, 1, 1], order: vec![0, 1, 2] }
 }
 
-/// 8 fields of 2 to 6 codes, and six tables of ten rows.
-fn eight_fields() -> Family {
+/// 8 fields with numbers of codes from a range, and six tables of ten rows.
+fn eight_fields(name: &'static str, codes: Range<usize>) -> Family {
     let mut r = Random(7);
-    let counts: Vec<u8> = (0..8).map(|_| 2 + r.below(5) as u8).collect();
+    let counts: Vec<u8> = (0..8).map(|_| (codes.start + r.below(codes.len())) as u8).collect();
     let reading = r.reading(&counts);
     let mut tables = Vec::new();
     for _ in 0..6 {
@@ -237,9 +239,14 @@ fn eight_fields() -> Family {
         tables.push((fields, rows));
     }
     let order = r.shuffled(counts.len());
-    Family { name: "8 fields", what: "8 fields, 6 tables, 60 rows", book: bytes(1, &counts, &tables), reading, order }
+    Family { name, what: "8 fields, 6 tables, 60 rows", book: bytes(1, &counts, &tables), reading, order }
 }
 
 pub fn small() -> [Family; 2] {
-    [smallest(), eight_fields()]
+    [smallest(), eight_fields("8 fields", 2..7)]
+}
+
+/// Small books whose readings are few enough to be searched.
+pub fn searchable() -> [Family; 2] {
+    [smallest(), eight_fields("8 fields of 3 or 4 codes", 3..5)]
 }

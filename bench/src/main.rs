@@ -7,6 +7,7 @@ mod families;
 mod gecode;
 mod listings;
 mod measure;
+mod nearest;
 mod photographs;
 mod plain;
 mod plot;
@@ -68,6 +69,22 @@ fn full_report(family: &Family) -> Report {
     measure::report(slice::from_ref(&family.book), &family.stored(family.fields()))
 }
 
+/// What reports, listings and the stack take.
+fn last_sections(out: &mut String, b: &Family, e: &Family) -> std::fmt::Result {
+    writeln!(out, "\n### The report, and reading as a part of it\n")?;
+    let reports = [
+        ("1 table of 4,096 random rows, no answers", measure::report(&ONE_TABLE.books(Order::Random), &FRESH)),
+        ("family B, n = 32", full_report(b)),
+        ("family E, n = 60", full_report(e)),
+    ];
+    tables::reports(out, &reports)?;
+    writeln!(out, "\n### Writing a listing, and showing the book written\n")?;
+    let listings = listings::all().map(|listed| (listed.what, measure::listing(&listed)));
+    tables::listings(out, &listings)?;
+    writeln!(out, "\n### Stack, all fields of the full books answered\n")?;
+    tables::stacks(out, &measure::stacks(b), &measure::stacks(e))
+}
+
 /// The sections as text, and the drawing.
 fn measured() -> Result<(String, String), std::fmt::Error> {
     let books = families::all();
@@ -86,26 +103,18 @@ fn measured() -> Result<(String, String), std::fmt::Error> {
         writeln!(out, "libgecode-dev was not installed: the column for Gecode is left out.\n")?;
     }
     let versions: Vec<_> = e.answers().map(|n| measure::versions(b, e, n)).collect();
-    tables::targets(&mut out, &passes, &versions, &shaped)?;
+    let searches = nearest::searches();
+    tables::targets(&mut out, &passes, &versions, &shaped, &searches)?;
     families_sections(&mut out, &books, &passes)?;
     writeln!(out, "\n### The full book of version 2 beside that of version 1, in turns\n")?;
     tables::versions(&mut out, &versions)?;
     row_sections(&mut out, b, e)?;
+    writeln!(out, "\n### The nearest full reading\n")?;
+    tables::searches(&mut out, &searches)?;
     photograph_sections(&mut out, &books)?;
     writeln!(out, "\n### Reading, by the shape of the tables and the order of the rows\n")?;
     tables::shapes(&mut out, &shaped)?;
-    writeln!(out, "\n### The report, and reading as a part of it\n")?;
-    let reports = [
-        ("1 table of 4,096 random rows, no answers", measure::report(&ONE_TABLE.books(Order::Random), &FRESH)),
-        ("family B, n = 32", full_report(b)),
-        ("family E, n = 60", full_report(e)),
-    ];
-    tables::reports(&mut out, &reports)?;
-    writeln!(out, "\n### Writing a listing, and showing the book written\n")?;
-    let listings = listings::all().map(|listed| (listed.what, measure::listing(&listed)));
-    tables::listings(&mut out, &listings)?;
-    writeln!(out, "\n### Stack, all fields of the full books answered\n")?;
-    tables::stacks(&mut out, &measure::stacks(b), &measure::stacks(e))?;
+    last_sections(&mut out, b, e)?;
     Ok((out, plot::svg(&passes)?))
 }
 

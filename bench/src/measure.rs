@@ -5,6 +5,7 @@ use sighting::{Counts, Sheet, BOOK_BYTES, LISTING_NUMBERS, NUMBERS, PAIRS_BYTES,
 use crate::families::Family;
 use crate::gecode::Root;
 use crate::listings::{refused, Listed};
+use crate::nearest::deepest;
 use crate::plain::{engine, listing, reader};
 use crate::questions::{standing, Question};
 use crate::shapes::{Order, Shape, FRESH, ONE_TABLE};
@@ -302,7 +303,7 @@ pub fn listing(listed: &Listed) -> Listing {
 }
 
 /// The stack bytes of each call on this book with all fields answered, of the calls that count different rows on one table of them
-/// all, and of writing the book's listing and one that is refused.
+/// all, of the nearest reading on the book that takes its search deepest, and of writing the book's listing and one that is refused.
 pub fn stacks(family: &Family) -> Vec<(&'static str, usize)> {
     let (book, all) = (&family.book[..], family.fields());
     let (sheet, form) = (Sheet::from(family.sheet(all)), family.stored(all));
@@ -312,6 +313,7 @@ pub fn stacks(family: &Family) -> Vec<(&'static str, usize)> {
     let (listing, refused) = (shown[..length].to_vec(), refused().listing);
     let one_table = &ONE_TABLE.books(Order::Random)[0][..];
     let (list, q) = ([0, 0, 0].repeat(all), standing(family, all));
+    let (deep, mut reading) = (deepest(), [0; STORED_BYTES]);
     let (mut entered, mut withdrawn, mut photographed, mut stored) = (sheet, sheet, sheet, [0; STORED_BYTES]);
     vec![
         ("read", stack::bytes(&mut || assert!(sighting::read(book).is_ok()))),
@@ -323,6 +325,7 @@ pub fn stacks(family: &Family) -> Vec<(&'static str, usize)> {
         ("store", stack::bytes(&mut || assert!(sheet.store(book, &mut stored).is_ok()))),
         ("filtered", stack::bytes(&mut || assert!(sheet.filtered(book, None, &mut numbers).is_ok()))),
         ("row", stack::bytes(&mut || assert!(sheet.row(book, q.field, q.code, q.table).is_ok()))),
+        ("nearest, 60 fields", stack::bytes(&mut || assert!(matches!(Sheet::fresh().nearest(&deep, &mut reading), Ok(Some(_)))))),
         ("alternatives", stack::bytes(&mut || assert!(sheet.alternatives(book, &mut pairs).is_ok()))),
         ("replay", stack::bytes(&mut || assert!(Sheet::replay(book, &list, &mut pairs).1.is_ok()))),
         ("report", stack::bytes(&mut || assert!(sighting::report(book, &form, &mut text).is_ok()))),

@@ -3,6 +3,7 @@
 use std::fmt::{Result, Write};
 
 use crate::measure::{Filtering, Listing, Pass, Reading, RefusedRows, Report, Row, Shaped, Versions};
+use crate::nearest::{Search, Searched};
 use crate::photographs::{Changes, Photographed};
 use crate::questions::Question;
 
@@ -76,11 +77,24 @@ fn reading_targets(out: &mut String, shaped: &[Shaped]) -> Result {
     writeln!(out, "| reading ten rows against comparing row by row | at most 1 | {:.2} |", most(small))
 }
 
-pub fn targets(out: &mut String, families: &[(String, Vec<Pass>)], versions: &[Versions], shaped: &[Shaped]) -> Result {
+/// The target of the nearest full reading, with what was reached on the worst book.
+fn nearest_target(out: &mut String, searches: &[(Searched, Search)]) -> Result {
+    let worst = most(searches.iter().map(|(_, s)| s.library / s.plain));
+    writeln!(out, "| nearest full reading against plain Rust, any book | at most 1.5 | {worst:.2} |")
+}
+
+pub fn targets(
+    out: &mut String,
+    families: &[(String, Vec<Pass>)],
+    versions: &[Versions],
+    shaped: &[Shaped],
+    searches: &[(Searched, Search)],
+) -> Result {
     writeln!(out, "| target | asked | worst |\n|---|---|---|")?;
     pass_targets(out, families)?;
     version_target(out, versions)?;
-    reading_targets(out, shaped)
+    reading_targets(out, shaped)?;
+    nearest_target(out, searches)
 }
 
 /// One pass on the full book of each version.
@@ -126,6 +140,21 @@ fn microseconds(time: f64) -> String {
     } else {
         format!("{time:.1}")
     }
+}
+
+/// The nearest full reading, one row for each book and sheet.
+pub fn searches(out: &mut String, searches: &[(Searched, Search)]) -> Result {
+    writeln!(out, "| book | what | library | × plain Rust | plain filterings that take as long |\n|---|---|---|---|---|")?;
+    for (searched, s) in searches {
+        let time = if s.library < 1_000.0 {
+            format!("{} µs", microseconds(s.library))
+        } else {
+            format!("{:.1} ms", s.library / 1_000.0)
+        };
+        let (plain, filterings) = (s.library / s.plain, s.library / s.filtering);
+        writeln!(out, "| {} | {} | {time} | {plain:.2} | {filterings:.1} |", searched.name, searched.what)?;
+    }
+    Ok(())
 }
 
 /// The row behind a code, one row for each question.

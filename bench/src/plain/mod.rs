@@ -1,8 +1,9 @@
-//! The desk's reader, sheet, engine and listings once more as plain Rust: the same form, the same checks, no heap, and nothing proved. Rows
-//! are sorted by the standard library.
+//! The desk's reader, sheet, engine, search and listings once more as plain Rust: the same form, the same checks, no heap, and nothing
+//! proved. Rows are sorted by the standard library.
 
 pub mod engine;
 pub mod listing;
+pub mod nearest;
 pub mod reader;
 pub mod sheet;
 

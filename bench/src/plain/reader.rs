@@ -159,15 +159,20 @@ fn gather<const ARITY: usize>(rows: &[u8], words: &mut [u32]) {
     }
 }
 
-/// The different rows of one table, by sorting their words. A loop for each number of codes gathers faster than one for all.
-fn different_sorted(rows: &[u8], arity: usize, words: &mut [u32]) -> usize {
-    let words = &mut words[..rows.len() / arity];
+/// Puts the rows of one table into words. A loop for each number of codes gathers faster than one for all.
+pub fn pack(rows: &[u8], arity: usize, words: &mut [u32]) {
     match arity {
         1 => gather::<1>(rows, words),
         2 => gather::<2>(rows, words),
         3 => gather::<3>(rows, words),
         _ => gather::<4>(rows, words),
     }
+}
+
+/// The different rows of one table, by sorting their words.
+fn different_sorted(rows: &[u8], arity: usize, words: &mut [u32]) -> usize {
+    let words = &mut words[..rows.len() / arity];
+    pack(rows, arity, words);
     words.sort_unstable();
     !words.is_empty() as usize + words.windows(2).filter(|pair| pair[0] != pair[1]).count()
 }
