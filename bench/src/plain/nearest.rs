@@ -59,22 +59,40 @@ impl Search<'_> {
         self.tables.iter().all(|table| table.can_hold(reading, f))
     }
 
+    /// How many fields differ with this code of field f, unless the best is not beaten then or a photographed answer is another.
+    fn more(&self, f: usize, code: u8, differing: usize, least: usize) -> Option<usize> {
+        let answer = self.sheet.answers[f];
+        let differs = answer != NO_ANSWER && answer != code;
+        let more = differing + differs as usize;
+        (more < least && !(differs && self.sheet.photographed[f])).then_some(more)
+    }
+
+    /// The next field and the number of differing ones behind the fields of one code that come next, which need no test: each row that
+    /// begins with the codes before them goes on with theirs.
+    fn passed(&self, reading: &mut [u8; PLACES], mut f: usize, mut differing: usize, least: usize) -> (usize, usize) {
+        while f < self.view.fields && self.view.codes(f) == 1 {
+            let Some(more) = self.more(f, 0, differing, least) else {
+                break;
+            };
+            reading[f] = 0;
+            (f, differing) = (f + 1, more);
+        }
+        (f, differing)
+    }
+
     /// Goes on from the codes of the fields below f, of which `differing` differ.
     fn visit(&self, reading: &mut [u8; PLACES], f: usize, differing: usize, best: &mut Found) {
+        let (f, differing) = self.passed(reading, f, differing, best.least);
         if f == self.view.fields {
             *best = Found { least: differing, reading: *reading };
             return;
         }
-        let (answer, codes) = (self.sheet.answers[f], self.view.codes(f));
-        for code in 0..codes as u8 {
-            let differs = answer != NO_ANSWER && answer != code;
-            let more = differing + differs as usize;
-            if best.least <= more || (differs && self.sheet.photographed[f]) {
+        for code in 0..self.view.codes(f) as u8 {
+            let Some(more) = self.more(f, code, differing, best.least) else {
                 continue;
-            }
+            };
             reading[f] = code;
-            // where there is no other code, each row that begins with the codes before goes on with this one
-            if codes == 1 || self.can_hold(reading, f) {
+            if self.can_hold(reading, f) {
                 self.visit(reading, f + 1, more, best);
             }
         }

@@ -63,7 +63,7 @@ when-is : (x u : Bool) → x ≡ true → T (not x || u) → T u
 when-is true u e t = t
 when-is false u e t = absurd (subst T (sym e) tt)
 
-pub either-false : (x y : Bool) → (x || y) ≡ false → (x ≡ false) × (y ≡ false)
+either-false : (x y : Bool) → (x || y) ≡ false → (x ≡ false) × (y ≡ false)
 either-false true y e = absurd (subst T e tt)
 either-false false y e = (refl, e)
 

@@ -7,7 +7,7 @@ use Prim.Native.Nat.{ℕ, zero, suc, _+_, _-_, _≤_, _<_}
 use native.Mathlib.Nat.{le-refl}
 use native.Mathlib.Numerals.{add-one}
 use native.Mathlib.Omega.{arith}
-use lib.ListN.{length, getD, take, set, length-append, List·getD-append}
+use lib.ListN.{length, getD, take, set, length-set, length-append, List·getD-append}
 use lib.Seq.{getD-set-same, getD-set-other, take-suc-set, getD-take, length-take-le}
 use lib.Dec.{T, eqb}
 use Rattle.format.specs.Basics.{pick}
@@ -138,6 +138,7 @@ module _ (b : Book) (w : WellFormed b) (s : Sheet) (n : ℕ) (en : length (b .co
     ready-next d m least least′ o one own e k h =
         record {
           within = omega arith;
+          long = length-set R f c ∙ o .long;
           own = λ g l.
               ⊎-elim (λ (i : g ≡ f). subst (λ (j : ℕ). getD (set R f c) j 0 < codes b j) (sym i) (omega (arith, set-here)))
               (λ (i : g < f). omega (arith, set-agree g i, o .own g i)) (below-suc (rw add-one at l));

@@ -8,7 +8,7 @@ use native.Mathlib.Omega.{arith}
 use lib.ListN.{length, take, drop, length-append, length-drop, length-map, take-append-drop}
 use lib.Seq.{sets, length-take-le, drop-drop, drop-at, take-at, drop-append-le}
 use lib.Dec.{eqb}
-use borrow.Author.Tests.{ltb-true, eq-eqb, ne-eqb, le-leb, lt-leb}
+use borrow.Author.Tests.{ltb-true, eq-eqb, ne-eqb}
 use Rattle.format.specs.Basics.{All}
 use Rattle.format.specs.Format.{Table, TableOk, WellFormed, codeLimit, rowLimit, rowTotal, byte, le16, part, versionOf, tableCount, listPlace, arityAt, tableEnd, rowsAt, tableAt, tablesAt, bookOf}
 use Rattle.format.specs.Promise.{TablePromise, place}
@@ -16,16 +16,15 @@ use Rattle.format.proofs.Decode.{promise-well}
 use Rattle.format.proofs.Elements.{all-at}
 use Rattle.format.proofs.Limits.{limit-most}
 use Rattle.format.proofs.Storing.{sets-then, sets-front}
-use Rattle.format.proofs.Views.{noTable, rows-count, tables-count, table-view, table-arity, counts-view}
+use Rattle.format.proofs.Views.{noTable, rows-count, tables-count, table-view, table-arity}
 use Rattle.words.specs.Sorting.{isAmong}
 use Rattle.words.specs.RowWord.{rowWord, wordsAt}
 use Rattle.words.proofs.RowWords.{RowOf}
 use Rattle.book.specs.View.{Numbered}
 use Rattle.book.proofs.Rows as rows
-use Rattle.consistency.specs.Consistency.{codes}
 use Rattle.consistency.specs.Rows.{columnOf, hasField}
 use Rattle.nearest.specs.declared.rows.Front.{Front}
-use Rattle.nearest.specs.Words.{widthOf, frontOf, begins, canHold, canGoOn, anyEmpty, frontWord, wordFront, IsFront, rowWords, Packed}
+use Rattle.nearest.specs.Words.{widthOf, frontOf, begins, canHold, anyEmpty, frontWord, wordFront, IsFront, rowWords, Packed}
 use Rattle.nearest.specs.Asks.{RowsPack, HeadFits}
 use Rattle.nearest.proofs.Fronts.{fronts-among}
 use Rattle.nearest.proofs.Holding.{rows-of}
@@ -306,16 +305,3 @@ module _ (s : List ℕ) where
 
             pub hold-no : b ≡ false → false ≡ canHold (tablesAt s at (tables - i)) R f
             hold-no y = sym (rw (is-field, sym (found-is b e) ∙ y) at hold-cons)
-
--- ---- a field of one code needs no test
-
-module _ (s : List ℕ) (list fields tables : ℕ) (v : Numbered s list fields tables) (R : List ℕ) (f : ℕ) (h : f < fields) (count : ℕ) (e : count ≡ byte s (list + f)) where
-  -- the book's number of codes of the field
-  codes-are : codes (bookOf s) f ≡ count
-  codes-are = counts-view s f (omega (arith, v .fields-is)) ∙ ap (λ (l : ℕ). byte s (l + f)) (sym (v .list-is)) ∙ sym e
-
-  pub go-on-one : count ≤ 1 → true ≡ canGoOn (bookOf s) R f
-  go-on-one l = simp (codes-are, le-leb count 1 l)
-
-  pub go-on-more : 1 < count → canHold (bookOf s .tables) R f ≡ canGoOn (bookOf s) R f
-  go-on-more l = simp (codes-are, lt-leb count 1 l)

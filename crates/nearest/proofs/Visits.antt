@@ -1,14 +1,14 @@
 -- The turns of the search over an accepted book, as the code takes them. Assumes nothing.
-use mathlib.Core.Path.{_≡_, refl, sym, ap, _∙_}
-use mathlib.Core.Bool.{Bool, true, false, not, _&&_, _||_}
+use mathlib.Core.Path.{_≡_, refl, sym, ap, subst, _∙_}
+use mathlib.Core.Bool.{Bool, true, false, not, _&&_}
 use mathlib.Core.List.{List, [], _∷_, _++_}
 use Prim.Native.Nat.{ℕ, _+_, _-_, _≤_, _<_}
 use native.Mathlib.Nat.{sub-zero}
 use native.Mathlib.Omega.{arith}
 use lib.ListN.{length, getD, take, set}
 use lib.Seq.{length-take-le}
-use lib.Dec.{T, eqb, leb, ltb}
-use borrow.Author.Tests.{ltb-true, ltb-false, lt-leb}
+use lib.Dec.{T, eqb, ltb}
+use borrow.Author.Tests.{ltb-true, ltb-false}
 use Rattle.format.specs.Basics.{pick}
 use Rattle.format.specs.Format.{Book, WellFormed, byte, versionOf, bookOf}
 use Rattle.format.proofs.Decode.{promise-well}
@@ -21,11 +21,11 @@ use Rattle.consistency.specs.Readings.{differs}
 use Rattle.consistency.specs.Nearest.{Nearest, none, choose, readings, nearest}
 use Rattle.consistency.proofs.Limits.{many-few}
 use Rattle.consistency.proofs.Choosing.{after-rows, choose-still}
-use Rattle.nearest.specs.Words.{canHold, canGoOn, anyEmpty}
+use Rattle.nearest.specs.Words.{canHold, anyEmpty}
 use Rattle.nearest.specs.Asks.{held, Ready}
 use Rattle.nearest.specs.declared.Found.{Found}
-use Rattle.nearest.proofs.CodeTurns.{restOf, rest-start, rest-on, held-none}
-use Rattle.nearest.proofs.Holding.{either-false, empty-full}
+use Rattle.nearest.proofs.CodeTurns.{restOf, rest-start, rest-on, rest-end, held-none}
+use Rattle.nearest.proofs.Holding.{empty-full}
 use Rattle.nearest.proofs.Prefixes.{taken, apart-is, rows-missing, photograph-lost, too-far, ready-next, ready-leaf}
 
 -- a field differs where the count grows
@@ -38,9 +38,6 @@ kept-when : (x y : Bool) (d : ℕ) → (x && ltb d (d + pick y 1 0)) ≡ false �
 kept-when true true d e = absurd (omega (arith, ltb-false d (d + 1) e))
 kept-when true false d e = tt
 kept-when false y d e = tt
-
-or-second : (x y : Bool) → x ≡ false → (x || y) ≡ true → y ≡ true
-or-second x y e d = rw e at d
 
 -- one field more differs, or none
 pub one-more : (b : Book) (z : Sheet) (R : List ℕ) (f d least m : ℕ) (t : Bool) → Ready b z R f d least → m ≡ pick t 1 0 → d + m ≤ f + 1
@@ -75,9 +72,9 @@ module _ (s : List ℕ) (list fields tables : ℕ) (v : Numbered s list fields t
         ∙ sym (choose-still (bookOf s) z (readings (bookOf s) (length (bookOf s .counts)) []) none
         (λ q m. after-rows (bookOf s) z q none (empty-full (bookOf s .tables) q (sym d ∙ u))))
 
-    pub begins-ready : (R : List ℕ) (least : ℕ) → least ≡ fields + 1 → Ready (bookOf s) z R 0 0 least
-    begins-ready R least e =
-        record { within = omega arith; own = λ g l. absurd (omega arith); rows = λ g l m. absurd (omega arith); kept = λ g l. absurd (omega arith); counted = refl; fewer = omega arith }
+    pub begins-ready : (R : List ℕ) (least : ℕ) → length R ≡ places → least ≡ fields + 1 → Ready (bookOf s) z R 0 0 least
+    begins-ready R least k e =
+        record { within = omega arith; long = k; own = λ g l. absurd (omega arith); rows = λ g l m. absurd (omega arith); kept = λ g l. absurd (omega arith); counted = refl; fewer = omega arith }
 
     module _ (R : List ℕ) (f d : ℕ) (long : length R ≡ places) where
       -- every field has its code
@@ -106,16 +103,24 @@ module _ (s : List ℕ) (list fields tables : ℕ) (v : Numbered s list fields t
               ∙ rest-on (bookOf s) z (take f R) (fields - (f + 1)) c count x l
 
           -- a table cannot hold the codes
-          pub turn-rows : (x : Nearest) (t : Bool) → t ≡ canGoOn (bookOf s) (set R f c) f → t ≡ false
+          pub turn-rows : (x : Nearest) (t : Bool) → t ≡ canHold (bookOf s .tables) (set R f c) f → t ≡ false
               → restOf (bookOf s) z (take f R) (fields - (f + 1)) (c + 1) (count - (c + 1)) x ≡ restOf (bookOf s) z (take f R) (fields - (f + 1)) c (count - c) x
           turn-rows x t e u =
-              turn x x (sym (rows-missing (bookOf s) well z fields fields-are R f c h (omega (arith, few-fields)) (fields - (f + 1)) x
-              (either-false (leb (codes (bookOf s) f) 1) (canHold (bookOf s .tables) (set R f c) f) (sym e ∙ u) .1)))
+              turn x x (sym (rows-missing (bookOf s) well z fields fields-are R f c h (omega (arith, few-fields)) (fields - (f + 1)) x (sym e ∙ u)))
 
           -- the readings that begin with the code were searched
           pub turn-deeper : (y x : Nearest) → y ≡ choose (bookOf s) z (readings (bookOf s) (fields - (f + 1)) (take (f + 1) (set R f c))) x
               → restOf (bookOf s) z (take f R) (fields - (f + 1)) (c + 1) (count - (c + 1)) y ≡ restOf (bookOf s) z (take f R) (fields - (f + 1)) c (count - c) x
           turn-deeper y x e = turn y x (rw (taken (bookOf s) well z fields fields-are R f c h (omega (arith, few-fields))) at e)
+
+          -- of one code alone: they are all
+          pub turn-only : (x : Nearest) → count ≡ 1 → c ≡ 0 → count ≡ byte s (list + f)
+              → choose (bookOf s) z (readings (bookOf s) (fields - (f + 1)) (take (f + 1) (set R f c))) x ≡ choose (bookOf s) z (readings (bookOf s) (fields - f) (take f R)) x
+          turn-only x e k d =
+              let y = choose (bookOf s) z (readings (bookOf s) (fields - (f + 1)) (take (f + 1) (set R f c))) x in
+              sym (rest-end (bookOf s) z (take f R) (fields - (f + 1)) (c + 1) count y (omega arith))
+              ∙ turn-deeper y x refl
+              ∙ subst (λ (i : ℕ). restOf (bookOf s) z (take f R) (fields - (f + 1)) i (count - i) x ≡ choose (bookOf s) z (readings (bookOf s) (fields - f) (take f R)) x) (sym k) (codes-start x d)
 
           -- m: what the field adds to the differing ones
           module _ (longa : length (z .answers) ≡ places) (m : ℕ) (one : m ≡ pick (not (eqb (getD (z .answers) f 0) 255) && not (eqb c (getD (z .answers) f 0))) 1 0) where
@@ -141,10 +146,10 @@ module _ (s : List ℕ) (list fields tables : ℕ) (v : Numbered s list fields t
 
             -- the code is right
             pub turn-ready : (least least′ : ℕ) → Ready (bookOf s) z R f d least → count ≡ byte s (list + f)
-                → (t : Bool) → t ≡ (backed z f && ltb d (d + m)) → t ≡ false → (u : Bool) → u ≡ canGoOn (bookOf s) (set R f c) f → u ≡ true
+                → (t : Bool) → t ≡ (backed z f && ltb d (d + m)) → t ≡ false → (1 < count → canHold (bookOf s .tables) (set R f c) f ≡ true)
                 → d + m < least′ → Ready (bookOf s) z (set R f c) (f + 1) (d + m) least′
-            turn-ready least least′ o e t et k u eu j n =
+            turn-ready least least′ o e t et k u n =
                 ready-next (bookOf s) well z fields fields-are R f c h (omega (arith, few-fields)) d m least least′ o one-is (omega (arith, e, at-list h))
-                (λ i. or-second (leb (codes (bookOf s) f) 1) (canHold (bookOf s .tables) (set R f c) f) (lt-leb (codes (bookOf s) f) 1 i) (sym eu ∙ j))
+                (λ i. u (omega (arith, e, at-list h)))
                 (kept-when (backed z f) (differs (z .answers) (set R f c) f) d (rw one-is at (sym et ∙ k)))
                 n

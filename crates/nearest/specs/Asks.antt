@@ -1,5 +1,5 @@
 -- What the search's inner functions ask of their callers, and what they answer. Assumes nothing.
-use Prim.Native.Nat.{ℕ, _+_, _*_, _≤_, _<_}
+use Prim.Native.Nat.{ℕ, _+_, _-_, _*_, _≤_, _<_}
 use mathlib.Core.Path.{_≡_}
 use mathlib.Core.List.{List}
 use mathlib.Core.Bool.{not, _&&_}
@@ -10,7 +10,7 @@ use Rattle.format.specs.Format.{Book, arityLimit, lengthLimit, byte, arityAt, f
 use Rattle.consistency.specs.Counting.{howMany}
 use Rattle.consistency.specs.Consistency.{places, Sheet, codes, backed}
 use Rattle.consistency.specs.Readings.{differs}
-use Rattle.consistency.specs.Nearest.{Nearest, none, found}
+use Rattle.consistency.specs.Nearest.{Nearest, none, found, choose, readings}
 use Rattle.nearest.specs.Words.{canHold}
 use Rattle.nearest.specs.declared.Found.{Found}
 use Rattle.nearest.specs.declared.Turn.{Turn}
@@ -45,8 +45,23 @@ pub record HeadFits (s : List ℕ) (p : ℕ) : Type 0 where
 -- nearest so far
 pub record Ready (b : Book) (s : Sheet) (r : List ℕ) (f d least : ℕ) : Type 0 where
   pub within : f ≤ length (b .counts)
+  pub long : length r ≡ places
   pub own : (g : ℕ) → g < f → getD r g 0 < codes b g
   pub rows : (g : ℕ) → g < f → 1 < codes b g → T (canHold (b .tables) r g)
   pub kept : (g : ℕ) → g < f → T (not (backed s g && differs (s .answers) r g))
   pub counted : d ≡ howMany f (differs (s .answers) r)
   pub fewer : d < least
+
+-- turn t has right codes so far
+abbrev pub Right : Book → Sheet → Turn → Type 0
+Right b s t = Ready b s (t .reading) (t .f) (t .differing) (t .best .least)
+
+-- what is left to be decided at turn t, of a book with n fields
+abbrev pub decides : Book → Sheet → ℕ → Turn → Nearest
+decides b s n t = choose b s (readings b (n - t .f) (take (t .f) (t .reading))) (held n (t .best))
+
+-- turn u comes from t by the only codes of the fields between them
+pub record Passed (b : Book) (s : Sheet) (n : ℕ) (t u : Turn) : Type 0 where
+  pub later : t .f ≤ u .f
+  pub right : Right b s u
+  pub same : decides b s n u ≡ decides b s n t

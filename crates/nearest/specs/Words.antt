@@ -5,12 +5,11 @@ use mathlib.Core.Path.{_≡_}
 use mathlib.Core.List.{List, [], _∷_, _++_, map}
 use mathlib.Core.Bool.{Bool, true, false, not, _&&_, _||_}
 use lib.ListN.{length, take}
-use lib.Dec.{eqb, leb}
+use lib.Dec.{eqb}
 use Rattle.format.specs.Basics.{pick, All}
-use Rattle.format.specs.Format.{Table, Book, isIn, bookOf}
+use Rattle.format.specs.Format.{Table, isIn, bookOf}
 use Rattle.words.specs.RowWord.{rowWord, wordBits}
 use Rattle.book.specs.View.{Numbered}
-use Rattle.consistency.specs.Consistency.{codes}
 use Rattle.consistency.specs.Readings.{rowFor}
 use Rattle.consistency.specs.Rows.{columnOf, hasField}
 use Rattle.nearest.specs.declared.rows.Front.{Front}
@@ -33,10 +32,6 @@ begins t r f = isIn (frontOf t r f) (map (take (widthOf t f)) (t .rows))
 abbrev pub canHold : List Table → List ℕ → ℕ → Bool
 canHold [] r f = true
 canHold (t ∷ ts) r f = (not (hasField t f) || begins t r f) && canHold ts r f
-
--- the same of a field with two codes or more
-abbrev pub canGoOn : Book → List ℕ → ℕ → Bool
-canGoOn b r f = leb (codes b f) 1 || canHold (b .tables) r f
 
 -- some table has no rows
 abbrev pub anyEmpty : List Table → Bool

@@ -1,15 +1,13 @@
 // The nearest full reading of an accepted book. Document 02, M-106.
 ghost use mathlib.Core.Path.{_≡_};
 ghost use mathlib.Core.Bool.{not, _&&_};
-ghost use Prim.Native.Nat.{_-_};
-ghost use lib.ListN.{take};
 ghost use lib.Dec.{eqb, ltb};
 ghost use Rattle.format.specs.Basics.{pick};
 ghost use Rattle.format.specs.Format.{bookOf};
 ghost use Rattle.book.specs.View.{Numbered};
 ghost use Rattle.consistency.specs.Consistency.{sheetWith};
-ghost use Rattle.consistency.specs.Nearest.{choose, readings, nearest, product, readingLimit};
-ghost use Rattle.nearest.specs.Asks.{turnAt, foundAt, held, Ready};
+ghost use Rattle.consistency.specs.Nearest.{nearest, product, readingLimit};
+ghost use Rattle.nearest.specs.Asks.{turnAt, foundAt, held, Right, decides, Passed};
 ghost use Rattle.nearest.specs.Words.{Searched};
 use book::PLACES;
 
@@ -77,6 +75,43 @@ fn loses(photographed: bool, differing: usize, more: usize) -> bool
     false
 }
 
+// The turn behind the fields of one code that come next, which need no test: each row that begins with the codes before them goes on with theirs.
+// It stops before such a field too, where the best is not beaten with it or a photographed answer is another.
+fn passed(
+    book: &[u8],
+    list: usize,
+    fields: usize,
+    tables: usize,
+    answers: [u8; PLACES],
+    backed: &[bool; PLACES],
+    turn: Turn,
+) -> Turn
+    requires { ⌜ Numbered (now book) list fields tables × Right (bookOf (now book)) (sheetWith answers (now backed)) turn ⌝ }
+    ensures { λ r. ⌜ Passed (bookOf (now (book .entry))) (sheetWith answers (now (backed .entry))) fields turn r ⌝ }
+{
+    let best = turn.best;
+    let limit = best.least;
+    let mut reading = turn.reading;
+    let mut f = turn.f;
+    let mut differing = turn.differing;
+    while f < fields {
+        if book[list + f] != 1 {
+            return turn_at(reading, f, differing, best);
+        }
+        let more = differing + apart(answers[f], 0);
+        if limit <= more {
+            return turn_at(reading, f, differing, best);
+        }
+        if loses(backed[f], differing, more) {
+            return turn_at(reading, f, differing, best);
+        }
+        reading[f] = 0;
+        differing = more;
+        f += 1;
+    }
+    turn_at(reading, f, differing, best)
+}
+
 // The nearest of the best and of the readings that begin with the codes of the fields below f. A code is passed over where the best is not beaten,
 // where a photographed answer is another, or where a table cannot hold it.
 fn visit(
@@ -89,27 +124,28 @@ fn visit(
     backed: &[bool; PLACES],
     turn: Turn,
 ) -> Found
-    requires { ⌜ Searched (now book) list fields tables (now words) × Ready (bookOf (now book)) (sheetWith answers (now backed)) (turn .reading) (turn .f) (turn .differing) (turn .best .least) ⌝ }
-    ensures { λ r. ⌜ held fields r ≡ choose (bookOf (now (book .entry))) (sheetWith answers (now (backed .entry))) (readings (bookOf (now (book .entry))) (fields - turn .f) (take (turn .f) (turn .reading))) (held fields (turn .best)) ⌝ }
+    requires { ⌜ Searched (now book) list fields tables (now words) × Right (bookOf (now book)) (sheetWith answers (now backed)) turn ⌝ }
+    ensures { λ r. ⌜ held fields r ≡ decides (bookOf (now (book .entry))) (sheetWith answers (now (backed .entry))) fields turn ⌝ }
 {
-    let f = turn.f;
+    let at = passed(book, list, fields, tables, answers, backed, turn);
+    let f = at.f;
     if fields <= f {
-        return reached(turn);
+        return reached(at);
     }
     let count = book[list + f];
-    let mut found = turn.best;
+    let mut found = at.best;
     for code in 0..count {
-        let more = turn.differing + apart(answers[f], code);
+        let more = at.differing + apart(answers[f], code);
         let least = found.least;
         if least <= more {
             continue;
         }
-        if loses(backed[f], turn.differing, more) {
+        if loses(backed[f], at.differing, more) {
             continue;
         }
-        let mut reading = turn.reading;
+        let mut reading = at.reading;
         reading[f] = code;
-        if !rows::can_go_on(book, list, fields, tables, words, &reading, f) {
+        if !rows::can_hold(book, list, fields, tables, words, &reading, f) {
             continue;
         }
         let next = turn_at(reading, f + 1, more, found);

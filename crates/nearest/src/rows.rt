@@ -9,7 +9,7 @@ ghost use Rattle.book.specs.View.{Numbered};
 ghost use Rattle.words.specs.Sorting.{isAmong};
 ghost use Rattle.words.specs.RowWord.{wordsAt};
 ghost use Rattle.nearest.specs.Asks.{RowsPack, HeadFits};
-ghost use Rattle.nearest.specs.Words.{anyEmpty, IsFront, wordFront, canHold, canGoOn, Packed, Searched};
+ghost use Rattle.nearest.specs.Words.{anyEmpty, IsFront, wordFront, canHold, Packed, Searched};
 use book::PLACES;
 
 // The bits of a row's word, a byte for each code that a row may have.
@@ -147,7 +147,7 @@ fn has_front(words: &[u32], first: usize, count: usize, width: usize, front: u32
 }
 
 // Whether each table with field f has a row that begins with the reading's codes for its fields up to f.
-fn can_hold(
+pub(crate) fn can_hold(
     book: &[u8],
     list: usize,
     fields: usize,
@@ -177,24 +177,4 @@ fn can_hold(
         i += 1;
     }
     true
-}
-
-// The same with the code of field f, if it has two or more. A field of one code needs no test: each row that begins with the codes before it goes on
-// with that one.
-pub(crate) fn can_go_on(
-    book: &[u8],
-    list: usize,
-    fields: usize,
-    tables: usize,
-    words: &[u32],
-    reading: &[u8; PLACES],
-    f: usize,
-) -> bool
-    requires { ⌜ Searched (now book) list fields tables (now words) × (f < fields) ⌝ }
-    ensures { λ r. ⌜ r ≡ canGoOn (bookOf (now (book .entry))) (now (reading .entry)) f ⌝ }
-{
-    if wide(book[list + f]) <= 1 {
-        return true;
-    }
-    can_hold(book, list, fields, tables, words, reading, f)
 }

@@ -1,12 +1,9 @@
 -- `nearest::search` meets its contract. Assumes nothing.
 use mathlib.Core.Path.{_≡_, refl, sym, subst, _∙_}
-use Prim.Native.Nat.{_-_}
-use lib.ListN.{take}
 use Rattle.format.specs.Format.{bookOf}
 use Rattle.consistency.specs.Consistency.{sheetWith}
-use Rattle.consistency.specs.Nearest.{choose, readings}
 use Rattle.nearest.specs.declared.Turn.{Turn}
-use Rattle.nearest.specs.Asks.{held, Ready}
+use Rattle.nearest.specs.Asks.{held, Right, decides}
 use Rattle.nearest.proofs.Visits.{none-begins, begins, begins-ready}
 use borrow.Author.Needs.{needs}
 use Rattle.nearest.proofs.search.Statement.{statement}
@@ -34,10 +31,10 @@ slice-aggregate-visit : tie.Need-slice-aggregate-visit
 slice-aggregate-visit c = search needs
 
 visit-requires : tie.Need-visit-requires
-visit-requires c κs = (record { numbers = (c .before .before .before .before .before .before .before .before .pre); filled = sym (c .before .before .before .before .before .before .any-empty .ensures) ∙ c .before .before .before .before .before .if1 .left; packed = c .before .before .before .pack .ensures }, subst (λ (x : Turn). Ready (bookOf (c .before .before .before .before .before .before .before .before .args .book .now)) (sheetWith (c .before .before .before .before .before .before .before .before .args .answers) (c .before .before .before .before .before .before .before .before .args .photographed .now)) (x .reading) (x .f) (x .differing) (x .best .least)) (sym (c .before .turn-at .ensures)) (begins-ready _ _ _ _ ((c .before .before .before .before .before .before .before .before .pre)) _ _ _ refl))
+visit-requires c κs = (record { numbers = (c .before .before .before .before .before .before .before .before .pre); filled = sym (c .before .before .before .before .before .before .any-empty .ensures) ∙ c .before .before .before .before .before .if1 .left; packed = c .before .before .before .pack .ensures }, subst (Right (bookOf (c .before .before .before .before .before .before .before .before .args .book .now)) (sheetWith (c .before .before .before .before .before .before .before .before .args .answers) (c .before .before .before .before .before .before .before .before .args .photographed .now))) (sym (c .before .turn-at .ensures)) (begins-ready _ _ _ _ ((c .before .before .before .before .before .before .before .before .pre)) _ _ _ refl refl))
 
 returns-2 : tie.Need-returns-2
-returns-2 c = subst (λ (x : Turn). held (c .before .before .before .before .before .before .before .before .before .args .fields) (c .visit .result) ≡ choose (bookOf (c .before .before .before .before .before .before .before .before .before .args .book .now)) (sheetWith (c .before .before .before .before .before .before .before .before .before .args .answers) (c .before .before .before .before .before .before .before .before .before .args .photographed .now)) (readings (bookOf (c .before .before .before .before .before .before .before .before .before .args .book .now)) (c .before .before .before .before .before .before .before .before .before .args .fields - x .f) (take (x .f) (x .reading))) (held (c .before .before .before .before .before .before .before .before .before .args .fields) (x .best))) (c .before .before .turn-at .ensures) (c .visit .ensures) ∙ begins _ _ _ _ ((c .before .before .before .before .before .before .before .before .before .pre)) _ _ refl
+returns-2 c = subst (λ (x : Turn). held (c .before .before .before .before .before .before .before .before .before .args .fields) (c .visit .result) ≡ decides (bookOf (c .before .before .before .before .before .before .before .before .before .args .book .now)) (sheetWith (c .before .before .before .before .before .before .before .before .before .args .answers) (c .before .before .before .before .before .before .before .before .before .args .photographed .now)) (c .before .before .before .before .before .before .before .before .before .args .fields) x) (c .before .before .turn-at .ensures) (c .visit .ensures) ∙ begins _ _ _ _ ((c .before .before .before .before .before .before .before .before .before .pre)) _ _ refl
 
 pub search-spec : {M : Type 1} → statement M
 search-spec =
