@@ -41,8 +41,8 @@ pub record HeadFits (s : List ℕ) (p : ℕ) : Type 0 where
   pub short : length s ≤ lengthLimit
   pub known : (j : ℕ) → j < arityAt s p → byte s (p + 1 + j) < places
 
--- r has right codes for the fields below f: the tables with such a field of two codes or more can hold them, the photographed answers are kept, and d of them differ, fewer than in the
--- nearest so far
+-- r has right codes for the fields below f: the tables with such a field of two codes or more can hold them, the photographed answers are kept,
+-- and d of them differ, fewer than in the nearest so far
 pub record Ready (b : Book) (s : Sheet) (r : List ℕ) (f d least : ℕ) : Type 0 where
   pub within : f ≤ length (b .counts)
   pub long : length r ≡ places
