@@ -48,7 +48,7 @@
 //! # }
 //! ```
 //!
-//! Answers that contradict each other leave no code standing. The nearest full reading, with a code for each field, is then a
+//! Answers that contradict each other leave fields without any code. The nearest full reading, with a code for each field, is then a
 //! suggestion: it keeps what is photographed, and changes as few of the other answers as it can.
 //!
 //! ```
