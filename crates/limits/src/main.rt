@@ -252,8 +252,8 @@ fn try_table(table: usize) {
 }
 
 // A book with so many tables, none of which has rows.
-fn try_tables(tables: usize) {
-    try_book(b"tables", tables, 1, 1, 1, tables as u8, 0);
+fn try_tables(tables: u8) {
+    try_book(b"tables", tables as usize, 1, 1, 1, tables, 0);
 }
 
 // The nearest reading of a fresh sheet in a book of so many fields of two codes and no tables.
@@ -313,8 +313,8 @@ fn main() {
     try_fields(b"version 2, fields", (PLACES + 1) as u8, 2);
     try_codes(CODES as u8);
     try_codes((CODES + 1) as u8);
-    try_tables(TABLE_LIMIT);
-    try_tables(TABLE_LIMIT + 1);
+    try_tables(TABLE_LIMIT as u8);
+    try_tables((TABLE_LIMIT + 1) as u8);
     try_book(b"rows", 4096, 1, 1, 1, 1, 4096);
     try_book(b"rows", 4097, 1, 1, 1, 1, 4097);
     try_length(32768);
