@@ -1,16 +1,15 @@
--- A turn of the loop that multiplies the code counts. Assumes nothing.
-use mathlib.Core.Path.{_≡_, sym}
+-- The field list of an accepted book, and a turn of the loop that multiplies its numbers. Assumes nothing.
+use mathlib.Core.Path.{_≡_, sym, ap, _∙_}
 use mathlib.Core.Bool.{true, false}
 use mathlib.Core.List.{List, _∷_}
 use Prim.Native.Nat.{ℕ, zero, suc, _+_, _-_, _*_, _≤_, _<_}
 use native.Mathlib.Nat.{mul-assoc, mul-one, mul-le-mul, le-refl, sub-zero, one-mul, add-zero}
-use native.Mathlib.Numerals.{add-one}
 use native.Mathlib.Omega.{arith}
 use lib.ListN.{length}
-use lib.Seq.{drop-cons}
 use lib.Dec.{ltb}
 use borrow.Author.Tests.{lt-ltb, le-ltb}
 use Rattle.format.specs.Format.{byte, part, bookOf}
+use Rattle.format.proofs.Storing as storing
 use Rattle.book.specs.View.{Numbered}
 use Rattle.consistency.specs.Nearest.{product}
 
@@ -18,7 +17,10 @@ module _ (s : List ℕ) where
   -- a part within the bytes is its first byte and the part behind it
   pub part-cons : (p n : ℕ) → 0 < n → p < length s → part s p n ≡ byte s p ∷ part s (p + 1) (n - 1)
   part-cons p zero k h = absurd (omega arith)
-  part-cons p (suc n) k h = let d : suc n - 1 ≡ n = omega arith in rw (d, add-one, drop-cons s p 0)
+  part-cons p (suc n) k h =
+      let d : suc n - 1 ≡ n = omega arith in
+      let e : suc n ≡ 1 + n = omega arith in
+      ap (part s p) e ∙ storing.part-cons s p n h ∙ ap (λ (m : ℕ). byte s p ∷ part s (p + 1) m) (sym d)
 
   -- ---- the product of the code counts: many is that of the counts before f
 
