@@ -1,5 +1,5 @@
 -- The buffers of specs/Buffers.antt suffice: by condition 1, a call refused by 18 has too little lent. Assumes nothing.
-use Prim.Native.Nat.{ℕ, _*_, _<_}
+use Prim.Native.Nat.{ℕ, _*_, _≤_, _<_}
 use mathlib.Core.Path.{_≡_, refl, sym}
 use mathlib.Core.Bool.{true, true≢false}
 use mathlib.Core.List.{List, []}
@@ -13,13 +13,15 @@ use Rattle.format.proofs.Numbers.{fail-number}
 use Rattle.format.proofs.Accepted.{verdict-accepted, accepted-promise}
 use Rattle.format.proofs.Decode.{promise-well}
 use Rattle.format.proofs.WriteAndShow.{book-well, write-and-show}
-use Rattle.consistency.specs.Consistency.{Sheet}
-use Rattle.consistency.specs.Counts.{total}
-use Rattle.consistency.proofs.Limits.{total-few}
-use Rattle.calls.specs.Calls.{freshSheet}
-use Rattle.calls.specs.Buffers.{Suffices}
-use Rattle.calls.specs.Conditions.{Request, to-filter, to-list, to-store, to-nearest, to-show, to-write, resultOf, givenBook, Refusal, filter-14, filter-15, filter-17, filter-18, list-14, list-18, store-14, store-22, store-18, nearest-14, nearest-23, nearest-18, show-18, WriteRefusal, write-missing, write-left-over, write-too-large, write-unread, write-18, RefusedBy, the-book, the-call, the-listing}
+use Rattle.consistency.specs.Consistency.{places, Sheet}
+use Rattle.consistency.specs.Counts.{answered, total}
+use Rattle.consistency.proofs.Limits.{many-few, total-few}
+use Rattle.calls.specs.Calls.{freshSheet, sheetFrom}
+use Rattle.calls.specs.Short.{shortOf}
+use Rattle.calls.specs.Buffers.{shortEnough, Suffices}
+use Rattle.calls.specs.Conditions.{Request, to-filter, to-list, to-store, to-store-short, to-shorten, to-lengthen, to-nearest, to-show, to-write, resultOf, givenBook, Refusal, filter-14, filter-15, filter-17, filter-18, list-14, list-18, store-14, store-22, store-18, store-short-14, store-short-18, shorten-19, shorten-14, shorten-18, lengthen-24, lengthen-14, lengthen-22, lengthen-18, nearest-14, nearest-23, nearest-18, show-18, WriteRefusal, write-missing, write-left-over, write-too-large, write-unread, write-18, RefusedBy, the-book, the-call, the-listing}
 use Rattle.calls.proofs.Sheets.{Within, accepted-within}
+use Rattle.calls.proofs.ShortPlaces.{length-short}
 use Rattle.calls.proofs.Condition1.{condition1}
 
 -- a call refused by 18 has an accepted book, and is refused on a condition of its own
@@ -56,6 +58,22 @@ module _ {b : Book} {s : Sheet} {o : List ℕ} where
   store-short (store-22 w k p) n = absurd (omega arith)
   store-short (store-18 w p l) n = l
 
+  store-short-short : {number place : ℕ} → Refusal b s (to-store-short o) number place → number ≡ 18 → length o < length (shortOf (length (b .counts)) s)
+  store-short-short (store-short-14 h) n = absurd (omega arith)
+  store-short-short (store-short-18 w l) n = l
+
+  shorten-short : {form : List ℕ} {number place : ℕ} → Refusal b s (to-shorten form o) number place → number ≡ 18
+      → length o < length (shortOf (length (b .counts)) (sheetFrom form))
+  shorten-short (shorten-19 h) n = absurd (omega arith)
+  shorten-short (shorten-14 h w) n = absurd (omega arith)
+  shorten-short (shorten-18 h w l) n = l
+
+  lengthen-short : {form : List ℕ} {number place : ℕ} → Refusal b s (to-lengthen form o) number place → number ≡ 18 → length o < length (b .counts)
+  lengthen-short (lengthen-24 h) n = absurd (omega arith)
+  lengthen-short (lengthen-14 h w) n = absurd (omega arith)
+  lengthen-short (lengthen-22 h i l p) n = absurd (omega arith)
+  lengthen-short (lengthen-18 h p l) n = l
+
   nearest-short : {number place : ℕ} → Refusal b s (to-nearest o) number place → number ≡ 18 → length o < length (b .counts)
   nearest-short (nearest-14 h) n = absurd (omega arith)
   nearest-short (nearest-23 w h) n = absurd (omega arith)
@@ -71,6 +89,10 @@ write-short (write-too-large e h) n = absurd (omega arith)
 write-short (write-unread e b h) n = absurd (omega arith)
 write-short (write-18 w l) n = (w, l)
 
+-- an entry at most for each field
+short-few : (b : Book) → length (b .counts) ≤ places → (s : Sheet) → length (shortOf (length (b .counts)) s) ≤ shortEnough
+short-few b few s = omega (arith, length-short s (length (b .counts)), many-few (length (b .counts)) (answered (s .answers)))
+
 pub suffices : Suffices
 suffices =
     record {
@@ -84,6 +106,15 @@ suffices =
       form = λ bytes s o l e.
           let r = refused-18 bytes s (to-store o) refl e in
           omega (arith, store-short (r .1) e, accepted-within bytes (r .0) .few);
+      short = λ bytes s o l e.
+          let r = refused-18 bytes s (to-store-short o) refl e in
+          omega (arith, store-short-short (r .1) e, short-few (bookOf bytes) (accepted-within bytes (r .0) .few) s);
+      shortening = λ bytes form o l e.
+          let r = refused-18 bytes freshSheet (to-shorten form o) refl e in
+          omega (arith, shorten-short (r .1) e, short-few (bookOf bytes) (accepted-within bytes (r .0) .few) (sheetFrom form));
+      lengthening = λ bytes form o l e.
+          let r = refused-18 bytes freshSheet (to-lengthen form o) refl e in
+          omega (arith, lengthen-short (r .1) e, accepted-within bytes (r .0) .few);
       reading = λ bytes s o l e.
           let r = refused-18 bytes s (to-nearest o) refl e in
           omega (arith, nearest-short (r .1) e, accepted-within bytes (r .0) .few);

@@ -1,12 +1,12 @@
 -- Condition 1: a refusal has its number and place on its condition only, its counts 0, and leaves the sheet and the lent buffer as they were.
 -- Assumes nothing.
-use mathlib.Core.Path.{_≡_, refl, sym, _∙_}
+use mathlib.Core.Path.{_≡_, refl, sym, ap, _∙_, subst}
 use mathlib.Core.Logic.{_⊎_, inl, inr, ⊎-elim, _≢_}
 use mathlib.Core.List.{List, []}
 use mathlib.Core.Bool.{Bool, true, false, _&&_, true≢false}
-use Prim.Native.Nat.{ℕ, _*_, _<_}
+use Prim.Native.Nat.{ℕ, _*_, _≤_, _<_}
 use native.Mathlib.Omega.{arith}
-use lib.ListN.{length}
+use lib.ListN.{length, take}
 use lib.Dec.{ltb, eqb}
 use borrow.Author.Tests.{ltb-true, ltb-false, eqb-true, eqb-false}
 use Rattle.format.specs.Basics.{pick}
@@ -14,6 +14,7 @@ use Rattle.format.specs.Format.{Book, bookCounts, bookOf}
 use Rattle.format.specs.Reading.{Verdict, pass, fail, verdict, outcome, reading}
 use Rattle.format.specs.Listing.{listingOf, listingEnd}
 use Rattle.format.specs.Writing.{Reply, into, showingBy, showing, laidOut, allBytes, writable, writing}
+use Rattle.format.proofs.Accepted.{verdict-accepted}
 use Rattle.format.proofs.Numbers.{book-refusal}
 use Rattle.format.proofs.ByteTests.{bytes-true, true-bytes}
 use Rattle.consistency.specs.Consistency.{places, Sheet, codes, nth, answer, backed, relax}
@@ -23,10 +24,16 @@ use Rattle.consistency.specs.Nearest.{product, readingLimit}
 use Rattle.consistency.proofs.Booleans.{true-T, false-T, T-true, T-false, any-in, any-out}
 use Rattle.consistency.proofs.FirstRows.{has-field}
 use Rattle.calls.specs.Calls.{Result, turned, done, beside, faultOf, onSheet, replacesBacked, anyBacked, masksInto, sheetFrom, entered, withdrawn, photographed, filtered, alternatives, loaded, stored, rowBehind, nearestReading}
-use Rattle.calls.specs.Conditions.{Request, to-read, to-fresh, to-enter, to-withdraw, to-photograph, to-clear, to-filter, to-list, to-store, to-load, to-row, to-nearest, to-show, to-write, resultOf, givenBook, sheetGiven, lentTo, countsOf, FirstFault, NoFault, NoPhotograph, NotInTable, Refusal, enter-14, enter-15, enter-16, enter-22, withdraw-14, withdraw-15, withdraw-17, withdraw-22, photograph-14, photograph-15, photograph-17, filter-14, filter-15, filter-17, filter-18, list-14, list-18, store-14, store-22, store-18, load-19, load-14, row-14, row-15, row-16, row-21, nearest-14, nearest-23, nearest-18, show-18, WriteRefusal, write-missing, write-left-over, write-too-large, write-unread, write-18, RefusedBy, the-book, the-call, the-listing, IsRefusal, Condition1}
+use Rattle.calls.specs.Short.{shortOf, isShort, codeFault, sheetFromShort, loadedShort, storedShort, moved, shortened, lengthened}
+use Rattle.calls.specs.Conditions.{Request, to-read, to-fresh, to-enter, to-withdraw, to-photograph, to-clear, to-filter, to-list, to-store, to-load, to-store-short, to-load-short, to-shorten, to-lengthen, to-row, to-nearest, to-show, to-write, resultOf, givenBook, sheetGiven, lentTo, countsOf, FirstFault, NoFault, NoPhotograph, NotInTable, ReadsShort, Refusal, enter-14, enter-15, enter-16, enter-22, withdraw-14, withdraw-15, withdraw-17, withdraw-22, photograph-14, photograph-15, photograph-17, filter-14, filter-15, filter-17, filter-18, list-14, list-18, store-14, store-22, store-18, load-19, load-14, store-short-14, store-short-18, load-short-24, load-short-14, shorten-19, shorten-14, shorten-18, lengthen-24, lengthen-14, lengthen-22, lengthen-18, row-14, row-15, row-16, row-21, nearest-14, nearest-23, nearest-18, show-18, WriteRefusal, write-missing, write-left-over, write-too-large, write-unread, write-18, RefusedBy, the-book, the-call, the-listing, IsRefusal, Condition1}
 use Rattle.calls.proofs.Faults.{first-fault, fault-free, backed-known}
 use Rattle.calls.proofs.CallLaws.{pick-cases, fault-holds, book-holds, sheet-holds}
 use Rattle.calls.proofs.Held.{other-code}
+use Rattle.calls.proofs.Sheets.{accepted-within}
+use Rattle.calls.proofs.Stored as stored
+use Rattle.calls.proofs.ShortForms.{parse}
+use Rattle.calls.proofs.ShortLayouts.{layout-of, layout-passes, first-code-fault, codes-fine, some-photographed, none-photographed}
+use Rattle.calls.proofs.ShortCalls.{there, back, load-accepted, loaded-sheet, front-loaded}
 
 -- r is an answer that accepts, or a refusal of call q
 abbrev Settled : List ℕ → Sheet → Request → Result → Type 0
@@ -148,8 +155,90 @@ store-backed b s o w t =
 none-backed : (s : Sheet) → anyBacked s ≡ false → NoPhotograph s
 none-backed s t k l = T-false (λ u. false-T t (any-in places (backed s) k l u))
 
+-- what loading answers
+load-settled : (bytes : List ℕ) (s : Sheet) (form : List ℕ) → Settled bytes s (to-load form) (loaded bytes form)
+unfolding loaded
+load-settled bytes s form =
+    let S : Result → Type 0 = Settled bytes s (to-load form) in
+    let b : Book = bookOf bytes in
+    let n : ℕ = length (b .counts) in
+    book-holds S (refusal s (to-load form)) bytes _ (by-book refl) (λ e.
+    fail-settled e (eqb (length form) n) (λ t. load-19 (eqb-false (length form) n t)) (λ t.
+    fault-holds S (refusal s (to-load form)) (faultOf b (sheetFrom form))
+    (λ l. by-call e (load-14 (eqb-true (length form) n t) (first-fault b (sheetFrom form) l))) (λ l. done-settled)))
+
+-- and loading from the short form
+load-short-settled : (bytes : List ℕ) (s : Sheet) (form : List ℕ) → Settled bytes s (to-load-short form) (loadedShort bytes form)
+unfolding loadedShort
+load-short-settled bytes s form =
+    let S : Result → Type 0 = Settled bytes s (to-load-short form) in
+    let b : Book = bookOf bytes in
+    let n : ℕ = length (b .counts) in
+    book-holds S (refusal s (to-load-short form)) bytes _ (by-book refl) (λ e.
+    fail-settled e (isShort n 0 0 form) (λ t. load-short-24 (λ h. true≢false (sym (layout-passes n form h) ∙ t))) (λ t.
+    fault-holds S (refusal s (to-load-short form)) (codeFault b form)
+    (λ l. by-call e (load-short-14 (layout-of n form t) (first-code-fault b n (parse n 0 0 form t) l))) (λ l. done-settled)))
+
+-- a form that is moved: what turned its loading down, or what the rest answers
+move-settled : {bytes : List ℕ} {s : Sheet} {q : Request} (r : Result) (o : List ℕ) (go : Sheet → Reply)
+    → (r .outcome .number ≢ 0 → Settled bytes s q (turned 1 s o (r .outcome .number) (r .outcome .place)))
+    → (r .outcome .number ≡ 0 → Settled bytes s q (beside s (go (r .sheet)))) → Settled bytes s q (beside s (moved r o go))
+move-settled {bytes} {s} {q} r o go h k =
+    pick-cases (λ (x : Reply). Settled bytes s q (beside s x)) (eqb (r .outcome .number) 0) (λ t. k (eqb-true (r .outcome .number) 0 t))
+    (λ t. h (eqb-false (r .outcome .number) 0 t))
+
+-- "19 and 14 as in loading"
+shorten-reason : {bytes : List ℕ} {s : Sheet} {form o : List ℕ} {number place : ℕ} → RefusedBy bytes s (to-load form) number place
+    → RefusedBy bytes s (to-shorten form o) number place
+shorten-reason (the-book g e r) = the-book refl e r
+shorten-reason (the-call e (load-19 h)) = the-call e (shorten-19 h)
+shorten-reason (the-call e (load-14 h w)) = the-call e (shorten-14 h w)
+
+shorten-settled : (bytes : List ℕ) (s : Sheet) (form o : List ℕ) → Settled bytes s (to-shorten form o) (beside s (shortened bytes form o))
+unfolding shortened
+shorten-settled bytes s form o =
+    let b : Book = bookOf bytes in
+    move-settled (loaded bytes form) o (there bytes o)
+    (λ z. refused-by (shorten-reason (load-settled bytes s form z .reason)))
+    (λ z.
+    let h = stored.load-accepted bytes form z in
+    let same : loaded bytes form .sheet ≡ sheetFrom form = ap (λ (r : Result). r .sheet) (h .result) in
+    into-settled {q = to-shorten form o} (shortOf (length (b .counts)) (loaded bytes form .sheet)) o (λ l.
+    by-call (h .passes)
+    (shorten-18 (h .whole) (fault-free b (sheetFrom form) (h .no-fault))
+    (subst (λ (x : Sheet). length o < length (shortOf (length (b .counts)) x)) same l))))
+
+-- 24 and 14 as in loading
+lengthen-reason : {bytes : List ℕ} {s : Sheet} {form o : List ℕ} {number place : ℕ} → RefusedBy bytes s (to-load-short form) number place
+    → RefusedBy bytes s (to-lengthen form o) number place
+lengthen-reason (the-book g e r) = the-book refl e r
+lengthen-reason (the-call e (load-short-24 h)) = the-call e (lengthen-24 h)
+lengthen-reason (the-call e (load-short-14 h w)) = the-call e (lengthen-14 h w)
+
+lengthen-settled : (bytes : List ℕ) (s : Sheet) (form o : List ℕ) → Settled bytes s (to-lengthen form o) (beside s (lengthened bytes form o))
+unfolding lengthened
+lengthen-settled bytes s form o =
+    let b : Book = bookOf bytes in
+    let n : ℕ = length (b .counts) in
+    let x : Sheet = loadedShort bytes form .sheet in
+    move-settled (loadedShort bytes form) o (back bytes o)
+    (λ z. refused-by (lengthen-reason (load-short-settled bytes s form z .reason)))
+    (λ z.
+    let h = load-accepted bytes form z .reads in
+    let few : n ≤ places = accepted-within bytes (verdict-accepted bytes (h .passes)) .few in
+    let said : anyBacked x ≡ anyBacked (sheetFromShort form) = ap anyBacked (loaded-sheet bytes form z) in
+    let reads : ReadsShort b form =
+    record { layout = layout-of n form (h .ok); codes-ok = codes-fine b n few (parse n 0 0 form (h .ok)) (h .fine) } in
+    pick-cases (λ (r : Reply). Settled bytes s (to-lengthen form o) (beside s r)) (anyBacked x)
+    (λ t.
+    let k = some-photographed n few form (h .ok) (sym said ∙ t) in
+    by-call (h .passes) (lengthen-22 reads (k .0) (k .1) (k .2)))
+    (λ t.
+    into-settled {q = to-lengthen form o} (take n (x .answers)) o (λ l.
+    by-call (h .passes) (lengthen-18 reads (none-photographed n few form (h .ok) (sym said ∙ t)) (omega (arith, l, front-loaded bytes form z))))))
+
 pub condition1 : Condition1
-unfolding entered withdrawn photographed filtered alternatives loaded stored rowBehind nearestReading
+unfolding entered withdrawn photographed filtered alternatives stored storedShort rowBehind nearestReading
 condition1 bytes s to-read = read-settled bytes s
 condition1 bytes s to-fresh = done-settled
 condition1 bytes s (to-enter f c) =
@@ -201,14 +290,13 @@ condition1 bytes s (to-store o) =
     sheet-settled refl _ (λ p. store-14) (λ e w.
     pass-settled e (anyBacked s) (λ t. store-backed b s o w t) (λ t.
     pass-settled e (ltb (length o) n) (λ u. store-18 w (none-backed s t) (ltb-true (length o) n u)) (λ u. done-settled)))
-condition1 bytes s (to-load form) =
-    let S : Result → Type 0 = Settled bytes s (to-load form) in
-    let b : Book = bookOf bytes in
-    let n : ℕ = length (b .counts) in
-    book-holds S (refusal s (to-load form)) bytes _ (by-book refl) (λ e.
-    fail-settled e (eqb (length form) n) (λ t. load-19 (eqb-false (length form) n t)) (λ t.
-    fault-holds S (refusal s (to-load form)) (faultOf b (sheetFrom form))
-    (λ l. by-call e (load-14 (eqb-true (length form) n t) (first-fault b (sheetFrom form) l))) (λ l. done-settled)))
+condition1 bytes s (to-load form) = load-settled bytes s form
+condition1 bytes s (to-store-short o) =
+    sheet-settled refl _ (λ p. store-short-14) (λ e w.
+    into-settled {q = to-store-short o} (shortOf (length (bookOf bytes .counts)) s) o (λ l. by-call e (store-short-18 w l)))
+condition1 bytes s (to-load-short form) = load-short-settled bytes s form
+condition1 bytes s (to-shorten form o) = shorten-settled bytes s form o
+condition1 bytes s (to-lengthen form o) = lengthen-settled bytes s form o
 condition1 bytes s (to-row f c i) =
     let b : Book = bookOf bytes in
     let n : ℕ = length (b .counts) in

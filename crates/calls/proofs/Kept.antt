@@ -12,6 +12,7 @@ use Rattle.consistency.specs.Counts.{total}
 use Rattle.consistency.specs.Rows.{hasField}
 use Rattle.consistency.specs.Nearest.{product, readingLimit}
 use Rattle.calls.specs.Calls.{Result, turned, faultOf, withBook, faultThen, onSheet, anyBacked, masksInto, filtered, alternatives, stored, rowBehind, nearestReading}
+use Rattle.calls.specs.Short.{storedShort}
 
 module _ (bytes : List ℕ) (s : Sheet) (o : List ℕ) where
   -- a result with this sheet
@@ -44,6 +45,10 @@ module _ (bytes : List ℕ) (s : Sheet) (o : List ℕ) where
   unfolding stored
   stored-keeps =
       on-sheet 0 _ (pick-holds Kept (anyBacked s) refl (pick-holds Kept (ltb (length o) (length (bookOf bytes .counts))) refl refl))
+
+  pub stored-short-keeps : storedShort bytes s o .sheet ≡ s
+  unfolding storedShort
+  stored-short-keeps = on-sheet 1 _ refl
 
   pub nearest-keeps : nearestReading bytes s o .sheet ≡ s
   unfolding nearestReading

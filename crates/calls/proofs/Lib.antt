@@ -24,4 +24,9 @@ pub mod OneChange
 pub mod PhotographedE1
 pub mod Agreement
 pub mod Stored
+pub mod ShortPlaces
+pub mod ShortForms
+pub mod ShortLayouts
+pub mod ShortCalls
+pub mod ShortExamples
 pub mod Kept

@@ -60,7 +60,7 @@ store-accepted bytes s o =
 
 -- ---- the other way
 
-load-accepts : (bytes form : List ℕ) → verdict bytes ≡ pass → length form ≡ length (bookOf bytes .counts)
+pub load-accepts : (bytes form : List ℕ) → verdict bytes ≡ pass → length form ≡ length (bookOf bytes .counts)
     → places ≤ faultOf (bookOf bytes) (sheetFrom form) → loaded bytes form ≡ done [] (sheetFrom form) []
 unfolding loaded
 load-accepts bytes form p e w =

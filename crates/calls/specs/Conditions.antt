@@ -22,6 +22,7 @@ use Rattle.consistency.specs.Alike.{Alike}
 use Rattle.consistency.specs.Ties.{FieldIn}
 use Rattle.consistency.specs.Nearest.{product, readingLimit}
 use Rattle.calls.specs.Calls.{Result, freshSheet, done, beside, placeOk, sheetFrom, entered, withdrawn, photographed, cleared, filtered, alternatives, loaded, stored, rowBehind, nearestReading}
+use Rattle.calls.specs.Short.{shortOf, sheetFromShort, loadedShort, storedShort, shortened, lengthened}
 use Rattle.calls.specs.Histories.{Call, Answers, given, doubtful, noAnswers, answersAfter, refusalsFrom, sheetOf, results, sheetAfter}
 
 -- ---- Condition 1: "The answer to any bytes, sheet and call is the one that document 01 defines" is the contracts of the calls;
@@ -39,6 +40,10 @@ pub data Request : Type 0 where
   to-list : List ℕ → Request
   to-store : List ℕ → Request
   to-load : List ℕ → Request
+  to-store-short : List ℕ → Request
+  to-load-short : List ℕ → Request
+  to-shorten : List ℕ → List ℕ → Request
+  to-lengthen : List ℕ → List ℕ → Request
   to-row : ℕ → ℕ → ℕ → Request
   to-nearest : List ℕ → Request
   to-show : List ℕ → Request
@@ -55,6 +60,10 @@ resultOf bytes s (to-filter f o) = filtered bytes s f o
 resultOf bytes s (to-list o) = alternatives bytes s o
 resultOf bytes s (to-store o) = stored bytes s o
 resultOf bytes s (to-load form) = loaded bytes form
+resultOf bytes s (to-store-short o) = storedShort bytes s o
+resultOf bytes s (to-load-short form) = loadedShort bytes form
+resultOf bytes s (to-shorten form o) = beside s (shortened bytes form o)
+resultOf bytes s (to-lengthen form o) = beside s (lengthened bytes form o)
 resultOf bytes s (to-row f c i) = rowBehind bytes s f c i
 resultOf bytes s (to-nearest o) = nearestReading bytes s o
 resultOf bytes s (to-show o) = beside s (showing bytes o)
@@ -72,6 +81,10 @@ givenBook (to-filter f o) = true
 givenBook (to-list o) = true
 givenBook (to-store o) = true
 givenBook (to-load form) = true
+givenBook (to-store-short o) = true
+givenBook (to-load-short form) = true
+givenBook (to-shorten form o) = true
+givenBook (to-lengthen form o) = true
 givenBook (to-row f c i) = true
 givenBook (to-nearest o) = true
 givenBook (to-show o) = true
@@ -89,6 +102,10 @@ sheetGiven s (to-filter f o) = s
 sheetGiven s (to-list o) = s
 sheetGiven s (to-store o) = s
 sheetGiven s (to-load form) = freshSheet
+sheetGiven s (to-store-short o) = s
+sheetGiven s (to-load-short form) = freshSheet
+sheetGiven s (to-shorten form o) = s
+sheetGiven s (to-lengthen form o) = s
 sheetGiven s (to-row f c i) = s
 sheetGiven s (to-nearest o) = s
 sheetGiven s (to-show o) = s
@@ -105,6 +122,10 @@ lentTo (to-filter f o) = o
 lentTo (to-list o) = o
 lentTo (to-store o) = o
 lentTo (to-load form) = []
+lentTo (to-store-short o) = o
+lentTo (to-load-short form) = []
+lentTo (to-shorten form o) = o
+lentTo (to-lengthen form o) = o
 lentTo (to-row f c i) = []
 lentTo (to-nearest o) = o
 lentTo (to-show o) = o
@@ -122,6 +143,10 @@ countsOf (to-filter f o) = 0
 countsOf (to-list o) = 2
 countsOf (to-store o) = 0
 countsOf (to-load form) = 0
+countsOf (to-store-short o) = 1
+countsOf (to-load-short form) = 0
+countsOf (to-shorten form o) = 1
+countsOf (to-lengthen form o) = 1
 countsOf (to-row f c i) = 2
 countsOf (to-nearest o) = 3
 countsOf (to-show o) = 1
@@ -144,6 +169,43 @@ NoPhotograph s = (k : ℕ) → k < places → backed s k ≡ false
 -- 21, "no such table or the field isn't in it"
 abbrev pub NotInTable : Book → ℕ → ℕ → Type 0
 NotInTable b f i = (length (b .tables) ≤ i) ⊎ ((i < length (b .tables)) × (FieldIn f (nth b i) → ⊥))
+
+-- the bytes of entry i of a short stored sheet: "field, code, photographed"
+abbrev pub fieldByte : List ℕ → ℕ → ℕ
+fieldByte form i = getD form (3 * i) 0
+
+abbrev pub codeByte : List ℕ → ℕ → ℕ
+codeByte form i = getD form (3 * i + 1) 0
+
+abbrev pub photographByte : List ℕ → ℕ → ℕ
+photographByte form i = getD form (3 * i + 2) 0
+
+-- no 24 under a book of n fields: nothing of "length, trailer, field number, order or photographed byte" is wrong
+pub record ShortLayout (n : ℕ) (form : List ℕ) : Type 0 where
+  pub many : ℕ
+  pub size : length form ≡ 3 * many + 2
+  pub answers : getD form (3 * many) 0 ≡ many
+  pub fields : getD form (3 * many + 1) 0 ≡ n
+  pub known : (i : ℕ) → i < many → fieldByte form i < n
+  pub rising : (i j : ℕ) → i < j → j < many → fieldByte form i < fieldByte form j
+  pub photographs : (i : ℕ) → i < many → photographByte form i ≤ 1
+
+-- 14 of such bytes: entry i has a code of its field
+abbrev pub CodeOk : Book → List ℕ → ℕ → Type 0
+CodeOk b form i = codeByte form i < codes b (fieldByte form i)
+
+-- f is the field of the first entry that has none
+pub record FirstCodeFault (b : Book) (form : List ℕ) (f : ℕ) : Type 0 where
+  pub entry : ℕ
+  pub in-form : 3 * entry + 2 < length form
+  pub field : fieldByte form entry ≡ f
+  pub fails : CodeOk b form entry → ⊥
+  pub before : (i : ℕ) → i < entry → CodeOk b form i
+
+-- no 14: the entries' codes, in a form that has the layout
+pub record ReadsShort (b : Book) (form : List ℕ) : Type 0 where
+  pub layout : ShortLayout (length (b .counts)) form
+  pub codes-ok : (i : ℕ) → 3 * i + 2 < length form → CodeOk b form i
 
 -- The refusals of each call on sheet s behind 1 to 13, with number and place, each on its condition only: that the tests before it in the
 -- paper's order passed, and its own. Reading has none, "Fresh and clear: none"
@@ -180,6 +242,23 @@ pub data Refusal (b : Book) (s : Sheet) : Request → ℕ → ℕ → Type 0 whe
   -- Loading: "19 if its length isn't the number of fields, 14"
   load-19 : {form : List ℕ} → length form ≢ length (b .counts) → Refusal b s (to-load form) 19 0
   load-14 : {p : ℕ} {form : List ℕ} → length form ≡ length (b .counts) → FirstFault b (sheetFrom form) p → Refusal b s (to-load form) 14 p
+  -- Request M-108, storing in the short form: "14, 18"
+  store-short-14 : {p : ℕ} {o : List ℕ} → FirstFault b s p → Refusal b s (to-store-short o) 14 p
+  store-short-18 : {o : List ℕ} → NoFault b s → length o < length (shortOf (length (b .counts)) s) → Refusal b s (to-store-short o) 18 0
+  -- loading from it: "24, after 13 and in the place of 19 .. Then 14 for codes"
+  load-short-24 : {form : List ℕ} → (ShortLayout (length (b .counts)) form → ⊥) → Refusal b s (to-load-short form) 24 0
+  load-short-14 : {f : ℕ} {form : List ℕ} → ShortLayout (length (b .counts)) form → FirstCodeFault b form f → Refusal b s (to-load-short form) 14 f
+  -- moving an old form: "19 and 14 as in loading, then 18"
+  shorten-19 : {form o : List ℕ} → length form ≢ length (b .counts) → Refusal b s (to-shorten form o) 19 0
+  shorten-14 : {p : ℕ} {form o : List ℕ} → length form ≡ length (b .counts) → FirstFault b (sheetFrom form) p → Refusal b s (to-shorten form o) 14 p
+  shorten-18 : {form o : List ℕ} → length form ≡ length (b .counts) → NoFault b (sheetFrom form) → length o < length (shortOf (length (b .counts)) (sheetFrom form))
+      → Refusal b s (to-shorten form o) 18 0
+  -- and back: 24, 14, 22 "as in storing", "Last 18, too few bytes lent"
+  lengthen-24 : {form o : List ℕ} → (ShortLayout (length (b .counts)) form → ⊥) → Refusal b s (to-lengthen form o) 24 0
+  lengthen-14 : {f : ℕ} {form o : List ℕ} → ShortLayout (length (b .counts)) form → FirstCodeFault b form f → Refusal b s (to-lengthen form o) 14 f
+  lengthen-22 : {form o : List ℕ} → ReadsShort b form → (i : ℕ) → 3 * i + 2 < length form → photographByte form i ≡ 1 → Refusal b s (to-lengthen form o) 22 0
+  lengthen-18 : {form o : List ℕ} → ReadsShort b form → ((i : ℕ) → 3 * i + 2 < length form → photographByte form i ≡ 0) → length o < length (b .counts)
+      → Refusal b s (to-lengthen form o) 18 0
   -- Request M-104: "After 14, 15 and 16: 21, no such table or the field isn't in it; place 0"
   row-14 : {f c i p : ℕ} → FirstFault b s p → Refusal b s (to-row f c i) 14 p
   row-15 : {f c i : ℕ} → NoFault b s → length (b .counts) ≤ f → Refusal b s (to-row f c i) 15 0

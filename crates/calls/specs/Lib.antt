@@ -1,4 +1,5 @@
 pub mod Calls
+pub mod Short
 pub mod Buffers
 pub mod Histories
 pub mod Conditions
@@ -6,3 +7,4 @@ pub mod Examples
 pub mod Rows
 pub mod Photographs
 pub mod Nearest
+pub mod ShortForms

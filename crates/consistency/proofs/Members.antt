@@ -1,10 +1,11 @@
 -- Membership in lists that are mapped, joined or picked below a bound, and the order of such lists. Assumes nothing.
-use mathlib.Core.Path.{_≡_, refl, sym, subst}
+use mathlib.Core.Path.{_≡_, refl, sym, ap, ap₂, _∙_, subst}
 use mathlib.Core.Logic.{⊎-elim}
 use mathlib.Core.Bool.{Bool, true, false}
-use mathlib.Core.List.{List, [], _∷_, _++_, map, List·Memᴰ·head, List·Memᴰ·tail, List·Memᴰ·not-nil, List·Memᴰ·cases-cons, List·Memᴰ·append-cases, List·Memᴰ·eq-of-singleton, Memᴰ·append-left, Memᴰ·append-right}
+use mathlib.Core.List.{List, [], _∷_, _++_, map, List·Memᴰ·head, List·Memᴰ·tail, List·Memᴰ·not-nil, List·Memᴰ·cases-cons, List·Memᴰ·append-cases, List·Memᴰ·eq-of-singleton, Memᴰ·append-left, Memᴰ·append-right, append-assoc}
 use Prim.Native.Nat.{ℕ, zero, suc, _<_}
 use native.Mathlib.Nat.{le-trans, le-suc, lt-suc-self, not-suc-le-zero}
+use native.Mathlib.Omega.{arith}
 use lib.Dec.{T}
 use Rattle.format.specs.Basics.{pick, All}
 use Rattle.consistency.specs.Counting.{those, joinOver}
@@ -60,14 +61,19 @@ those-in (suc n) p {k} l t =
     ⊎-elim (λ (e : k ≡ n). Memᴰ·append-right (those n p) (pick-in (p n) (subst (λ (i : ℕ). T (p i)) e t) e))
     (λ (h : k < n). Memᴰ·append-left (pick (p n) (n ∷ []) []) (those-in n p h t)) (below-suc l)
 
+-- over one list, then over another
+pub join-append : {A : Type 0} (xs ys : List ℕ) (g : ℕ → List A) → joinOver (xs ++ ys) g ≡ joinOver xs g ++ joinOver ys g
+join-append [] ys g = refl
+join-append (x ∷ xs) ys g = ap (λ l. g x ++ l) (join-append xs ys g) ∙ sym (append-assoc (g x) (joinOver xs g) (joinOver ys g))
+
 -- ---- order
 
 -- what holds of each member holds of each element, and back
-all-in-list : {A : Type 0} (P : A → Type 0) (xs : List A) → ((x : A) → In x xs → P x) → All P xs
+pub all-in-list : {A : Type 0} (P : A → Type 0) (xs : List A) → ((x : A) → In x xs → P x) → All P xs
 all-in-list P [] h = tt
 all-in-list P (x ∷ xs) h = (h x (List·Memᴰ·head refl), all-in-list P xs (λ y m. h y (List·Memᴰ·tail m)))
 
-of-member : {A : Type 0} (P : A → Type 0) (xs : List A) → All P xs → (x : A) → In x xs → P x
+pub of-member : {A : Type 0} (P : A → Type 0) (xs : List A) → All P xs → (x : A) → In x xs → P x
 of-member P [] p x m = absurd (List·Memᴰ·not-nil m)
 of-member P (y ∷ xs) p x m =
     ⊎-elim (λ (e : x ≡ y). subst P (sym e) (p .0)) (λ (n : In x xs). of-member P xs (p .1) x n) (List·Memᴰ·cases-cons m)
@@ -116,3 +122,36 @@ those-rising zero p = tt
 those-rising (suc n) p =
     append-in-order _<_ (those n p) (pick (p n) (n ∷ []) []) (those-rising n p) (pick-rising (p n) n)
     (λ i k m l. subst (λ (x : ℕ). i < x) (sym (in-pick (p n) l .1)) (in-those n p m .0))
+
+-- two lists that rise and have the same numbers are equal
+pub rising-unique : (xs ys : List ℕ) → Pairwise _<_ xs → Pairwise _<_ ys → ((k : ℕ) → In k xs → In k ys) → ((k : ℕ) → In k ys → In k xs) → xs ≡ ys
+rising-unique [] [] p q h r = refl
+rising-unique [] (y ∷ ys) p q h r = absurd (List·Memᴰ·not-nil (r y (List·Memᴰ·head refl)))
+rising-unique (x ∷ xs) [] p q h r = absurd (List·Memᴰ·not-nil (h x (List·Memᴰ·head refl)))
+rising-unique (x ∷ xs) (y ∷ ys) p q h r =
+    ap₂ _∷_ first
+    (rising-unique xs ys (p .1) (q .1)
+    (λ k m. ⊎-elim (λ (e : k ≡ y). absurd (omega (arith, first, after-x k m))) (λ (n : In k ys). n) (List·Memᴰ·cases-cons (h k (List·Memᴰ·tail m))))
+    (λ k m. ⊎-elim (λ (e : k ≡ x). absurd (omega (arith, first, after-y k m))) (λ (n : In k xs). n) (List·Memᴰ·cases-cons (r k (List·Memᴰ·tail m)))))
+  where
+    after-x : (k : ℕ) → In k xs → x < k
+    after-x k m = of-member (λ i. x < i) xs (p .0) k m
+
+    after-y : (k : ℕ) → In k ys → y < k
+    after-y k m = of-member (λ i. y < i) ys (q .0) k m
+
+    -- each first number is not behind the other
+    first : x ≡ y
+    first =
+        ⊎-elim (λ (e : x ≡ y). e)
+        (λ (m : In x ys).
+        ⊎-elim (λ (e : y ≡ x). sym e) (λ (n : In y xs). absurd (omega (arith, after-y x m, after-x y n)))
+        (List·Memᴰ·cases-cons (r y (List·Memᴰ·head refl))))
+        (List·Memᴰ·cases-cons (h x (List·Memᴰ·head refl)))
+
+-- a list that rises and has exactly the numbers below n of which p holds is `those n p`
+pub those-unique : (n : ℕ) (p : ℕ → Bool) (xs : List ℕ) → Pairwise _<_ xs → ((k : ℕ) → In k xs → (k < n) × T (p k))
+    → ((k : ℕ) → k < n → T (p k) → In k xs) → xs ≡ those n p
+those-unique n p xs r h k =
+    rising-unique xs (those n p) r (those-rising n p) (λ i m. let w = h i m in those-in n p (w .0) (w .1))
+    (λ i m. let w = in-those n p m in k i (w .0) (w .1))
