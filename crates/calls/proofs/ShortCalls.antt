@@ -24,7 +24,7 @@ use Rattle.calls.specs.Histories.{Call, answersAfter, sheetOf, sheetAfte
 use Rattle.calls.specs.Conditions.{NoFault, NoPhotograph, Whole}
 use Rattle.calls.specs.ShortForms.{fieldsOf, ShortSheet, storedBytes, SameForms, Request108}
 use Rattle.calls.proofs.CallLaws.{Where, pick-cases, book-where, sheet-where, book-go, sheet-go}
-use Rattle.calls.proofs.Faults.{fault-free, fault-none}
+use Rattle.calls.proofs.Faults.{fault-free, fault-none, none-backed, backed-none}
 use Rattle.calls.proofs.Sheets.{accepted-within, length-sheet, length-photographs, no-fault}
 use Rattle.calls.proofs.CallLists.{sheet-after, sound-after}
 use Rattle.calls.proofs.Stored as old
@@ -222,12 +222,6 @@ pub front-loaded : (bytes form : List ℕ) → loadedShort bytes form .outcome .
     → length (take (fieldsOf bytes) (loadedShort bytes form .sheet .answers)) ≡ fieldsOf bytes
 front-loaded bytes form e =
     ap (λ (s : Sheet). length (take (fieldsOf bytes) (s .answers))) (loaded-sheet bytes form e) ∙ front bytes form (load-accepted bytes form e .reads)
-
-none-backed : (s : Sheet) → anyBacked s ≡ false → NoPhotograph s
-none-backed s t k l = T-false (λ u. false-T t (any-in places (backed s) k l u))
-
-backed-none : (s : Sheet) → NoPhotograph s → anyBacked s ≡ false
-backed-none s h = T-false (λ t. let k = any-out places (backed s) t in false-T (h (k .0) (k .1)) (k .2))
 
 lengthens-exactly : (bytes form o : List ℕ)
     → (lengthened bytes form o .outcome .number ≡ 0)

@@ -15,7 +15,7 @@ use Rattle.consistency.specs.Consistency.{places, Sheet, codes}
 use Rattle.consistency.specs.Counts.{answered}
 use Rattle.consistency.proofs.Members.{join-append}
 use Rattle.consistency.proofs.Sums.{length-those}
-use Rattle.calls.specs.Short.{entryOf, shortOf, isShort, codeFault, setBoth, entriesOnto}
+use Rattle.calls.specs.Short.{entryOf, entriesOf, shortOf, isShort, codeFault, setBoth, entriesOnto}
 
 -- ---- reading: from place i on
 
@@ -95,27 +95,23 @@ module _ (form : List ℕ) (i : ℕ) where
 -- ---- writing: the entries of the fields below f
 
 module _ (s : Sheet) where
-  -- the entries of the answered fields below f
-  abbrev pub entries : ℕ → List ℕ
-  entries f = joinOver (those f (answered (s .answers))) (entryOf s)
-
   -- one field more: three bytes or none
-  pub entries-next : (f : ℕ) → entries (suc f) ≡ entries f ++ pick (answered (s .answers) f) (entryOf s f) []
+  pub entries-next : (f : ℕ) → entriesOf (suc f) s ≡ entriesOf f s ++ pick (answered (s .answers) f) (entryOf s f) []
   entries-next f =
       join-append (those f (answered (s .answers))) (pick (answered (s .answers) f) (f ∷ []) []) (entryOf s)
-      ∙ ap (λ (r : List ℕ). entries f ++ r) (one (answered (s .answers) f))
+      ∙ ap (λ (r : List ℕ). entriesOf f s ++ r) (one (answered (s .answers) f))
     where
       one : (x : Bool) → joinOver (pick x (f ∷ []) []) (entryOf s) ≡ pick x (entryOf s f) []
       one true = refl
       one false = refl
 
   -- the trailer behind those of all fields
-  pub short-is : (n : ℕ) → shortOf n s ≡ entries n ++ (howMany n (answered (s .answers)) ∷ n ∷ [])
+  pub short-is : (n : ℕ) → shortOf n s ≡ entriesOf n s ++ (howMany n (answered (s .answers)) ∷ n ∷ [])
   unfolding shortOf
   short-is n = refl
 
   -- three bytes an answer
-  pub length-entries : (f : ℕ) → length (entries f) ≡ 3 * howMany f (answered (s .answers))
+  pub length-entries : (f : ℕ) → length (entriesOf f s) ≡ 3 * howMany f (answered (s .answers))
   length-entries f = by-list (those f (answered (s .answers))) ∙ ap (λ (k : ℕ). 3 * k) (length-those f (answered (s .answers)))
     where
       by-list : (fs : List ℕ) → length (joinOver fs (entryOf s)) ≡ 3 * length fs
@@ -125,4 +121,4 @@ module _ (s : Sheet) where
   -- and two for the trailer
   pub length-short : (n : ℕ) → length (shortOf n s) ≡ 3 * howMany n (answered (s .answers)) + 2
   unfolding shortOf
-  length-short n = length-append (entries n) (howMany n (answered (s .answers)) ∷ n ∷ []) ∙ omega (arith, length-entries n)
+  length-short n = length-append (entriesOf n s) (howMany n (answered (s .answers)) ∷ n ∷ []) ∙ omega (arith, length-entries n)

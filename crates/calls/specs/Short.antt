@@ -23,9 +23,13 @@ flagByte p = pick p 1 0
 abbrev pub entryOf : Sheet → ℕ → List ℕ
 entryOf s f = f ∷ answer (s .answers) f ∷ flagByte (backed s f) ∷ []
 
--- "by rising field"; "It ends in a two-byte trailer: number of answers, then number of fields": sheet s under a book of n fields
+-- of the answered fields below n, "by rising field"
+abbrev pub entriesOf : ℕ → Sheet → List ℕ
+entriesOf n s = joinOver (those n (answered (s .answers))) (entryOf s)
+
+-- "It ends in a two-byte trailer: number of answers, then number of fields": sheet s under a book of n fields
 unfoldable pub shortOf : ℕ → Sheet → List ℕ
-shortOf n s = joinOver (those n (answered (s .answers))) (entryOf s) ++ (howMany n (answered (s .answers)) ∷ n ∷ [])
+shortOf n s = entriesOf n s ++ (howMany n (answered (s .answers)) ∷ n ∷ [])
 
 -- ---- what bytes say
 

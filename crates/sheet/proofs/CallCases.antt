@@ -1,5 +1,5 @@
 -- Each way through the calls on a sheet: the tests passed so far and the one that fails give the refusal, all passed give the result. A law's name has the refusal's number. Assumes nothing.
-use mathlib.Core.Path.{_≡_, sym, ap, _∙_}
+use mathlib.Core.Path.{_≡_, sym, ap, subst, _∙_}
 use mathlib.Core.Bool.{Bool, true, false}
 use mathlib.Core.List.{List, [], _++_}
 use Prim.Native.Nat.{ℕ, _+_, _≤_, _<_}
@@ -8,7 +8,7 @@ use lib.ListN.{length, getD, take, drop}
 use lib.Seq.{length-take-le}
 use borrow.Author.Tests.{lt-ltb, le-ltb, eq-eqb, ne-eqb}
 use Rattle.format.specs.Basics.{pick}
-use Rattle.format.specs.Format.{Book, byte, bookOf}
+use Rattle.format.specs.Format.{byte, bookOf}
 use Rattle.format.specs.Reading.{fail}
 use Rattle.format.proofs.Copying.{copied-whole}
 use Rattle.consistency.specs.Counting.{anyBelow}
@@ -16,9 +16,8 @@ use Rattle.consistency.specs.Consistency.{places, Sheet, answer, backed}
 use Rattle.calls.specs.Calls.{Result, turned, done, replacesBacked, setAnswer, setPhotograph, onAnswered, entered, withdrawn, photographed, anyBacked, stored}
 use Rattle.sheet.specs.Opened.{opening}
 use Rattle.sheet.proofs.Openings.{fields-count, fields-few, codes-at, codes-few, opening-good, on-ready, on-turned, IsOpen}
-use Rattle.consistency.proofs.Booleans.{T-ext, T-true, any-in, any-out}
 use Rattle.consistency.proofs.Elements.{answer-at}
-use Rattle.calls.proofs.Faults.{fault-free, backed-known}
+use Rattle.calls.proofs.Faults.{fault-free, any-known}
 
 -- what the code reads of a field's place is the answer
 held : (bytes : List ℕ) (s : Sheet) (f list fields : ℕ) → IsOpen bytes s list fields → length (s .answers) ≡ places → f < fields
@@ -154,13 +153,10 @@ module _ (bytes : List ℕ) (s : Sheet) (o : List ℕ) where
     -- only fields have photographs, since no place is at fault
     any-fields : anyBelow fields (backed s) ≡ anyBacked s
     any-fields =
-        let b : Book = bookOf bytes in
-        let few : fields ≤ places = fields-few bytes list fields (p .at) in
-        let count : length (b .counts) ≡ fields = fields-count bytes list fields (p .at) in
-        T-ext (λ t. let k = any-out fields (backed s) t in any-in places (backed s) (k .0) (omega (arith, few, k .1)) (k .2)) (λ t.
-        let k = any-out places (backed s) t in
-        let known = backed-known b s (fault-free b s (opening-good bytes s (p .passes))) (k .0) (k .1) (T-true (k .2)) in
-        any-in fields (backed s) (k .0) (omega (arith, known, count)) (k .2))
+        let count : length (bookOf bytes .counts) ≡ fields = fields-count bytes list fields (p .at) in
+        let w = fault-free (bookOf bytes) s (opening-good bytes s (p .passes)) in
+        subst (λ (n : ℕ). anyBelow n (backed s) ≡ anyBacked s) count
+        (any-known (bookOf bytes) s w (omega (arith, count, fields-few bytes list fields (p .at))))
 
     -- some field is photographed
     pub stored-22 : anyBelow fields (backed s) ≡ true → turned 0 s o 22 0 ≡ stored bytes s o

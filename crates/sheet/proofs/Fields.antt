@@ -13,10 +13,11 @@ use Rattle.consistency.specs.Consistency.{Subdomain, Sheet, codes, relax}
 use Rattle.consistency.specs.Largest.{largest}
 use Rattle.consistency.specs.Emptiness.{noneEmpty}
 use Rattle.consistency.specs.Counts.{codesIn, inDoubt, listed, total, Line, linesOf, lines, lineBytes}
+use Rattle.consistency.proofs.Members.{join-append}
 use Rattle.consistency.proofs.Sums.{length-those, length-join, sum-over-ext, those-and}
 use Rattle.consistency.proofs.Lines.{length-line-bytes}
 use Rattle.consistency.proofs.EmptyFields.{listed-many}
-use Rattle.sheet.proofs.Upward.{those-more, those-same, rises, sum-append, join-append, line-bytes-append}
+use Rattle.sheet.proofs.Upward.{those-more, those-same, rises, sum-append, line-bytes-append}
 
 -- ---- the answered fields without a photograph below n
 

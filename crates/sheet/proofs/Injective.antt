@@ -8,7 +8,7 @@ use Rattle.format.specs.Reading.{Outcome}
 use Rattle.book.specs.declared.Refusal.the-variants as book
 use Rattle.sheet.specs.Shown.{numberOf, shown, shownListing, shownRow, shownReading}
 use Rattle.sheet.specs.declared.Reason.{Reason}
-use Rattle.sheet.specs.declared.Reason.the-variants.{Book, Fault, Field, Code, NoAnswer, Room, Length, Table, Photographed, Readings}
+use Rattle.sheet.specs.declared.Reason.the-variants.{Book, Fault, Field, Code, NoAnswer, Room, Length, Table, Photographed, Readings, Form}
 use Rattle.sheet.specs.declared.Answer.{Answer}
 use Rattle.sheet.specs.declared.Answer.the-variants.{Done, Refused}
 use Rattle.sheet.specs.declared.Listing.{Listing}
@@ -18,13 +18,13 @@ use Rattle.sheet.specs.declared.RowAnswer.the-variants.{Row, NoRow, Unsh
 use Rattle.sheet.specs.declared.ReadingAnswer.{ReadingAnswer}
 use Rattle.sheet.specs.declared.ReadingAnswer.the-variants.{Reading, NoReading, Unread}
 
--- the reason of a number from 1 to 19 and from 21 to 23
+-- the reason of a number from 1 to 19 and from 21 to 24
 reasonOf : ℕ → Reason
 reasonOf n =
     getD
     (Length ∷ Book book.Length ∷ Book book.Closing ∷ Book book.Version ∷ Book book.FieldCount ∷ Book book.TableCount
     ∷ Book book.ListPlace ∷ Book book.CodeCount ∷ Book book.Short ∷ Book book.Arity ∷ Book book.FieldNumber ∷ Book book.Code
-    ∷ Book book.RowCount ∷ Book book.LeftOver ∷ Fault ∷ Field ∷ Code ∷ NoAnswer ∷ Room ∷ Length ∷ Length ∷ Table ∷ Photographed ∷ Readings ∷ [])
+    ∷ Book book.RowCount ∷ Book book.LeftOver ∷ Fault ∷ Field ∷ Code ∷ NoAnswer ∷ Room ∷ Length ∷ Length ∷ Table ∷ Photographed ∷ Readings ∷ Form ∷ [])
     n Length
 
 -- a reason's number is not 0, and tells the reason
@@ -52,6 +52,7 @@ numbered Length = (omega arith, refl)
 numbered Table = (omega arith, refl)
 numbered Photographed = (omega arith, refl)
 numbered Readings = (omega arith, refl)
+numbered Form = (omega arith, refl)
 
 -- no refusal is shown as accepted
 pub number-some : (r : Reason) → 1 ≤ numberOf r

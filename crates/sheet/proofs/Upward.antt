@@ -1,7 +1,7 @@
 -- Tests, counts, sums, lists and lines over the numbers of which a test holds, one number more at a time. Assumes nothing.
 use mathlib.Core.Path.{_≡_, refl, sym, ap, _∙_}
 use mathlib.Core.Bool.{Bool, true, false}
-use mathlib.Core.List.{List, [], _∷_, _++_, map, map-append, append-nil, append-assoc}
+use mathlib.Core.List.{List, [], _∷_, _++_, map, map-append, append-nil}
 use mathlib.Core.Logic.{⊎-elim}
 use Prim.Native.Nat.{ℕ, zero, suc, _+_, _*_, _≤_, _<_}
 use native.Mathlib.Nat.{add-zero, le-refl, le-trans, le-add-right, eq-or-lt-of-le}
@@ -52,10 +52,6 @@ rises g h m (suc n) l =
 pub sum-append : (xs ys : List ℕ) (g : ℕ → ℕ) → sumOver (xs ++ ys) g ≡ sumOver xs g + sumOver ys g
 sum-append [] ys g = omega arith
 sum-append (x ∷ xs) ys g = omega (arith, sum-append xs ys g)
-
-pub join-append : {A : Type 0} (xs ys : List ℕ) (g : ℕ → List A) → joinOver (xs ++ ys) g ≡ joinOver xs g ++ joinOver ys g
-join-append [] ys g = refl
-join-append (x ∷ xs) ys g = ap (λ l. g x ++ l) (join-append xs ys g) ∙ sym (append-assoc (g x) (joinOver xs g) (joinOver ys g))
 
 pub line-bytes-append : (ls ms : List Line) → lineBytes (ls ++ ms) ≡ lineBytes ls ++ lineBytes ms
 line-bytes-append [] ms = refl

@@ -8,7 +8,7 @@ use Rattle.book.specs.Shown as book
 use Rattle.filter.specs.declared.Supporting.{Supporting}
 use Rattle.filter.specs.declared.Supporting.the-variants as filter
 use Rattle.sheet.specs.declared.Reason.{Reason}
-use Rattle.sheet.specs.declared.Reason.the-variants.{Book, Fault, Field, Code, NoAnswer, Room, Length, Table, Photographed, Readings}
+use Rattle.sheet.specs.declared.Reason.the-variants.{Book, Fault, Field, Code, NoAnswer, Room, Length, Table, Photographed, Readings, Form}
 use Rattle.sheet.specs.declared.Sheet.{Sheet}
 use Rattle.sheet.specs.declared.Answer.{Answer}
 use Rattle.sheet.specs.declared.Answer.the-variants.{Done, Refused}
@@ -35,6 +35,7 @@ numberOf Length = 19
 numberOf Table = 21
 numberOf Photographed = 22
 numberOf Readings = 23
+numberOf Form = 24
 
 -- what a sheet holds: its answers and its photographs
 abbrev pub heldBy : Sheet → consistency.Sheet

@@ -20,7 +20,7 @@ use opened::Opened;
 mod history;
 mod lists;
 mod masks;
-mod opened;
+pub mod opened;
 
 // For each place the answered code, or 255 for no answer, and whether a photograph backs the answer.
 pub struct Sheet {
@@ -28,7 +28,7 @@ pub struct Sheet {
     pub photographed: [bool; PLACES],
 }
 
-// Why a call is turned down: the reader's refusal of the book, 14 to 19, or 21 to 23. numberOf (specs) gives each the papers' number.
+// Why a call is turned down: the reader's refusal of the book, 14 to 19, or 21 to 24. numberOf (specs) gives each the papers' number.
 pub enum Reason {
     Book(Refusal),
     Fault,
@@ -40,6 +40,7 @@ pub enum Reason {
     Table,
     Photographed,
     Readings,
+    Form,
 }
 
 // The papers' number of a reason.
@@ -57,6 +58,7 @@ pub fn number(reason: Reason) -> u64
         Reason::Table => 21,
         Reason::Photographed => 22,
         Reason::Readings => 23,
+        Reason::Form => 24,
     }
 }
 
@@ -177,7 +179,7 @@ fn refuse_reading(sheet: Sheet, reason: Reason, place: usize) -> HandedReading
 }
 
 // Whether some field has a photograph. No place behind the fields of a sheet that passes 14 has one.
-fn any_photographed(photographed: [bool; PLACES], fields: usize) -> bool
+pub fn any_photographed(photographed: [bool; PLACES], fields: usize) -> bool
     requires { ⌜ fields ≤ places ⌝ }
     ensures { λ r. ⌜ r ≡ anyBelow fields (λ p. getD photographed p false) ⌝ }
 {

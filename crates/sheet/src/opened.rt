@@ -9,7 +9,7 @@ use book::Checked;
 use book::PLACES;
 
 // A book and a sheet that pass, with the numbers of a view of the book; or the first refusal and its place.
-pub(crate) enum Opened {
+pub enum Opened {
     Ready {
         list: usize,
         fields: usize,
@@ -33,7 +33,7 @@ fn seen(byte: u8, photographed: bool) -> u8
 }
 
 // The same of all places. Each call makes them for itself and not in `open`, which then is short enough to stand in each call.
-pub(crate) fn seen_bytes(answers: [u8; PLACES], photographed: [bool; PLACES]) -> [u8; PLACES]
+pub fn seen_bytes(answers: [u8; PLACES], photographed: [bool; PLACES]) -> [u8; PLACES]
     ensures { λ r. ⌜ r ≡ seenBytes (sheetWith answers photographed) ⌝ }
 {
     let mut bytes = [0; PLACES];
@@ -83,7 +83,7 @@ pub(crate) fn first_fault(book: &[u8], list: usize, fields: usize, bytes: [u8; P
 }
 
 // 1 to 13, then 14 of the sheet in which these bytes are seen.
-pub(crate) fn open(book: &[u8], bytes: [u8; PLACES]) -> Opened
+pub fn open(book: &[u8], bytes: [u8; PLACES]) -> Opened
     ensures { λ r. ⌜ ((s : Sheet) → bytes ≡ seenBytes s → Opens (now (book .entry)) s r) ⌝ }
 {
     let checked = book::check(book);

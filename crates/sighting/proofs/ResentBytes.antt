@@ -12,7 +12,8 @@ use Rattle.calls.specs.Calls.{Result, done, entered}
 use Rattle.calls.proofs.Sheets.{accepted-within}
 use Rattle.calls.proofs.Held.{enter-held}
 use Rattle.sheet.proofs.Fronts.{at-table}
-use Rattle.sighting.specs.Exported.{sheetIn, flagByte, sheetBytes, bytesAfter, Flagged, ResentStays}
+use Rattle.calls.specs.Short.{flagByte}
+use Rattle.sighting.specs.Exported.{sheetIn, sheetBytes, bytesAfter, Flagged, ResentStays}
 use Rattle.sighting.proofs.SheetBytes.{halves-all}
 
 -- 0 and 1 are written as they were read

@@ -14,7 +14,8 @@ use Rattle.consistency.specs.Consistency.{places, Sheet, sheetWith, answer, bac
 use Rattle.consistency.proofs.Elements.{answer-at}
 use Rattle.consistency.proofs.Sums.{length-tabulate}
 use Rattle.sheet.proofs.Fronts.{at-table}
-use Rattle.sighting.specs.Exported.{sheetIn, flagByte, sheetBytes}
+use Rattle.calls.specs.Short.{flagByte}
+use Rattle.sighting.specs.Exported.{sheetIn, sheetBytes}
 
 -- ---- an array whose halves are filled together
 

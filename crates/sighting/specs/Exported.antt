@@ -3,7 +3,7 @@
 use Prim.Native.Nat.{ℕ, _+_, _≤_, _<_}
 use mathlib.Core.Path.{_≡_}
 use mathlib.Core.Logic.{_≢_}
-use mathlib.Core.Bool.{Bool, not}
+use mathlib.Core.Bool.{not}
 use mathlib.Core.List.{List, _∷_, _++_}
 use lib.ListN.{length, getD, drop}
 use lib.Dec.{eqb}
@@ -13,6 +13,7 @@ use Rattle.format.specs.Writing.{Reply}
 use Rattle.consistency.specs.Counting.{tabulate}
 use Rattle.consistency.specs.Consistency.{places, Sheet, sheetWith, answer, backed}
 use Rattle.calls.specs.Calls.{Result, entered}
+use Rattle.calls.specs.Short.{flagByte}
 use Rattle.calls.specs.Photographs.{OnField}
 
 -- the cells that are lent for an outcome
@@ -29,9 +30,6 @@ pub record Tells (number : ℕ) (cells : List ℕ) (o : Outcome) : Type 0 where
 -- the sheet that these bytes hold: a byte that is not 0 counts as a photograph
 abbrev pub sheetIn : List ℕ → Sheet
 sheetIn l = sheetWith (tabulate (λ f. getD l f 0) places 0) (tabulate (λ f. not (eqb (getD l (places + f) 0) 0)) places 0)
-
-abbrev pub flagByte : Bool → ℕ
-flagByte p = pick p 1 0
 
 -- the bytes that a call writes for a sheet: a photograph is 1, none is 0
 abbrev pub sheetBytes : Sheet → List ℕ

@@ -3,6 +3,7 @@ ghost use mathlib.Core.List.{List, [], _∷_};
 ghost use Prim.Native.Nat.{ℕ};
 ghost use Rattle.format.specs.Reading.{accepted, refused};
 ghost use Rattle.sheet.specs.Shown.{numberOf, shown, shownListing, shownRow, shownReading, resultOf, listResultOf};
+ghost use Rattle.short.specs.Shown.{shownForm};
 ghost use Rattle.sighting.specs.Exported.{Tells, Changes, Makes};
 use super::sheets::SHEET_BYTES;
 use super::sheets::put;
@@ -13,6 +14,7 @@ use sheet::Listing;
 use sheet::ReadingAnswer;
 use sheet::Reason;
 use sheet::RowAnswer;
+use short::Written;
 
 // The answer of a call that counts nothing.
 pub(crate) fn tell(answer: Answer, outcome: &mut [u64; 1]) -> u64
@@ -140,4 +142,17 @@ pub(crate) fn tell_declined(number: u64, place: usize, outcome: &mut [u64; 2]) -
 {
     *outcome = [place as u64, 0];
     number
+}
+
+// The answer of a call that writes a form of a sheet: how many bytes, or its refusal.
+pub(crate) fn tell_form(written: Written, outcome: &mut [u64; 2]) -> u64
+    ensures { λ r. ⌜ Tells r (now (outcome .exit)) (shownForm written) ⌝ }
+{
+    match written {
+        Written::Bytes(count) => tell_written(count, outcome),
+        Written::Unwritten(reason, place) => {
+            let number = sheet::number(reason);
+            tell_declined(number, place, outcome)
+        }
+    }
 }

@@ -10,6 +10,7 @@ ghost use Rattle.format.specs.Reading.{reading};
 ghost use Rattle.format.specs.Writing.{into, showing, writing};
 ghost use Rattle.format.specs.WriteAndShow.{HasListing};
 ghost use Rattle.calls.specs.Calls.{freshSheet, cleared, entered, withdrawn, photographed, filtered, alternatives, loaded, stored, rowBehind, nearestReading};
+ghost use Rattle.calls.specs.Short.{loadedShort, storedShort, shortened, lengthened};
 ghost use Rattle.calls.specs.Histories.{sheetAfter, callsIn};
 ghost use Rattle.report.specs.Text.{reportText};
 ghost use Rattle.sheet.specs.Replayed.{Replayed};
@@ -20,6 +21,7 @@ use handed::hand;
 use handed::hand_list;
 use handed::tell;
 use handed::tell_declined;
+use handed::tell_form;
 use handed::tell_list;
 use handed::tell_reading;
 use handed::tell_row;
@@ -254,6 +256,64 @@ pub extern "C" fn sighting_store(
     let handed = given.store(book, out);
     let answer = handed.answer;
     tell(answer, outcome)
+}
+
+// Reads the short form of a sheet, photographs included; a refusal leaves a fresh one. Cells: place.
+#[no_mangle]
+pub extern "C" fn sighting_load_short(
+    sheet: &mut [u8; SHEET_BYTES],
+    book: &[u8],
+    form: &[u8],
+    outcome: &mut [u64; 1],
+) -> u64
+    ensures answer { λ r. ⌜ Exports r (now (outcome .exit)) (now (sheet .exit)) [] (loadedShort (now (book .entry)) (now (form .entry))) ⌝ }
+    ensures bytes { λ _. ⌜ now (sheet .exit) ≡ sheetBytes (loadedShort (now (book .entry)) (now (form .entry)) .sheet) ⌝ }
+{
+    hand(short::load(book, form), sheet, outcome)
+}
+
+// Writes the short form of a sheet, photographs included. Cells: place, bytes written.
+#[no_mangle]
+pub extern "C" fn sighting_store_short(
+    sheet: &[u8; SHEET_BYTES],
+    book: &[u8],
+    out: &mut [u8],
+    outcome: &mut [u64; 2],
+) -> u64
+    ensures { λ r. ⌜ Exports r (now (outcome .exit)) (now (sheet .entry)) (now (out .exit)) (storedShort (now (book .entry)) (sheetIn (now (sheet .entry))) (now (out .entry))) ⌝ }
+{
+    let given = held(*sheet);
+    let handed = short::store(given, book, out);
+    let answer = handed.answer;
+    tell_form(answer, outcome)
+}
+
+// Moves the stored form of a sheet to the short form. Cells: place, bytes written.
+#[no_mangle]
+pub extern "C" fn sighting_shorten(
+    book: &[u8],
+    form: &[u8],
+    out: &mut [u8],
+    outcome: &mut [u64; 2],
+) -> u64
+    ensures { λ r. ⌜ Replies r (now (outcome .exit)) (now (out .exit)) (shortened (now (book .entry)) (now (form .entry)) (now (out .entry))) ⌝ }
+{
+    let written = short::shorten(book, form, out);
+    tell_form(written, outcome)
+}
+
+// Moves the short form of a sheet without photographs to the stored form. Cells: place, bytes written.
+#[no_mangle]
+pub extern "C" fn sighting_lengthen(
+    book: &[u8],
+    form: &[u8],
+    out: &mut [u8],
+    outcome: &mut [u64; 2],
+) -> u64
+    ensures { λ r. ⌜ Replies r (now (outcome .exit)) (now (out .exit)) (lengthened (now (book .entry)) (now (form .entry)) (now (out .entry))) ⌝ }
+{
+    let written = short::lengthen(book, form, out);
+    tell_form(written, outcome)
 }
 
 // A list of calls from a fresh sheet, then the alternatives of the sheet so reached, which is handed back. Cells: place, total, struck.

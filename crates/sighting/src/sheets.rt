@@ -1,7 +1,8 @@
 // A sheet as the bytes that a caller holds: the answers, then for each place whether it has a photograph.
 ghost use mathlib.Core.Path.{_≡_};
+ghost use Rattle.calls.specs.Short.{flagByte};
 ghost use Rattle.sheet.specs.Shown.{heldBy};
-ghost use Rattle.sighting.specs.Exported.{flagByte, sheetIn, Holds};
+ghost use Rattle.sighting.specs.Exported.{sheetIn, Holds};
 use book::PLACES;
 use sheet::Sheet;
 

@@ -6,7 +6,8 @@ use lib.ListN.{length}
 use Rattle.consistency.specs.Consistency.{places, sheetWith, answer, backed}
 use Rattle.consistency.proofs.Elements.{answer-at}
 use Rattle.sheet.specs.Shown.{heldBy}
-use Rattle.sighting.specs.Exported.{flagByte, sheetIn}
+use Rattle.calls.specs.Short.{flagByte}
+use Rattle.sighting.specs.Exported.{sheetIn}
 use Rattle.sighting.proofs.SheetBytes.{Halves, halves-none, halves-more, halves-all, bytes-hold}
 use borrow.Author.Needs.{needs}
 use Rattle.sighting.proofs.sheets.put.Statement.{statement}

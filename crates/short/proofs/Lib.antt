@@ -1,0 +1,4 @@
+pub mod ReadTurns
+pub mod WriteTurns
+pub mod LoadCases
+pub mod MoveCases
