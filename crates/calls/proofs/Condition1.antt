@@ -21,11 +21,11 @@ use Rattle.consistency.specs.Consistency.{places, Sheet, codes, nth, answer, ba
 use Rattle.consistency.specs.Counts.{total}
 use Rattle.consistency.specs.Rows.{hasField}
 use Rattle.consistency.specs.Nearest.{product, readingLimit}
-use Rattle.consistency.proofs.Booleans.{true-T, false-T, T-true, T-false, any-in, any-out}
+use Rattle.consistency.proofs.Booleans.{true-T, false-T, T-true, any-out}
 use Rattle.consistency.proofs.FirstRows.{has-field}
 use Rattle.calls.specs.Calls.{Result, turned, done, beside, faultOf, onSheet, replacesBacked, anyBacked, masksInto, sheetFrom, entered, withdrawn, photographed, filtered, alternatives, loaded, stored, rowBehind, nearestReading}
 use Rattle.calls.specs.Short.{shortOf, isShort, codeFault, sheetFromShort, loadedShort, storedShort, moved, shortened, lengthened}
-use Rattle.calls.specs.Conditions.{Request, to-read, to-fresh, to-enter, to-withdraw, to-photograph, to-clear, to-filter, to-list, to-store, to-load, to-store-short, to-load-short, to-shorten, to-lengthen, to-row, to-nearest, to-show, to-write, resultOf, givenBook, sheetGiven, lentTo, countsOf, FirstFault, NoFault, NoPhotograph, NotInTable, ReadsShort, Refusal, enter-14, enter-15, enter-16, enter-22, withdraw-14, withdraw-15, withdraw-17, withdraw-22, photograph-14, photograph-15, photograph-17, filter-14, filter-15, filter-17, filter-18, list-14, list-18, store-14, store-22, store-18, load-19, load-14, store-short-14, store-short-18, load-short-24, load-short-14, shorten-19, shorten-14, shorten-18, lengthen-24, lengthen-14, lengthen-22, lengthen-18, row-14, row-15, row-16, row-21, nearest-14, nearest-23, nearest-18, show-18, WriteRefusal, write-missing, write-left-over, write-too-large, write-unread, write-18, RefusedBy, the-book, the-call, the-listing, IsRefusal, Condition1}
+use Rattle.calls.specs.Conditions.{Request, to-read, to-fresh, to-enter, to-withdraw, to-photograph, to-clear, to-filter, to-list, to-store, to-load, to-store-short, to-load-short, to-shorten, to-lengthen, to-row, to-nearest, to-show, to-write, resultOf, givenBook, sheetGiven, lentTo, countsOf, FirstFault, NoFault, NotInTable, ReadsShort, Refusal, enter-14, enter-15, enter-16, enter-22, withdraw-14, withdraw-15, withdraw-17, withdraw-22, photograph-14, photograph-15, photograph-17, filter-14, filter-15, filter-17, filter-18, list-14, list-18, store-14, store-22, store-18, load-19, load-14, store-short-14, store-short-18, load-short-24, load-short-14, shorten-19, shorten-14, shorten-18, lengthen-24, lengthen-14, lengthen-22, lengthen-18, row-14, row-15, row-16, row-21, nearest-14, nearest-23, nearest-18, show-18, WriteRefusal, write-missing, write-left-over, write-too-large, write-unread, write-18, RefusedBy, the-book, the-call, the-listing, IsRefusal, Condition1}
 use Rattle.calls.proofs.Faults.{first-fault, fault-free, backed-known, none-backed}
 use Rattle.calls.proofs.CallLaws.{pick-cases, fault-holds, book-holds, sheet-holds}
 use Rattle.calls.proofs.Held.{other-code}

@@ -1,12 +1,12 @@
 -- The calls with the short form: what an accepted one says, and that the ways there and back give the same bytes and the same sheet. Assumes nothing.
 use Prim.Native.Nat.{ℕ, _≤_, _<_}
 use mathlib.Core.Path.{_≡_, refl, sym, ap, _∙_, subst}
-use mathlib.Core.Logic.{_↔_, _≢_}
-use mathlib.Core.List.{List, [], _∷_, _++_}
-use mathlib.Core.Bool.{Bool, true, false}
+use mathlib.Core.Logic.{_↔_}
+use mathlib.Core.List.{List, [], _∷_}
+use mathlib.Core.Bool.{true, false}
 use native.Mathlib.Omega.{arith}
-use borrow.Author.Tests.{ltb-false, le-ltb, eqb-true, eqb-false, eq-eqb, ne-eqb}
-use lib.ListN.{length, getD, take, replicate, length-append, length-replicate}
+use borrow.Author.Tests.{ltb-false, le-ltb, eqb-true, eqb-false, eq-eqb}
+use lib.ListN.{length, getD, take, length-append, length-replicate}
 use lib.Seq.{length-take-le, take-at}
 use lib.Dec.{ltb, eqb}
 use Rattle.format.specs.Basics.{pick}
@@ -17,7 +17,7 @@ use Rattle.format.proofs.Accepted.{accepted-verdict, verdict-accepted}
 use Rattle.format.proofs.Replies.{into-whole, into-written}
 use Rattle.consistency.specs.Consistency.{places, Sheet, codes, backed}
 use Rattle.consistency.specs.Alike.{Alike}
-use Rattle.consistency.proofs.Booleans.{true-T, false-T, T-true, T-false, any-in, any-out}
+use Rattle.consistency.proofs.Booleans.{true-T, T-true, any-in}
 use Rattle.calls.specs.Calls.{Result, freshSheet, turned, done, beside, faultOf, sheetFrom, anyBacked, loaded}
 use Rattle.calls.specs.Short.{shortOf, isShort, codeFault, sheetFromShort, loadedShort, storedShort, moved, shortened, lengthened}
 use Rattle.calls.specs.Histories.{Call, answersAfter, sheetOf, sheetAfter}

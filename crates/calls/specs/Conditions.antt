@@ -22,7 +22,7 @@ use Rattle.consistency.specs.Alike.{Alike}
 use Rattle.consistency.specs.Ties.{FieldIn}
 use Rattle.consistency.specs.Nearest.{product, readingLimit}
 use Rattle.calls.specs.Calls.{Result, freshSheet, done, beside, placeOk, sheetFrom, entered, withdrawn, photographed, cleared, filtered, alternatives, loaded, stored, rowBehind, nearestReading}
-use Rattle.calls.specs.Short.{shortOf, sheetFromShort, loadedShort, storedShort, shortened, lengthened}
+use Rattle.calls.specs.Short.{shortOf, loadedShort, storedShort, shortened, lengthened}
 use Rattle.calls.specs.Histories.{Call, Answers, given, doubtful, noAnswers, answersAfter, refusalsFrom, sheetOf, results, sheetAfter}
 
 -- ---- Condition 1: "The answer to any bytes, sheet and call is the one that document 01 defines" is the contracts of the calls;

@@ -11,7 +11,7 @@ use Rattle.format.specs.Basics.{pick}
 use Rattle.format.specs.Format.{codeLimit}
 use Rattle.consistency.specs.Counting.{those, joinOver, tabulate}
 use Rattle.consistency.specs.Counts.{answered, Line, bit}
-use Rattle.sheet.proofs.Upward.{join-append}
+use Rattle.consistency.proofs.Members.{join-append}
 use Rattle.report.specs.Text.{spaced, linesText}
 use Rattle.report.specs.Writes.{Room, Puts, pairLines, maskLines, openIn}
 use Rattle.consistency.proofs.Elements.{answer-at}

@@ -11,7 +11,7 @@ use lib.ListN.{length, set, length-map}
 use lib.Seq.{sets, length-sets}
 use Rattle.format.specs.Basics.{pick}
 use Rattle.format.proofs.Storing.{sets-append}
-use Rattle.consistency.specs.Counting.{anyBelow, howMany, those, sumOver, joinOver}
+use Rattle.consistency.specs.Counting.{anyBelow, howMany, those, sumOver}
 use Rattle.consistency.specs.Counts.{Line, lineBytes}
 use Rattle.consistency.proofs.Booleans.{true-T, T-true, any-in}
 use Rattle.consistency.proofs.Sums.{length-those}

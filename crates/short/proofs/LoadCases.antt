@@ -4,7 +4,6 @@ use mathlib.Core.Bool.{Bool, true, false, not}
 use mathlib.Core.List.{List, []}
 use Prim.Native.Nat.{ℕ, _≤_, _<_}
 use borrow.Author.Tests.{lt-ltb, le-ltb, not-true, not-false}
-use lib.ListN.{length}
 use Rattle.format.specs.Format.{bookOf}
 use Rattle.format.specs.Reading.{fail, verdict}
 use Rattle.format.specs.Writing.{into}

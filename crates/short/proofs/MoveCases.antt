@@ -8,17 +8,16 @@ use native.Mathlib.Omega.{arith}
 use borrow.Author.Tests.{ne-eqb}
 use lib.ListN.{length, getD, take, drop}
 use lib.Seq.{length-take-le}
-use lib.Dec.{eqb}
 use Rattle.format.specs.Basics.{pick}
-use Rattle.format.specs.Format.{Book, bookOf}
-use Rattle.format.specs.Reading.{Outcome, accepted, Accepted}
+use Rattle.format.specs.Format.{bookOf}
+use Rattle.format.specs.Reading.{Outcome, accepted}
 use Rattle.format.specs.Writing.{Reply, declined, into}
 use Rattle.format.proofs.Accepted.{verdict-accepted}
 use Rattle.format.proofs.Copying.{copied-whole}
 use Rattle.format.proofs.Replies.{into-short, into-whole}
 use Rattle.consistency.specs.Counting.{anyBelow}
 use Rattle.consistency.specs.Consistency.{places, Sheet, backed}
-use Rattle.calls.specs.Calls.{Result, faultOf, anyBacked, loaded}
+use Rattle.calls.specs.Calls.{Result, anyBacked, loaded}
 use Rattle.calls.specs.Short.{shortOf, sheetFromShort, loadedShort, moved, shortened, lengthened}
 use Rattle.calls.specs.Conditions.{ShortLayout, NoFault}
 use Rattle.calls.specs.ShortForms.{fieldsOf}
@@ -30,7 +29,6 @@ use Rattle.calls.proofs.ShortLayouts.{layout-of}
 use Rattle.calls.proofs.ShortCalls.{Reads, load-accepted, loaded-sheet, there, back, shorten-on, lengthen-on}
 use Rattle.sheet.specs.Shown.{numberOf, heldBy, shown, resultOf}
 use Rattle.sheet.specs.declared.Reason.{Reason}
-use Rattle.sheet.specs.declared.Answer.{Answer}
 use Rattle.sheet.specs.declared.Answer.the-variants.{Done, Refused}
 use Rattle.sheet.specs.declared.Handed.{Handed}
 use Rattle.sheet.proofs.Injective.{number-some}

@@ -8,74 +8,53 @@ use Rattle.short.proofs.MoveCases.{lengthen-refused, some-bytes, fields
 use borrow.Author.Needs.{needs}
 use Rattle.short.proofs.lengthen.Statement.{statement}
 use Rattle.short.proofs.lengthen.Tie as tie
-use Rattle.short.proofs.lengthen.Reads as reads
-use Rattle.short.proofs.lengthen.Lts as lts
-use Rattle.book.proofs.copy.Reads as copy-reads
-use Rattle.sheet.proofs.any_photographed.Reads as any-photographed-reads
-use Rattle.short.proofs.forms.wide.Reads as wide-reads
-use Rattle.short.proofs.load.Reads as load-reads
 
--- src/lib.rt:119:9
 load-requires : tie.Need-load-requires
 load-requires c κs = search needs
 
--- src/lib.rt:122:25
 enum-known-answer : tie.Need-enum-known-answer
 enum-known-answer c = search needs
 
--- src/lib.rt:124:17
 enum-told : tie.Need-enum-told
 enum-told c = search needs
 
--- src/lib.rt:127:43
 sub-wide : tie.Need-sub-wide
 sub-wide c = omega (arith, some-bytes (c .before .before .before .before .before .before .before .before .before .args .book .now) (c .before .before .before .before .before .before .before .before .before .args .form .now) (c .before .before .before .before .before .before .before .before .before .args .out .now) _ (c .before .before .before .before .before .load .ensures) (c .before .before .before .enum-told .given .1))
 
--- src/lib.rt:127:38
 shared-slice-read-wide : tie.Need-shared-slice-read-wide
 shared-slice-read-wide c = omega (arith, some-bytes (c .before .before .before .before .before .before .before .before .before .before .args .book .now) (c .before .before .before .before .before .before .before .before .before .before .args .form .now) (c .before .before .before .before .before .before .before .before .before .before .args .out .now) _ (c .before .before .before .before .before .before .load .ensures) (c .before .before .before .before .enum-told .given .1))
 
--- src/lib.rt:127:17
 wide-requires : tie.Need-wide-requires
 wide-requires c κs = search needs
 
--- src/lib.rt:128:16
 any-photographed-requires : tie.Need-any-photographed-requires
 any-photographed-requires c κs = fields-fit (c .before .before .before .before .before .before .before .before .before .before .before .args .book .now) (c .before .before .before .before .before .before .before .before .before .before .before .args .form .now) (c .before .before .before .before .before .before .before .before .before .before .before .args .out .now) _ (c .before .before .before .before .before .before .before .load .ensures) (c .before .before .before .before .before .enum-told .given .1) _ (c .wide .ensures)
 
--- src/lib.rt:129:17
 returns : tie.Need-returns
 returns c = lengthen-22 (c .before .before .before .before .before .before .before .before .before .before .before .before .before .args .book .now) (c .before .before .before .before .before .before .before .before .before .before .before .before .before .args .form .now) (c .before .before .before .before .before .before .before .before .before .before .before .before .before .args .out .now) _ (c .before .before .before .before .before .before .before .before .before .load .ensures) (c .before .before .before .before .before .before .before .enum-told .given .1) _ (c .before .before .wide .ensures) (sym (c .before .any-photographed .ensures) ∙ c .if1 .taken)
 
--- src/lib.rt:132:17
 returns-2 : tie.Need-returns-2
 returns-2 c = lengthen-18 (c .before .before .before .before .before .before .before .before .before .before .before .before .before .before .args .book .now) (c .before .before .before .before .before .before .before .before .before .before .before .before .before .before .args .form .now) (c .before .before .before .before .before .before .before .before .before .before .before .before .before .before .args .out .now) _ (c .before .before .before .before .before .before .before .before .before .before .load .ensures) (c .before .before .before .before .before .before .before .before .enum-told .given .1) _ (c .before .before .before .wide .ensures) (sym (c .before .before .any-photographed .ensures) ∙ c .before .if1 .left) (search needs) (c .if2 .taken)
 
--- src/lib.rt:134:24
 array-share-prefix-answers : tie.Need-array-share-prefix-answers
 array-share-prefix-answers c = let few = fields-fit (c .before .before .before .before .before .before .before .before .before .before .before .before .before .before .args .book .now) (c .before .before .before .before .before .before .before .before .before .before .before .before .before .before .args .form .now) (c .before .before .before .before .before .before .before .before .before .before .before .before .before .before .args .out .now) _ (c .before .before .before .before .before .before .before .before .before .before .load .ensures) (c .before .before .before .before .before .before .before .before .enum-told .given .1) _ (c .before .before .before .wide .ensures) in
     let long : length (c .before .before .before .before .before .before .before .before .before .before .load .result .sheet .answers) ≡ places = search needs in
     omega arith
 
--- src/lib.rt:134:24
 slice-aggregate-copy : tie.Need-slice-aggregate-copy
 slice-aggregate-copy c = let few = fields-fit (c .before .before .before .before .before .before .before .before .before .before .before .before .before .before .before .args .book .now) (c .before .before .before .before .before .before .before .before .before .before .before .before .before .before .before .args .form .now) (c .before .before .before .before .before .before .before .before .before .before .before .before .before .before .before .args .out .now) _ (c .before .before .before .before .before .before .before .before .before .before .before .load .ensures) (c .before .before .before .before .before .before .before .before .before .enum-told .given .1) _ (c .before .before .before .before .wide .ensures) in
     let long : length (c .before .before .before .before .before .before .before .before .before .before .before .load .result .sheet .answers) ≡ places = search needs in
     sym (length-take-le _ (c .before .before .before .before .before .before .before .before .before .before .before .load .result .sheet .answers) (omega arith))
 
--- src/lib.rt:134:13
 copy-requires : tie.Need-copy-requires
 copy-requires c κs = search needs
 
--- src/lib.rt:116:1
 returns-3 : tie.Need-returns-3
 returns-3 c = lengthen-refused (c .before .before .before .before .before .before .before .args .book .now) (c .before .before .before .before .before .before .before .args .form .now) (c .before .before .before .before .before .before .before .args .out .now) _ (c .before .before .before .load .ensures) _ _ (c .before .answer .given .1)
 
--- src/lib.rt:116:1
 same-length : tie.Need-same-length
 same-length c = search needs
 
--- src/lib.rt:116:1
 returns-4 : tie.Need-returns-4
 returns-4 c = lengthen-done (c .before .before .before .before .before .before .before .before .before .before .before .before .before .before .before .before .before .before .before .args .book .now) (c .before .before .before .before .before .before .before .before .before .before .before .before .before .before .before .before .before .before .before .args .form .now) (c .before .before .before .before .before .before .before .before .before .before .before .before .before .before .before .before .before .before .before .args .out .now) _ (c .before .before .before .before .before .before .before .before .before .before .before .before .before .before .before .load .ensures) (c .before .before .before .before .before .before .before .before .before .before .before .before .before .enum-told .given .1) _ (c .before .before .before .before .before .before .before .before .wide .ensures) (sym (c .before .before .before .before .before .before .before .any-photographed .ensures) ∙ c .before .before .before .before .before .before .if1 .left) (search needs) (c .before .before .before .before .before .if2 .left) _ (c .before .before .copy .ensures)
 

@@ -4,67 +4,46 @@ use Rattle.book.proofs.Checks.{checks-bad}
 use Rattle.sheet.proofs.Openings.{checks-good}
 use Rattle.short.proofs.LoadCases.{loaded-book, loaded-24, form-ok, is-form, loaded-14, loaded-done}
 use borrow.Author.Needs.{needs}
-use native.Mathlib.Omega.{arith}
 use Rattle.short.proofs.load.Statement.{statement}
 use Rattle.short.proofs.load.Tie as tie
-use Rattle.short.proofs.load.Reads as reads
-use Rattle.short.proofs.load.Lts as lts
-use Rattle.book.proofs.check.Reads as check-reads
-use Rattle.short.proofs.forms.code_fault.Reads as code-fault-reads
-use Rattle.short.proofs.forms.is_short.Reads as is-short-reads
-use Rattle.short.proofs.forms.said.Reads as said-reads
-use Rattle.short.proofs.refuse.Reads as refuse-reads
 
--- src/lib.rt:46:9
 check-requires : tie.Need-check-requires
 check-requires c κs = search needs
 
--- src/lib.rt:48:26
 enum-known-checked : tie.Need-enum-known-checked
 enum-known-checked c = search needs
 
--- src/lib.rt:48:42
 refuse-requires : tie.Need-refuse-requires
 refuse-requires c κs = search needs
 
--- src/lib.rt:50:13
 enum-known-checked-2 : tie.Need-enum-known-checked-2
 enum-known-checked-2 c = search needs
 
--- src/lib.rt:55:17
 is-short-requires : tie.Need-is-short-requires
 is-short-requires c κs = search needs
 
--- src/lib.rt:56:17
 refuse-requires-2 : tie.Need-refuse-requires-2
 refuse-requires-2 c κs = search needs
 
--- src/lib.rt:56:17
 returns : tie.Need-returns
 returns c = c .refuse2 .ensures ∙ loaded-24 _ _ _ _ (checks-good _ _ (c .before .before .before .before .before .before .check .ensures) _ _ _ _ (c .before .before .before .before .checked2 .given .1)) _ (c .before .before .is-short .ensures) (c .before .if1 .taken)
 
--- src/lib.rt:58:17
 code-fault-requires : tie.Need-code-fault-requires
 code-fault-requires c κs = let at = checks-good _ _ (c .before .before .before .before .before .check .ensures) _ _ _ _ (c .before .before .before .checked2 .given .1) in
     (at, form-ok _ _ _ _ at _ (c .before .is-short .ensures) (c .if1 .left))
 
--- src/lib.rt:60:17
 refuse-requires-3 : tie.Need-refuse-requires-3
 refuse-requires-3 c κs = search needs
 
--- src/lib.rt:60:17
 returns-2 : tie.Need-returns-2
 returns-2 c = c .refuse3 .ensures ∙ loaded-14 _ _ _ _ (checks-good _ _ (c .before .before .before .before .before .before .before .before .check .ensures) _ _ _ _ (c .before .before .before .before .before .before .checked2 .given .1)) _ (c .before .before .before .before .is-short .ensures) (c .before .before .before .if1 .left) _ (c .before .before .code-fault .ensures) (c .before .if2 .taken)
 
--- src/lib.rt:62:17
 said-requires : tie.Need-said-requires
 said-requires c κs = is-form _ _ _ _ (checks-good _ _ (c .before .before .before .before .before .before .before .check .ensures) _ _ _ _ (c .before .before .before .before .before .checked2 .given .1)) _ (c .before .before .before .is-short .ensures) (c .before .before .if1 .left)
 
--- src/lib.rt:43:1
 returns-3 : tie.Need-returns-3
 returns-3 c = c .refuse .ensures ∙ loaded-book _ _ _ _ (checks-bad _ _ (c .before .before .before .before .check .ensures) _ _ (c .before .before .checked .given .1))
 
--- src/lib.rt:43:1
 returns-4 : tie.Need-returns-4
 returns-4 c = loaded-done _ _ _ _ (checks-good _ _ (c .before .before .before .before .before .before .before .before .check .ensures) _ _ _ _ (c .before .before .before .before .before .before .checked2 .given .1)) _ (c .before .before .before .before .is-short .ensures) (c .before .before .before .if1 .left) _ (c .before .before .code-fault .ensures) (c .before .if2 .left) _ (c .said .ensures)
 

@@ -1,22 +1,16 @@
 -- `short::refuse` meets its contract. Assumes nothing.
-use mathlib.Core.Path.{_≡_, ap}
+use mathlib.Core.Path.{ap}
 use mathlib.Core.List.{[]}
 use Rattle.consistency.specs.Consistency.{Sheet}
 use Rattle.calls.specs.Calls.{turned}
 use Rattle.sheet.specs.Shown.{numberOf}
 use borrow.Author.Needs.{needs}
-use native.Mathlib.Omega.{arith}
 use Rattle.short.proofs.refuse.Statement.{statement}
 use Rattle.short.proofs.refuse.Tie as tie
-use Rattle.short.proofs.refuse.Reads as reads
-use Rattle.short.proofs.refuse.Lts as lts
-use Rattle.sheet.proofs.Sheet.fresh.Reads as fresh-reads
 
--- src/lib.rt:38:16
 fresh-requires : tie.Need-fresh-requires
 fresh-requires c κs = search needs
 
--- src/lib.rt:33:1
 returns : tie.Need-returns
 returns c = ap (λ (x : Sheet). turned 0 x [] (numberOf (c .before .args .reason)) (c .before .args .place)) (c .fresh .ensures)
 

@@ -1,49 +1,35 @@
 -- `short::store` meets its contract: each way through its tests. Assumes nothing.
-use mathlib.Core.Path.{_≡_, ap, _∙_}
+use mathlib.Core.Path.{ap, _∙_}
 use Rattle.calls.specs.Calls.{beside}
 use Rattle.sheet.specs.Shown.{heldBy}
 use Rattle.sheet.proofs.Openings.{fields-few, opens-ready, opens-turned}
 use Rattle.short.proofs.LoadCases.{stored-turned, stored-into}
 use borrow.Author.Needs.{needs}
-use native.Mathlib.Omega.{arith}
 use Rattle.short.proofs.store.Statement.{statement}
 use Rattle.short.proofs.store.Tie as tie
-use Rattle.short.proofs.store.Reads as reads
-use Rattle.short.proofs.store.Lts as lts
-use Rattle.sheet.proofs.opened.open.Reads as open-reads
-use Rattle.sheet.proofs.opened.seen_bytes.Reads as seen-bytes-reads
-use Rattle.short.proofs.entries.put.Reads as put-reads
 
--- src/lib.rt:77:44
 seen-bytes-requires : tie.Need-seen-bytes-requires
 seen-bytes-requires c κs = search needs
 
--- src/lib.rt:77:9
 open-requires : tie.Need-open-requires
 open-requires c κs = search needs
 
--- src/lib.rt:79:24
 enum-known-opened : tie.Need-enum-known-opened
 enum-known-opened c = search needs
 
--- src/lib.rt:85:13
 enum-known-opened-2 : tie.Need-enum-known-opened-2
 enum-known-opened-2 c = search needs
 
--- src/lib.rt:89:17
 put-requires : tie.Need-put-requires
 put-requires c κs = let o = opens-ready _ _ _ (c .before .before .before .before .«open» .ensures (heldBy (c .before .before .before .before .before .before .before .before .before .before .args .sheet)) (c .before .before .before .before .before .seen-bytes .ensures)) _ _ _ _ (c .before .before .opened2 .given .1) in
     fields-few _ _ _ (o .at)
 
--- src/lib.rt:72:1
 returns : tie.Need-returns
 returns c = stored-turned _ (heldBy (c .before .before .before .before .before .before .before .before .before .args .sheet)) _ _ _ (opens-turned _ _ _ (c .before .before .before .«open» .ensures (heldBy (c .before .before .before .before .before .before .before .before .before .args .sheet)) (c .before .before .before .before .seen-bytes .ensures)) _ _ (c .before .opened .given .1))
 
--- src/lib.rt:72:1
 same-length : tie.Need-same-length
 same-length c = search needs
 
--- src/lib.rt:72:1
 returns-2 : tie.Need-returns-2
 returns-2 c = let o = opens-ready _ _ _ (c .before .before .before .before .before .before .before .«open» .ensures (heldBy (c .before .before .before .before .before .before .before .before .before .before .before .before .before .args .sheet)) (c .before .before .before .before .before .before .before .before .seen-bytes .ensures)) _ _ _ _ (c .before .before .before .before .before .opened2 .given .1) in
     ap (beside (heldBy (c .before .before .before .before .before .before .before .before .before .before .before .before .before .args .sheet))) (c .before .before .put .ensures) ∙ stored-into _ _ _ _ _ o

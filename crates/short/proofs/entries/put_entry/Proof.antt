@@ -6,38 +6,28 @@ use Rattle.short.proofs.WriteTurns.{three-sets}
 use borrow.Author.Needs.{needs}
 use Rattle.short.proofs.entries.put_entry.Statement.{statement}
 use Rattle.short.proofs.entries.put_entry.Tie as tie
-use Rattle.short.proofs.entries.put_entry.Reads as reads
-use Rattle.short.proofs.entries.put_entry.Lts as lts
 
--- src/entries.rt:33:5
 slice-write-out : tie.Need-slice-write-out
 slice-write-out c = search needs
 
--- src/entries.rt:34:9
 add-out : tie.Need-add-out
 add-out c = search needs
 
--- src/entries.rt:34:5
 slice-write-out-2 : tie.Need-slice-write-out-2
 slice-write-out-2 c = simp length-set (omega (arith, (c .pre)))
 
--- src/entries.rt:35:9
 add-out-2 : tie.Need-add-out-2
 add-out-2 c = search needs
 
--- src/entries.rt:35:5
 slice-write-out-3 : tie.Need-slice-write-out-3
 slice-write-out-3 c = simp length-set (omega (arith, (c .pre)))
 
--- src/entries.rt:36:5
 add-result : tie.Need-add-result
 add-result c = search needs
 
--- src/entries.rt:29:1
 same-length : tie.Need-same-length
 same-length c = simp length-set
 
--- src/entries.rt:29:1
 returns : tie.Need-returns
 returns c = (refl, three-sets (c .args .out .now) (c .args .at) (c .args .field) (c .args .code) (c .args .photographed))
 

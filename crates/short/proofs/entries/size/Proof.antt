@@ -8,8 +8,6 @@ use Rattle.short.proofs.WriteTurns.{size-skip, size-more}
 use borrow.Author.Needs.{needs}
 use Rattle.short.proofs.entries.size.Statement.{statement}
 use Rattle.short.proofs.entries.size.Tie as tie
-use Rattle.short.proofs.entries.size.Reads as reads
-use Rattle.short.proofs.entries.size.Lts as lts
 
 abbrev Inv-loop : tie.InvT-loop
 Inv-loop fields answers bytes₀ f₀ bytes f = (f ≤ fields) × ((bytes ≤ 3 * f + 2) × (bytes ≡ 3 * howMany f (answered answers) + 2))
@@ -17,43 +15,33 @@ Inv-loop fields answers bytes₀ f₀ bytes f = (f ≤ fields) × ((bytes ≤ 3 
 abbrev μ-loop : tie.MeasureT-loop
 μ-loop fields answers bytes₀ f₀ bytes f = fields - f
 
--- src/entries.rt:46:5
 loop-holds : tie.Need-loop-holds Inv-loop μ-loop
 loop-holds c = (omega arith, (omega arith, refl))
 
--- src/entries.rt:47:12
 array-read-if1 : tie.Need-array-read-if1 Inv-loop μ-loop
 array-read-if1 c = omega (arith, (c .before .before .pre))
 
--- src/entries.rt:48:13
 add-f : tie.Need-add-f Inv-loop μ-loop
 add-f c = omega (arith, (c .before .before .before .pre))
 
--- src/entries.rt:46:5
 loop-less : tie.Need-loop-less Inv-loop μ-loop
 loop-less c = search needs
 
--- src/entries.rt:46:5
 loop-again : tie.Need-loop-again Inv-loop μ-loop
 loop-again c = (omega arith, (omega arith, size-skip (c .before .before .before .args .t1) (search needs) _ (omega (arith, (c .before .before .before .pre))) _ (c .before .before .loop .inv .1 .1) (c .if1 .taken)))
 
--- src/entries.rt:50:13
 add-bytes : tie.Need-add-bytes Inv-loop μ-loop
 add-bytes c = omega (arith, (c .before .before .before .pre))
 
--- src/entries.rt:51:13
 add-f-2 : tie.Need-add-f-2 Inv-loop μ-loop
 add-f-2 c = omega (arith, (c .before .before .before .pre))
 
--- src/entries.rt:46:5
 loop-less-2 : tie.Need-loop-less-2 Inv-loop μ-loop
 loop-less-2 c = search needs
 
--- src/entries.rt:46:5
 loop-again-2 : tie.Need-loop-again-2 Inv-loop μ-loop
 loop-again-2 c = (omega arith, (omega arith, size-more (c .before .before .before .args .t1) (search needs) _ (omega (arith, (c .before .before .before .pre))) _ (c .before .before .loop .inv .1 .1) (c .if1 .left)))
 
--- src/entries.rt:40:1
 returns : tie.Need-returns Inv-loop μ-loop
 returns c = c .before .loop .inv .1 .1 ∙ ap (λ (n : ℕ). 3 * howMany n (answered (c .before .before .args .t1)) + 2) (let e : c .before .loop .f ≡ c .before .before .args .fields = omega arith in e)
 

@@ -1,8 +1,8 @@
 -- `short::entries::write` meets its contract. The loop's invariant: the entries of the fields below f are written and counted. Assumes nothing.
-use mathlib.Core.Path.{_≡_, refl, sym, _∙_}
+use mathlib.Core.Path.{refl}
 use Prim.Native.Nat.{_≤_, _-_}
 use native.Mathlib.Omega.{arith}
-use lib.ListN.{length, getD, length-set}
+use lib.ListN.{getD, length-set}
 use mathlib.Core.Bool.{false}
 use Rattle.consistency.specs.Consistency.{sheetWith}
 use Rattle.short.specs.Forms.{WroteBelow}
@@ -10,9 +10,6 @@ use Rattle.short.proofs.WriteTurns.{flag-is, wrote-none, answers-few, r
 use borrow.Author.Needs.{needs}
 use Rattle.short.proofs.entries.write.Statement.{statement}
 use Rattle.short.proofs.entries.write.Tie as tie
-use Rattle.short.proofs.entries.write.Reads as reads
-use Rattle.short.proofs.entries.write.Lts as lts
-use Rattle.short.proofs.entries.put_entry.Reads as put-entry-reads
 
 abbrev Inv-loop : tie.InvT-loop
 Inv-loop fields out₀ answers photographed next₀ many₀ f₀ out next many f = (f ≤ fields) × WroteBelow (sheetWith answers photographed) out₀ out next many f
@@ -20,87 +17,66 @@ Inv-loop fields out₀ answers photographed next₀ many₀ f₀ out next many f
 abbrev μ-loop : tie.MeasureT-loop
 μ-loop fields out₀ answers photographed next₀ many₀ f₀ out next many f = fields - f
 
--- src/entries.rt:60:5
 loop-holds : tie.Need-loop-holds Inv-loop μ-loop
 loop-holds c = (omega arith, wrote-none _ _ _ (c .before .pre) (search needs))
 
--- src/entries.rt:61:12
 array-read-if1 : tie.Need-array-read-if1 Inv-loop μ-loop
 array-read-if1 c = omega (arith, c .before .before .before .pre .few)
 
--- src/entries.rt:62:13
 add-f : tie.Need-add-f Inv-loop μ-loop
 add-f c = omega (arith, c .before .before .before .before .pre .few)
 
--- src/entries.rt:60:5
 loop-less : tie.Need-loop-less Inv-loop μ-loop
 loop-less c = search needs
 
--- src/entries.rt:60:5
 loop-again : tie.Need-loop-again Inv-loop μ-loop
 loop-again c = (omega arith, wrote-skip _ _ _ (c .before .before .before .before .pre) (search needs) _ _ _ _ (c .before .before .loop .inv .1) (c .before .loop-test .taken) (c .if1 .taken))
 
--- src/entries.rt:64:24
 array-read-flag : tie.Need-array-read-flag Inv-loop μ-loop
 array-read-flag c = search needs
 
--- src/entries.rt:64:24
 cast-flag : tie.Need-cast-flag Inv-loop μ-loop
 cast-flag c = search needs
 
--- src/entries.rt:65:41
 cast-put-entry : tie.Need-cast-put-entry Inv-loop μ-loop
 cast-put-entry c = search needs
 
--- src/entries.rt:65:50
 array-read-put-entry : tie.Need-array-read-put-entry Inv-loop μ-loop
 array-read-put-entry c = search needs
 
--- src/entries.rt:65:13
 put-entry-requires : tie.Need-put-entry-requires Inv-loop μ-loop
 put-entry-requires c κs = omega (arith, room-entry _ _ _ (c .before .before .before .before .before .pre) (search needs) _ _ _ _ (c .before .before .before .loop .inv .1) (c .before .before .loop-test .taken) (c .before .if1 .left), same-room _ _ _ (c .before .before .before .before .before .pre) (search needs) _ _ _ _ (c .before .before .before .loop .inv .1))
 
--- src/entries.rt:66:13
 add-many : tie.Need-add-many Inv-loop μ-loop
 add-many c = omega (arith, answers-few _ _ _ (c .before .before .before .before .before .before .before .before .pre) (search needs) _ _ _ _ (c .before .before .before .before .before .before .loop .inv .1), c .before .before .before .before .before .before .before .before .pre .few)
 
--- src/entries.rt:67:13
 add-f-2 : tie.Need-add-f-2 Inv-loop μ-loop
 add-f-2 c = search needs
 
--- src/entries.rt:60:5
 loop-less-2 : tie.Need-loop-less-2 Inv-loop μ-loop
 loop-less-2 c = search needs
 
--- src/entries.rt:60:5
 loop-again-2 : tie.Need-loop-again-2 Inv-loop μ-loop
 loop-again-2 c = (omega arith, wrote-entry _ _ _ (c .before .before .before .before .before .before .before .before .pre) (search needs) _ _ _ _ (c .before .before .before .before .before .before .loop .inv .1) (c .before .before .before .before .before .loop-test .taken) (c .before .before .before .before .if1 .left) _ _ _ _ _ refl refl (flag-is (getD (c .before .before .before .before .before .before .before .before .args .t2) (c .before .before .before .before .before .before .loop .f) false)) (c .before .before .put-entry .ensures .1) (c .before .before .put-entry .ensures .0))
 
--- src/entries.rt:70:5
 slice-write-out : tie.Need-slice-write-out Inv-loop μ-loop
 slice-write-out c = omega (arith, room-trailer _ _ _ (c .before .before .before .pre) (search needs) _ _ _ _ (c .before .loop .inv .1) (c .before .loop .inv .0), same-room _ _ _ (c .before .before .before .pre) (search needs) _ _ _ _ (c .before .loop .inv .1))
 
--- src/entries.rt:71:21
 cast-out : tie.Need-cast-out Inv-loop μ-loop
 cast-out c = search needs
 
--- src/entries.rt:71:9
 add-out : tie.Need-add-out Inv-loop μ-loop
 add-out c = omega (arith, room-trailer _ _ _ (c .before .before .before .pre) (search needs) _ _ _ _ (c .before .loop .inv .1) (c .before .loop .inv .0))
 
--- src/entries.rt:71:5
 slice-write-out-2 : tie.Need-slice-write-out-2 Inv-loop μ-loop
 slice-write-out-2 c = simp length-set (omega (arith, room-trailer _ _ _ (c .before .before .before .pre) (search needs) _ _ _ _ (c .before .loop .inv .1) (c .before .loop .inv .0), same-room _ _ _ (c .before .before .before .pre) (search needs) _ _ _ _ (c .before .loop .inv .1)))
 
--- src/entries.rt:72:5
 add-result : tie.Need-add-result Inv-loop μ-loop
 add-result c = omega (arith, room-trailer _ _ _ (c .before .before .before .pre) (search needs) _ _ _ _ (c .before .loop .inv .1) (c .before .loop .inv .0))
 
--- src/entries.rt:48:1
 same-length : tie.Need-same-length Inv-loop μ-loop
 same-length c = simp length-set (same-room _ _ _ (c .before .before .before .pre) (search needs) _ _ _ _ (c .before .loop .inv .1))
 
--- src/entries.rt:48:1
 returns : tie.Need-returns Inv-loop μ-loop
 returns c = wrote-all _ _ _ (c .before .before .before .pre) (search needs) _ _ _ _ (c .before .loop .inv .1) (omega arith) _ _ _ refl refl refl
 

@@ -11,9 +11,6 @@ use Rattle.short.proofs.ReadTurns.{rest-start, rest-next, rest-field, f
 use borrow.Author.Needs.{needs}
 use Rattle.short.proofs.forms.code_fault.Statement.{statement}
 use Rattle.short.proofs.forms.code_fault.Tie as tie
-use Rattle.short.proofs.forms.code_fault.Reads as reads
-use Rattle.short.proofs.forms.code_fault.Lts as lts
-use Rattle.short.proofs.forms.wide.Reads as wide-reads
 
 abbrev Inv-loop : tie.InvT-loop
 Inv-loop book list fields form at₀ at = (at ≤ length form) × (RestOk fields form at × (codeFault (bookOf book) (drop at form) ≡ codeFault (bookOf book) form))
@@ -21,55 +18,42 @@ Inv-loop book list fields form at₀ at = (at ≤ length form) × (RestOk fields
 abbrev μ-loop : tie.MeasureT-loop
 μ-loop book list fields form at₀ at = length form - at
 
--- src/forms.rt:64:5
 loop-holds : tie.Need-loop-holds Inv-loop μ-loop
 loop-holds c = (omega arith, (rest-start _ _ (c .before .before .pre .1), refl))
 
--- src/forms.rt:64:16
 sub-loop : tie.Need-sub-loop Inv-loop μ-loop
 sub-loop c = search needs
 
--- src/forms.rt:65:26
 shared-slice-read-wide : tie.Need-shared-slice-read-wide Inv-loop μ-loop
 shared-slice-read-wide c = search needs
 
--- src/forms.rt:65:13
 wide-requires : tie.Need-wide-requires Inv-loop μ-loop
 wide-requires c κs = search needs
 
--- src/forms.rt:66:17
 add-if1 : tie.Need-add-if1 Inv-loop μ-loop
 add-if1 c = omega (arith, fields-end _ _ _ (c .before .before .before .before .before .before .pre .0), c .wide .ensures, rest-field _ (c .before .before .before .before .before .before .args .form .now) (c .before .before .before .loop .at) (c .before .before .before .loop .inv .1 .0) (c .before .before .before .loop .inv .0) (c .before .before .loop-test .taken))
 
--- src/forms.rt:66:12
 shared-slice-read-if1 : tie.Need-shared-slice-read-if1 Inv-loop μ-loop
 shared-slice-read-if1 c = omega (arith, fields-end _ _ _ (c .before .before .before .before .before .before .before .pre .0), c .before .wide .ensures, rest-field _ (c .before .before .before .before .before .before .before .args .form .now) (c .before .before .before .before .loop .at) (c .before .before .before .before .loop .inv .1 .0) (c .before .before .before .before .loop .inv .0) (c .before .before .before .loop-test .taken))
 
--- src/forms.rt:66:39
 add-if1-2 : tie.Need-add-if1-2 Inv-loop μ-loop
 add-if1-2 c = search needs
 
--- src/forms.rt:66:34
 shared-slice-read-if1-2 : tie.Need-shared-slice-read-if1-2 Inv-loop μ-loop
 shared-slice-read-if1-2 c = search needs
 
--- src/forms.rt:67:13
 returns : tie.Need-returns Inv-loop μ-loop
 returns c = fault-here (c .before .before .before .before .before .before .before .before .before .args .book .now) (c .before .before .before .before .before .before .before .before .before .args .list) (c .before .before .before .before .before .before .before .before .before .args .fields) (c .before .before .before .before .before .before .before .before .before .pre .0) (c .before .before .before .before .before .before .before .before .before .args .form .now) (c .before .before .before .before .before .before .loop .at) _ (c .before .before .before .before .before .before .loop .inv .1 .1) (c .before .before .before .before .before .before .loop .inv .1 .0) (c .before .before .before .before .before .before .loop .inv .0) (c .before .before .before .before .before .loop-test .taken) _ (c .before .before .before .wide .ensures) (c .if1 .taken)
 
--- src/forms.rt:69:9
 add-at : tie.Need-add-at Inv-loop μ-loop
 add-at c = search needs
 
--- src/forms.rt:64:5
 loop-less : tie.Need-loop-less Inv-loop μ-loop
 loop-less c = search needs
 
--- src/forms.rt:64:5
 loop-again : tie.Need-loop-again Inv-loop μ-loop
 loop-again c = (omega arith, (rest-next _ (c .before .before .before .before .before .before .before .before .before .args .form .now) (c .before .before .before .before .before .before .loop .at) (c .before .before .before .before .before .before .loop .inv .1 .0) (c .before .before .before .before .before .before .loop .inv .0) (c .before .before .before .before .before .loop-test .taken), fault-on (c .before .before .before .before .before .before .before .before .before .args .book .now) (c .before .before .before .before .before .before .before .before .before .args .list) (c .before .before .before .before .before .before .before .before .before .args .fields) (c .before .before .before .before .before .before .before .before .before .pre .0) (c .before .before .before .before .before .before .before .before .before .args .form .now) (c .before .before .before .before .before .before .loop .at) _ (c .before .before .before .before .before .before .loop .inv .1 .1) (c .before .before .before .before .before .before .loop .inv .1 .0) (c .before .before .before .before .before .before .loop .inv .0) (c .before .before .before .before .before .loop-test .taken) _ (c .before .before .before .wide .ensures) (c .if1 .left)))
 
--- src/forms.rt:59:1
 returns-2 : tie.Need-returns-2 Inv-loop μ-loop
 returns-2 c = fault-last (c .before .before .before .before .args .book .now) (c .before .before .before .before .args .list) (c .before .before .before .before .args .fields) (c .before .before .before .before .pre .0) (c .before .before .before .before .args .form .now) (c .before .loop .at) _ (c .before .loop .inv .1 .1) (c .before .loop .inv .1 .0) (c .before .loop .inv .0) (omega arith)
 

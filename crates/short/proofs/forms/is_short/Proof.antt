@@ -8,10 +8,6 @@ use Rattle.short.proofs.ReadTurns.{turn-bad, turn-on, end-few, end-many
 use borrow.Author.Needs.{needs}
 use Rattle.short.proofs.forms.is_short.Statement.{statement}
 use Rattle.short.proofs.forms.is_short.Tie as tie
-use Rattle.short.proofs.forms.is_short.Reads as reads
-use Rattle.short.proofs.forms.is_short.Lts as lts
-use Rattle.short.proofs.forms.entry_ok.Reads as entry-ok-reads
-use Rattle.short.proofs.forms.wide.Reads as wide-reads
 
 abbrev Inv-loop : tie.InvT-loop
 Inv-loop form fields low₀ many₀ at₀ low many at = (at ≤ length form) × ((many ≤ at) × (isShort fields many low (drop at form) ≡ isShort fields 0 0 form))
@@ -19,91 +15,69 @@ Inv-loop form fields low₀ many₀ at₀ low many at = (at ≤ length form) × 
 abbrev μ-loop : tie.MeasureT-loop
 μ-loop form fields low₀ many₀ at₀ low many at = length form - at
 
--- src/forms.rt:39:5
 loop-holds : tie.Need-loop-holds Inv-loop μ-loop
 loop-holds c = (omega arith, (omega arith, refl))
 
--- src/forms.rt:39:16
 sub-loop : tie.Need-sub-loop Inv-loop μ-loop
 sub-loop c = search needs
 
--- src/forms.rt:40:26
 shared-slice-read-wide : tie.Need-shared-slice-read-wide Inv-loop μ-loop
 shared-slice-read-wide c = search needs
 
--- src/forms.rt:40:13
 wide-requires : tie.Need-wide-requires Inv-loop μ-loop
 wide-requires c κs = search needs
 
--- src/forms.rt:41:33
 add-photographed : tie.Need-add-photographed Inv-loop μ-loop
 add-photographed c = search needs
 
--- src/forms.rt:41:28
 shared-slice-read-photographed : tie.Need-shared-slice-read-photographed Inv-loop μ-loop
 shared-slice-read-photographed c = search needs
 
--- src/forms.rt:42:13
 entry-ok-requires : tie.Need-entry-ok-requires Inv-loop μ-loop
 entry-ok-requires c κs = search needs
 
--- src/forms.rt:43:13
 returns : tie.Need-returns Inv-loop μ-loop
 returns c = turn-bad (c .before .before .before .before .before .before .before .before .args .form .now) (c .before .before .before .before .before .before .before .before .args .fields) (c .before .before .before .before .before .before .loop .at) (c .before .before .before .before .before .before .loop .many) (c .before .before .before .before .before .before .loop .low) _ (c .before .before .before .before .before .before .loop .inv .1 .1) (c .before .before .before .before .before .before .loop .inv .0) (c .before .before .before .before .before .loop-test .taken) _ _ (c .before .before .before .wide .ensures) refl _ (c .before .entry-ok .ensures) (c .if1 .taken)
 
--- src/forms.rt:45:15
 add-low : tie.Need-add-low Inv-loop μ-loop
 add-low c = omega (arith, c .before .before .before .wide .ensures, c .before .before .before .before .shared-slice-known2 .given (c .before .before .before .before .before .before .loop .at))
 
--- src/forms.rt:46:9
 add-many : tie.Need-add-many Inv-loop μ-loop
 add-many c = search needs
 
--- src/forms.rt:47:9
 add-at : tie.Need-add-at Inv-loop μ-loop
 add-at c = search needs
 
--- src/forms.rt:39:5
 loop-less : tie.Need-loop-less Inv-loop μ-loop
 loop-less c = search needs
 
--- src/forms.rt:39:5
 loop-again : tie.Need-loop-again Inv-loop μ-loop
 loop-again c = (omega arith, (omega arith, turn-on (c .before .before .before .before .before .before .before .before .args .form .now) (c .before .before .before .before .before .before .before .before .args .fields) (c .before .before .before .before .before .before .loop .at) (c .before .before .before .before .before .before .loop .many) (c .before .before .before .before .before .before .loop .low) _ (c .before .before .before .before .before .before .loop .inv .1 .1) (c .before .before .before .before .before .before .loop .inv .0) (c .before .before .before .before .before .loop-test .taken) _ _ (c .before .before .before .wide .ensures) refl _ (c .before .entry-ok .ensures) (c .if1 .left)))
 
--- src/forms.rt:49:8
 sub-if2 : tie.Need-sub-if2 Inv-loop μ-loop
 sub-if2 c = search needs
 
--- src/forms.rt:50:9
 returns-2 : tie.Need-returns-2 Inv-loop μ-loop
 returns-2 c = end-few (c .before .before .before .before .args .form .now) (c .before .before .before .before .args .fields) (c .before .before .loop .at) (c .before .before .loop .many) (c .before .before .loop .low) _ (c .before .before .loop .inv .1 .1) (c .before .before .loop .inv .0) (omega arith) (c .if2 .taken)
 
--- src/forms.rt:52:13
 shared-slice-read-wide-2 : tie.Need-shared-slice-read-wide-2 Inv-loop μ-loop
 shared-slice-read-wide-2 c = search needs
 
--- src/forms.rt:52:8
 wide-requires-2 : tie.Need-wide-requires-2 Inv-loop μ-loop
 wide-requires-2 c κs = search needs
 
--- src/forms.rt:53:9
 returns-3 : tie.Need-returns-3 Inv-loop μ-loop
 returns-3 c = end-many (c .before .before .before .before .before .before .before .args .form .now) (c .before .before .before .before .before .before .before .args .fields) (c .before .before .before .before .before .loop .at) (c .before .before .before .before .before .loop .many) (c .before .before .before .before .before .loop .low) _ (c .before .before .before .before .before .loop .inv .1 .1) (c .before .before .before .before .before .loop .inv .0) (c .before .before .before .if2 .left) _ (c .before .wide2 .ensures) (c .if3 .taken)
 
--- src/forms.rt:55:15
 add-wide : tie.Need-add-wide Inv-loop μ-loop
 add-wide c = search needs
 
--- src/forms.rt:55:10
 shared-slice-read-wide-3 : tie.Need-shared-slice-read-wide-3 Inv-loop μ-loop
 shared-slice-read-wide-3 c = search needs
 
--- src/forms.rt:55:5
 wide-requires-3 : tie.Need-wide-requires-3 Inv-loop μ-loop
 wide-requires-3 c κs = search needs
 
--- src/forms.rt:33:1
 returns-4 : tie.Need-returns-4 Inv-loop μ-loop
 returns-4 c = end-fields (c .before .before .before .before .before .before .before .before .before .args .form .now) (c .before .before .before .before .before .before .before .before .before .args .fields) (c .before .before .before .before .before .before .before .loop .at) (c .before .before .before .before .before .before .before .loop .many) (c .before .before .before .before .before .before .before .loop .low) _ (c .before .before .before .before .before .before .before .loop .inv .1 .1) (c .before .before .before .before .before .before .before .loop .inv .0) (c .before .before .before .before .before .if2 .left) _ _ (c .before .before .before .wide2 .ensures) (c .before .before .if3 .left) (c .wide3 .ensures)
 

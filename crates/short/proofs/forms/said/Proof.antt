@@ -10,9 +10,6 @@ use Rattle.short.proofs.ReadTurns.{form-start, form-next, form-field, o
 use borrow.Author.Needs.{needs}
 use Rattle.short.proofs.forms.said.Statement.{statement}
 use Rattle.short.proofs.forms.said.Tie as tie
-use Rattle.short.proofs.forms.said.Reads as reads
-use Rattle.short.proofs.forms.said.Lts as lts
-use Rattle.short.proofs.forms.wide.Reads as wide-reads
 
 abbrev Inv-loop : tie.InvT-loop
 Inv-loop form answers₀ photographed₀ at₀ answers photographed at = (at ≤ length form) × (IsRest form at × (entriesOnto (sheetWith answers photographed) (drop at form) ≡ sheetFromShort form))
@@ -20,59 +17,45 @@ Inv-loop form answers₀ photographed₀ at₀ answers photographed at = (at ≤
 abbrev μ-loop : tie.MeasureT-loop
 μ-loop form answers₀ photographed₀ at₀ answers photographed at = length form - at
 
--- src/forms.rt:82:5
 loop-holds : tie.Need-loop-holds Inv-loop μ-loop
 loop-holds c = (omega arith, (form-start _ (c .before .pre), refl))
 
--- src/forms.rt:82:16
 sub-loop : tie.Need-sub-loop Inv-loop μ-loop
 sub-loop c = search needs
 
--- src/forms.rt:83:26
 shared-slice-read-wide : tie.Need-shared-slice-read-wide Inv-loop μ-loop
 shared-slice-read-wide c = search needs
 
--- src/forms.rt:83:13
 wide-requires : tie.Need-wide-requires Inv-loop μ-loop
 wide-requires c κs = search needs
 
--- src/forms.rt:84:31
 add-answers : tie.Need-add-answers Inv-loop μ-loop
 add-answers c = search needs
 
--- src/forms.rt:84:26
 shared-slice-read-answers : tie.Need-shared-slice-read-answers Inv-loop μ-loop
 shared-slice-read-answers c = search needs
 
--- src/forms.rt:84:9
 array-write-answers : tie.Need-array-write-answers Inv-loop μ-loop
 array-write-answers c = omega (arith, c .before .wide .ensures, form-field (c .before .before .before .before .before .before .args .form .now) (c .before .before .before .before .loop .at) (c .before .before .before .before .loop .inv .1 .0) (c .before .before .before .before .loop .inv .0) (c .before .before .before .loop-test .taken))
 
--- src/forms.rt:85:36
 add-photographed : tie.Need-add-photographed Inv-loop μ-loop
 add-photographed c = search needs
 
--- src/forms.rt:85:31
 shared-slice-read-photographed : tie.Need-shared-slice-read-photographed Inv-loop μ-loop
 shared-slice-read-photographed c = search needs
 
--- src/forms.rt:85:9
 array-write-photographed : tie.Need-array-write-photographed Inv-loop μ-loop
 array-write-photographed c = omega (arith, c .before .before .wide .ensures, form-field (c .before .before .before .before .before .before .before .args .form .now) (c .before .before .before .before .before .loop .at) (c .before .before .before .before .before .loop .inv .1 .0) (c .before .before .before .before .before .loop .inv .0) (c .before .before .before .before .loop-test .taken))
 
--- src/forms.rt:86:9
 add-at : tie.Need-add-at Inv-loop μ-loop
 add-at c = search needs
 
--- src/forms.rt:82:5
 loop-less : tie.Need-loop-less Inv-loop μ-loop
 loop-less c = search needs
 
--- src/forms.rt:82:5
 loop-again : tie.Need-loop-again Inv-loop μ-loop
 loop-again c = (omega arith, (form-next (c .before .before .before .before .before .before .before .args .form .now) (c .before .before .before .before .before .loop .at) (c .before .before .before .before .before .loop .inv .1 .0) (c .before .before .before .before .before .loop .inv .0) (c .before .before .before .before .loop-test .taken), onto-turn (c .before .before .before .before .before .before .before .args .form .now) (c .before .before .before .before .before .loop .at) (c .before .before .before .before .before .loop .answers) (c .before .before .before .before .before .loop .photographed) _ (c .before .before .before .before .before .loop .inv .1 .1) (c .before .before .before .before .before .loop .inv .0) (c .before .before .before .before .loop-test .taken) _ (c .before .before .wide .ensures)))
 
--- src/forms.rt:75:1
 returns : tie.Need-returns Inv-loop μ-loop
 returns c = onto-last (c .before .before .before .args .form .now) (c .before .loop .at) (c .before .loop .answers) (c .before .loop .photographed) _ (c .before .loop .inv .1 .1) (c .before .loop .inv .0) (omega arith)
 
