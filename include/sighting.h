@@ -20,8 +20,8 @@
  * A refused call leaves every element of `out` as it was, an accepted one every element behind those that it writes.
  *
  * A call that may write the sheet leaves in it the sheet that it hands back, also where it is refused: after a refused enter, withdraw
- * or photograph that is the sheet as it was given, byte for byte; after a refused load a fresh one; and after a replay, refused or not,
- * the one that its list reached.
+ * or photograph that is the sheet as it was given, byte for byte; after a refused load or load_short a fresh one; and after a replay,
+ * refused or not, the one that its list reached.
  *
  *   number  refused because                                                      place
  *   ------  -------------------------------------------------------------------  ------------------------------------------------
@@ -48,13 +48,19 @@
  *       21  the book has no such table, or the field is not in it                0
  *       22  a photographed answer would change; for storing, there is one        0
  *       23  all fields' numbers of codes multiplied are above 65,536             0
+ *       24  the bytes are no short stored sheet of this book                     0
  *
  * 14 looks for the first place that is at fault in any of these ways: a field that holds neither 255 nor one of its codes, a place behind
- * the book's fields that does not hold 255, a place without an answer that is photographed.
+ * the book's fields that does not hold 255, a place without an answer that is photographed. In a short stored sheet it looks for the
+ * first field whose code is none of the field's codes, and its place is that field's number; 255 is at fault there too, since a field
+ * without an answer has no bytes in that form.
  * 20 looks for a number that is missing, left over, or too large for its bytes (two for a number of rows and for the place of the field
  * list, one for any other), and for a book that reading would refuse.
- * 22 is the refusal of a photographed field for withdraw, and for enter with another code than the one held; and of a sheet that has a
- * photograph for store.
+ * 22 is the refusal of a photographed field for withdraw, and for enter with another code than the one held; of a sheet that has a
+ * photograph for store; and of a short stored sheet that has one for lengthen.
+ * 24 looks for a length that is not two more than a multiple of three; a trailer that tells another number of answers than there are, or
+ * another number of fields than the book's; a field that the book lacks, or that is not above the one before it; and a photographed byte
+ * that is neither 0 nor 1. All of it comes before 14, whichever stands first in the bytes.
  * The first refusal in the order that a function's comment gives is the one returned.
  */
 #ifndef SIGHTING_H
@@ -76,11 +82,20 @@
 #define SIGHTING_NO_ANSWER 255
 
 /*
+ * A sheet is stored in one of two forms. A stored sheet has one byte for each field of the book: the answered code, or SIGHTING_NO_ANSWER;
+ * it has no photographs. A short stored sheet has three bytes for each answered field, by rising field: the field, the code, and 1 if the
+ * answer is backed by a photograph, else 0; and behind them the trailer, two bytes: the number of answers, and the book's number of fields.
+ * So k answers take 3 * k + 2 bytes, and for a book of three fields a sheet without answers is 0 3. Where the short form is not named, the
+ * other one is meant.
+ */
+
+/*
  * How many elements of `out` suffice for every book, sheet and listing: a call that is lent as many never returns 18. Each is proved.
  */
 #define SIGHTING_PAIRS_BYTES 3840      /* sighting_alternatives, sighting_replay */
 #define SIGHTING_NUMBERS 60            /* sighting_filtered */
-#define SIGHTING_STORED_BYTES 60       /* sighting_store, sighting_nearest */
+#define SIGHTING_STORED_BYTES 60       /* sighting_store, sighting_lengthen, sighting_nearest */
+#define SIGHTING_SHORT_BYTES 182       /* sighting_store_short, sighting_shorten */
 #define SIGHTING_REPORT_BYTES 21162    /* sighting_report */
 #define SIGHTING_LISTING_NUMBERS 16831 /* sighting_show */
 #define SIGHTING_BOOK_BYTES 16898      /* sighting_write */
@@ -199,6 +214,44 @@ uint64_t sighting_load(uint8_t *sheet, const uint8_t *book, size_t book_len, con
  * Refusals: 1 to 13, 14, 22, 18 where out_len is below the number of fields.
  */
 uint64_t sighting_store(const uint8_t *sheet, const uint8_t *book, size_t book_len, uint8_t *out, size_t out_len, uint64_t *outcome);
+
+/*
+ * Loads a short stored sheet, with its photographs. A field that it does not name has no answer. What the sheet held before plays no part;
+ * a refused load makes it a fresh one.
+ *   outcome[1]  place
+ * Refusals: 1 to 13, 24, 14.
+ */
+uint64_t sighting_load_short(uint8_t *sheet, const uint8_t *book, size_t book_len, const uint8_t *form, size_t form_len,
+                             uint64_t *outcome);
+
+/*
+ * Stores the sheet in the short form, with its photographs, so that no sheet is refused by 22. Each photograph is told by 1, whatever
+ * number the sheet has for it. Loading what was stored gives the sheet again, and storing what was loaded from a short form gives that
+ * form's bytes.
+ *   outcome[2]  place, written (how many bytes were written: three for each answer, and two)
+ * Refusals: 1 to 13, 14, 18 where out_len is below the length of the short form.
+ */
+uint64_t sighting_store_short(const uint8_t *sheet, const uint8_t *book, size_t book_len, uint8_t *out, size_t out_len,
+                              uint64_t *outcome);
+
+/*
+ * Moves a stored sheet to the short form: writes what sighting_store_short writes for the sheet that sighting_load makes of it. No answer
+ * is photographed in it.
+ *   outcome[2]  place, written (how many bytes were written: three for each answer, and two)
+ * Refusals: 1 to 13, 19, 14, 18 where out_len is below the length of the short form.
+ */
+uint64_t sighting_shorten(const uint8_t *book, size_t book_len, const uint8_t *form, size_t form_len, uint8_t *out, size_t out_len,
+                          uint64_t *outcome);
+
+/*
+ * Moves a short stored sheet to the form with one byte for each field. That form has no photographs, so a short stored sheet with one is
+ * refused by 22. It is the way back from sighting_shorten: what that writes is moved back to the stored sheet's bytes, and what this writes
+ * is moved back to those of the short stored sheet.
+ *   outcome[2]  place, written (how many bytes were written: the number of fields)
+ * Refusals: 1 to 13, 24, 14, 22, 18 where out_len is below the number of fields.
+ */
+uint64_t sighting_lengthen(const uint8_t *book, size_t book_len, const uint8_t *form, size_t form_len, uint8_t *out, size_t out_len,
+                           uint64_t *outcome);
 
 /*
  * Runs a list of calls, each on the sheet that the one before it handed back and the first on a fresh one, and then the

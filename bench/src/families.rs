@@ -1,4 +1,4 @@
-//! The five families of books and three small ones, each with answers for any n.
+//! The five families of books, three small ones and one without tables, each with answers for any n.
 
 use std::ops::Range;
 
@@ -244,6 +244,14 @@ fn eight_fields(name: &'static str, codes: Range<usize>) -> Family {
 
 pub fn small() -> [Family; 2] {
     [smallest(), eight_fields("8 fields", 2..7)]
+}
+
+/// All fields of version 2 and no table: what the check of the rows takes is not in the time.
+pub fn without_tables() -> Family {
+    let mut r = Random(8);
+    let counts = vec![CODES as u8; field_limit(2)];
+    let (reading, order) = (r.reading(&counts), r.shuffled(counts.len()));
+    Family { name: "60 fields, no table", what: "60 × 32 codes", book: bytes(2, &counts, &[]), reading, order }
 }
 
 /// Small books whose readings are few enough to be searched.

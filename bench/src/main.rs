@@ -13,6 +13,7 @@ mod plain;
 mod plot;
 mod questions;
 mod shapes;
+mod short;
 mod stack;
 mod tables;
 mod timing;
@@ -82,7 +83,8 @@ fn last_sections(out: &mut String, b: &Family, e: &Family) -> std::fmt::Result {
     let listings = listings::all().map(|listed| (listed.what, measure::listing(&listed)));
     tables::listings(out, &listings)?;
     writeln!(out, "\n### Stack, all fields of the full books answered\n")?;
-    tables::stacks(out, &measure::stacks(b), &measure::stacks(e))
+    let stacks = |family| [measure::stacks(family), short::stacks(family)].concat();
+    tables::stacks(out, &stacks(b), &stacks(e))
 }
 
 /// The sections as text, and the drawing.
@@ -103,8 +105,8 @@ fn measured() -> Result<(String, String), std::fmt::Error> {
         writeln!(out, "libgecode-dev was not installed: the column for Gecode is left out.\n")?;
     }
     let versions: Vec<_> = e.answers().map(|n| measure::versions(b, e, n)).collect();
-    let searches = nearest::searches();
-    tables::targets(&mut out, &passes, &versions, &shaped, &searches)?;
+    let (searches, stored) = (nearest::searches(), short::all(b, e));
+    tables::targets(&mut out, &passes, &versions, &shaped, &searches, &stored)?;
     families_sections(&mut out, &books, &passes)?;
     writeln!(out, "\n### The full book of version 2 beside that of version 1, in turns\n")?;
     tables::versions(&mut out, &versions)?;
@@ -112,6 +114,8 @@ fn measured() -> Result<(String, String), std::fmt::Error> {
     writeln!(out, "\n### The nearest full reading\n")?;
     tables::searches(&mut out, &searches)?;
     photograph_sections(&mut out, &books)?;
+    writeln!(out, "\n### Short stored sheets with n answers\n")?;
+    tables::stored(&mut out, &stored)?;
     writeln!(out, "\n### Reading, by the shape of the tables and the order of the rows\n")?;
     tables::shapes(&mut out, &shaped)?;
     last_sections(&mut out, b, e)?;

@@ -6,6 +6,7 @@ use crate::measure::{Filtering, Listing, Pass, Reading, RefusedRows, Report, Row
 use crate::nearest::{Search, Searched};
 use crate::photographs::{Changes, Photographed};
 use crate::questions::Question;
+use crate::short::{Call, Stored};
 
 fn ratio(value: Option<f64>) -> String {
     value.map_or("–".to_string(), |v| format!("{v:.2}"))
@@ -83,18 +84,26 @@ fn nearest_target(out: &mut String, searches: &[(Searched, Search)]) -> Result {
     writeln!(out, "| nearest full reading against plain Rust, any book | at most 1.5 | {worst:.2} |")
 }
 
+/// The target of short stored sheets, with what was reached by the worst call on the worst book.
+fn short_target(out: &mut String, stored: &[Stored]) -> Result {
+    let worst = most(stored.iter().flat_map(Stored::calls).map(|call| call.library / call.plain));
+    writeln!(out, "| short stored sheets against plain Rust, any call and book | at most 1.5 | {worst:.2} |")
+}
+
 pub fn targets(
     out: &mut String,
     families: &[(String, Vec<Pass>)],
     versions: &[Versions],
     shaped: &[Shaped],
     searches: &[(Searched, Search)],
+    stored: &[Stored],
 ) -> Result {
     writeln!(out, "| target | asked | worst |\n|---|---|---|")?;
     pass_targets(out, families)?;
     version_target(out, versions)?;
     reading_targets(out, shaped)?;
-    nearest_target(out, searches)
+    nearest_target(out, searches)?;
+    short_target(out, stored)
 }
 
 /// One pass on the full book of each version.
@@ -211,6 +220,24 @@ pub fn changes(out: &mut String, books: &[(&str, Changes)]) -> Result {
         let against = [c.withdraw, c.photograph, c.again, c.resent, c.refused].map(|time| format!("{:.2}", time / c.enter));
         let plain = c.photograph / c.plain;
         writeln!(out, "| {name} | {} | {} | {} | {plain:.2} |", c.n, microseconds(c.enter), against.join(" | "))?;
+    }
+    Ok(())
+}
+
+/// Short stored sheets, one row for each book and number of answers.
+pub fn stored(out: &mut String, stored: &[Stored]) -> Result {
+    writeln!(
+        out,
+        "| book | n | load_short, µs | ÷ load | × plain Rust | store_short, µs | ÷ store | × plain Rust | shorten, µs | × plain Rust | lengthen, µs | × plain Rust |"
+    )?;
+    writeln!(out, "|---|---|---|---|---|---|---|---|---|---|---|---|")?;
+    let time = |call: &Call| microseconds(call.library);
+    let plain = |call: &Call| format!("{:.2}", call.library / call.plain);
+    let beside = |call: &Call, other| format!("{} | {:.2} | {}", time(call), call.library / other, plain(call));
+    let alone = |call: &Call| format!("{} | {}", time(call), plain(call));
+    for s in stored {
+        let forms = [beside(&s.load_short, s.load), beside(&s.store_short, s.store), alone(&s.shorten), alone(&s.lengthen)];
+        writeln!(out, "| {} | {} | {} |", s.book, s.n, forms.join(" | "))?;
     }
     Ok(())
 }

@@ -1,6 +1,6 @@
 /*
  * What only a C caller can do to the library: pass numbers that no byte holds, lend a sheet that lies in read-only memory, write any byte
- * into a sheet, and take the header's word for the lengths that suffice. Prints each difference and returns their number.
+ * into a sheet, and take the header's word for the lengths that suffice. Prints each difference and returns 1 if there was one.
  */
 #include <sighting.h>
 #include <stdio.h>
@@ -18,6 +18,11 @@ static const uint8_t answered[SIGHTING_SHEET_BYTES] = {ANSWERS};
 
 /* The same with field 0 photographed. */
 static const uint8_t photographed[SIGHTING_SHEET_BYTES] = {ANSWERS, [SIGHTING_PLACES] = 1};
+
+/* Both in the short form, and a sheet without answers. */
+static const uint8_t short_answered[] = {0, 0, 0, 1, 1, 0, 2, 3};
+static const uint8_t short_photographed[] = {0, 0, 1, 1, 1, 0, 2, 3};
+static const uint8_t short_fresh[] = {0, 3};
 
 /* Example E4: three fields of two codes, of which each two differ, so that no reading is full. */
 static const uint8_t each_pair_differs[] = {2, 0, 1, 2, 0, 0, 1, 1, 0, 2, 0, 2, 2, 0, 0, 1, 1, 0,
@@ -60,9 +65,9 @@ static void wide_numbers(void) {
 }
 
 static void read_only_sheet(void) {
-    uint8_t pairs[SIGHTING_PAIRS_BYTES], stored[SIGHTING_STORED_BYTES];
+    uint8_t pairs[SIGHTING_PAIRS_BYTES], stored[SIGHTING_SHORT_BYTES];
     uint32_t numbers[SIGHTING_NUMBERS];
-    uint64_t place[1], found[3], reading[4];
+    uint64_t place[1], written[2], found[3], reading[4];
     expect("filtered", 0, sighting_filtered(answered, book, sizeof book, SIGHTING_NO_ANSWER, numbers, SIGHTING_NUMBERS, place));
     expect("codes that stand in field 2", 2, numbers[2]);
     expect("alternatives", 0, sighting_alternatives(answered, book, sizeof book, pairs, sizeof pairs, found));
@@ -73,6 +78,8 @@ static void read_only_sheet(void) {
     expect("the last code of the reading", 1, stored[2]);
     expect("store", 0, sighting_store(answered, book, sizeof book, stored, sizeof stored, place));
     expect("stored form", 0, (uint64_t)(memcmp(stored, form, sizeof form) != 0));
+    expect("store in the short form", 0, sighting_store_short(answered, book, sizeof book, stored, sizeof stored, written));
+    expect("short form", 0, (uint64_t)(memcmp(stored, short_answered, sizeof short_answered) != 0));
 }
 
 /* Field 0 is photographed: it has no lines and no case, and may be relaxed all the same. */
@@ -321,6 +328,179 @@ static void refused_nearest(void) {
     expect("the byte lent", 7, out[0]);
 }
 
+/*
+ * Loads a short stored sheet into one that held something else, with a byte before it and one behind. The one cell is written, and none
+ * beside it; the sheet has to be this one then.
+ */
+static void ask_load_short(const char *what, const uint8_t *bytes, size_t length, uint64_t number, uint64_t place, const uint8_t *left) {
+    uint8_t sheet[SIGHTING_SHEET_BYTES + 2];
+    uint64_t cells[3] = {7, 7, 7};
+    memset(sheet, 7, sizeof sheet);
+    expect(what, number, sighting_load_short(sheet + 1, book, sizeof book, bytes, length, cells + 1));
+    expect("its place", place, cells[1]);
+    expect("the cell before", 7, cells[0]);
+    expect("the cell behind", 7, cells[2]);
+    expect_sheet(what, left, sheet + 1);
+    expect("the byte before the sheet", 7, sheet[0]);
+    expect("the byte behind the sheet", 7, sheet[SIGHTING_SHEET_BYTES + 1]);
+}
+
+/*
+ * A call was lent the middle two of four cells, which all were 7, and some of the ten bytes of "777777777". It has written both its cells
+ * and none beside them; the bytes have to be these then.
+ */
+static void expect_written(const char *what, const uint64_t *cells, uint64_t place, uint64_t written, const uint8_t *out,
+                           const char *left) {
+    expect("the place of what is written", place, cells[1]);
+    expect("how many bytes were written", written, cells[2]);
+    expect("the cell before them", 7, cells[0]);
+    expect("the cell behind them", 7, cells[3]);
+    expect(what, 0, (uint64_t)(memcmp(out, left, 10) != 0));
+}
+
+/* Stores a sheet of E1's book in the short form, with so many of nine bytes lent. */
+static void ask_store_short(const char *what, const uint8_t *sheet, size_t lent, uint64_t number, uint64_t place, uint64_t written,
+                            const char *left) {
+    uint8_t out[10] = "777777777";
+    uint64_t cells[4] = {7, 7, 7, 7};
+    expect(what, number, sighting_store_short(sheet, book, sizeof book, out, lent, cells + 1));
+    expect_written(what, cells, place, written, out, left);
+}
+
+/* The call that moves one form to the other. */
+typedef uint64_t moving(const uint8_t *book, size_t book_len, const uint8_t *form, size_t form_len, uint8_t *out, size_t out_len,
+                        uint64_t *outcome);
+
+/* Moves a form of E1's book to the other one, with so many of nine bytes lent. */
+static void ask_move(const char *what, moving *move, const uint8_t *bytes, size_t length, size_t lent, uint64_t number, uint64_t place,
+                     uint64_t written, const char *left) {
+    uint8_t out[10] = "777777777";
+    uint64_t cells[4] = {7, 7, 7, 7};
+    expect(what, number, move(book, sizeof book, bytes, length, out, lent, cells + 1));
+    expect_written(what, cells, place, written, out, left);
+}
+
+/* A short stored sheet with and without photographs, and one without answers: loaded, and stored in just as many bytes and one less. */
+static void short_sheets(void) {
+    uint8_t fresh[SIGHTING_SHEET_BYTES], faulty[SIGHTING_SHEET_BYTES];
+    sighting_fresh(fresh);
+    ask_load_short("load without photographs", short_answered, sizeof short_answered, 0, 0, answered);
+    ask_load_short("load with a photograph", short_photographed, sizeof short_photographed, 0, 0, photographed);
+    ask_load_short("load without answers", short_fresh, sizeof short_fresh, 0, 0, fresh);
+    ask_store_short("store without photographs", answered, 8, 0, 0, 8, "\0\0\0\1\1\0\2\3" "7");
+    ask_store_short("store with a photograph", photographed, 9, 0, 0, 8, "\0\0\1\1\1\0\2\3" "7");
+    ask_store_short("store to one byte too few", photographed, 7, 18, 0, 0, "777777777");
+    ask_store_short("store to no byte", photographed, 0, 18, 0, 0, "777777777");
+    ask_store_short("store without answers", fresh, 2, 0, 0, 2, "\0\3" "7777777");
+    ask_store_short("store without answers to one byte", fresh, 1, 18, 0, 0, "777777777");
+    memcpy(faulty, answered, sizeof faulty);
+    faulty[1] = 3;
+    ask_store_short("store a sheet at fault", faulty, 0, 14, 1, 0, "777777777");
+    faulty[1] = 1;
+    faulty[SIGHTING_PLACES + 2] = 128;
+    ask_store_short("store a photograph without an answer", faulty, 9, 14, 2, 0, "777777777");
+    faulty[SIGHTING_PLACES + 2] = 0;
+    faulty[SIGHTING_PLACES - 1] = 0;
+    ask_store_short("store an answer behind the fields", faulty, 9, 14, SIGHTING_PLACES - 1, 0, "777777777");
+}
+
+/* A byte of a sheet that is neither 0 nor 1 is a photograph, stored as 1, and stays; in the short form there is no such byte. */
+static void short_bytes_of_photographs(void) {
+    uint8_t sheet[SIGHTING_SHEET_BYTES], given[SIGHTING_SHEET_BYTES], fresh[SIGHTING_SHEET_BYTES];
+    uint8_t bytes[] = {0, 0, 1, 1, 1, 0, 2, 3};
+    sighting_fresh(fresh);
+    for (int byte = 2; byte < 256; byte++) {
+        memcpy(sheet, answered, sizeof sheet);
+        sheet[SIGHTING_PLACES] = (uint8_t)byte;
+        memcpy(given, sheet, sizeof given);
+        ask_store_short("store any photograph", sheet, 8, 0, 0, 8, "\0\0\1\1\1\0\2\3" "7");
+        expect_sheet("the sheet stays byte for byte", given, sheet);
+        bytes[2] = (uint8_t)byte;
+        ask_load_short("load such a byte", bytes, sizeof bytes, 24, 0, fresh);
+        ask_move("lengthen such a byte", sighting_lengthen, bytes, sizeof bytes, 9, 24, 0, 0, "777777777");
+    }
+}
+
+/* E1's short form with one byte replaced is refused by this number and place, whatever is lent; a refused load leaves a fresh sheet. */
+static void refuse_replaced(size_t at, uint8_t byte, uint64_t number, uint64_t place) {
+    uint8_t bytes[sizeof short_photographed], fresh[SIGHTING_SHEET_BYTES];
+    sighting_fresh(fresh);
+    memcpy(bytes, short_photographed, sizeof bytes);
+    bytes[at] = byte;
+    ask_load_short("load with a byte replaced", bytes, sizeof bytes, number, place, fresh);
+    ask_move("lengthen with a byte replaced", sighting_lengthen, bytes, sizeof bytes, 9, number, place, 0, "777777777");
+    ask_move("the same to no byte", sighting_lengthen, bytes, sizeof bytes, 0, number, place, 0, "777777777");
+}
+
+/* Lengths, trailer, fields, order, photographs, and then codes. */
+static void refused_short_sheets(void) {
+    static const uint8_t both[] = {0, 2, 0, 1, 1, 2, 2, 3}, alone[] = {2, 3, 0, 1, 3}, longer[] = {1, 1, 0, 0, 1, 3};
+    uint8_t fresh[SIGHTING_SHEET_BYTES];
+    sighting_fresh(fresh);
+    for (size_t length = 0; length < sizeof short_answered; length++) {
+        ask_load_short("load a part", short_answered, length, 24, 0, fresh);
+        ask_load_short("load a part from its end", short_answered + 8 - length, length, 24, 0, fresh);
+        ask_move("lengthen a part", sighting_lengthen, short_answered, length, 9, 24, 0, 0, "777777777");
+    }
+    refuse_replaced(6, 1, 24, 0);
+    refuse_replaced(6, 3, 24, 0);
+    refuse_replaced(7, 2, 24, 0);
+    refuse_replaced(7, 4, 24, 0);
+    refuse_replaced(0, 1, 24, 0);
+    refuse_replaced(0, 2, 24, 0);
+    refuse_replaced(3, 0, 24, 0);
+    refuse_replaced(3, 3, 24, 0);
+    refuse_replaced(3, 255, 24, 0);
+    refuse_replaced(5, 2, 24, 0);
+    refuse_replaced(1, 2, 14, 0);
+    refuse_replaced(1, SIGHTING_NO_ANSWER, 14, 0);
+    refuse_replaced(4, 3, 14, 1);
+    refuse_replaced(4, SIGHTING_NO_ANSWER, 14, 1);
+    ask_load_short("a code at fault in field 2 alone", alone, sizeof alone, 14, 2, fresh);
+    ask_load_short("a byte before the trailer", longer, sizeof longer, 24, 0, fresh);
+    ask_load_short("a code at fault before a photograph", both, sizeof both, 24, 0, fresh);
+    ask_move("lengthen the same", sighting_lengthen, both, sizeof both, 0, 24, 0, 0, "777777777");
+}
+
+/* One form moved to the other and back, to just as many bytes and to one less, and what is refused. */
+static void moved_forms(void) {
+    static const uint8_t none[] = {255, 255, 255}, faulty[] = {0, 1, 3, 255};
+    ask_move("shorten", sighting_shorten, form, sizeof form, 8, 0, 0, 8, "\0\0\0\1\1\0\2\3" "7");
+    ask_move("shorten to one byte too few", sighting_shorten, form, sizeof form, 7, 18, 0, 0, "777777777");
+    ask_move("shorten no answers", sighting_shorten, none, sizeof none, 2, 0, 0, 2, "\0\3" "7777777");
+    ask_move("shorten no answers to one byte", sighting_shorten, none, sizeof none, 1, 18, 0, 0, "777777777");
+    ask_move("shorten four bytes", sighting_shorten, faulty, 4, 0, 19, 0, 0, "777777777");
+    ask_move("shorten two bytes", sighting_shorten, faulty, 2, 9, 19, 0, 0, "777777777");
+    ask_move("shorten a fault", sighting_shorten, faulty, 3, 0, 14, 2, 0, "777777777");
+    ask_move("lengthen", sighting_lengthen, short_answered, 8, 3, 0, 0, 3, "\0\1\377" "777777");
+    ask_move("lengthen to one byte too few", sighting_lengthen, short_answered, 8, 2, 18, 0, 0, "777777777");
+    ask_move("lengthen to no byte", sighting_lengthen, short_answered, 8, 0, 18, 0, 0, "777777777");
+    ask_move("lengthen no answers", sighting_lengthen, short_fresh, 2, 9, 0, 0, 3, "\377\377\377" "777777");
+    ask_move("lengthen no answers to two bytes", sighting_lengthen, short_fresh, 2, 2, 18, 0, 0, "777777777");
+    ask_move("lengthen a photograph", sighting_lengthen, short_photographed, 8, 9, 22, 0, 0, "777777777");
+    ask_move("lengthen a photograph to too few", sighting_lengthen, short_photographed, 8, 2, 22, 0, 0, "777777777");
+}
+
+/* A refused book has its place in each of the four calls, and comes before all else. */
+static void short_by_no_book(void) {
+    uint8_t sheet[SIGHTING_SHEET_BYTES], fresh[SIGHTING_SHEET_BYTES], out[1] = {7};
+    uint64_t place[1] = {7}, cells[2] = {7, 7};
+    sighting_fresh(fresh);
+    memset(sheet, 7, sizeof sheet);
+    expect("store a faulty sheet by no book", 2, sighting_store_short(sheet, book, sizeof book - 1, out, 0, cells));
+    expect("place of 2 in storing", 33, cells[0]);
+    expect("written by 2 in storing", 0, cells[1]);
+    expect("load by no book", 2, sighting_load_short(sheet, book, sizeof book - 1, form, 0, place));
+    expect("place of 2 in loading", 33, place[0]);
+    expect_sheet("fresh by no book", fresh, sheet);
+    expect("shorten by no book", 2, sighting_shorten(book, sizeof book - 1, form, 0, out, 0, cells));
+    expect("place of 2 in shortening", 33, cells[0]);
+    expect("lengthen by no bytes", 1, sighting_lengthen(book, 0, form, 0, out, 0, cells));
+    expect("place of 1 in lengthening", 0, cells[0]);
+    expect("written by 1 in lengthening", 0, cells[1]);
+    expect("the byte lent", 7, out[0]);
+}
+
 /* The outcome of a report has two cells, place and length, and both are 0 where the text does not fit. */
 static void report_outcome(void) {
     uint8_t text[SIGHTING_REPORT_BYTES];
@@ -525,6 +705,52 @@ static void sixty_places(void) {
     expect("its place for version 1", 59, place[0]);
 }
 
+/* All 60 fields answered and photographed: the header's length suffices for the short form, and one byte less is refused by 18. */
+static void sixty_short(void) {
+    uint8_t bytes[66], sheet[SIGHTING_SHEET_BYTES], loaded[SIGHTING_SHEET_BYTES];
+    uint8_t stored[SIGHTING_SHORT_BYTES + 1], old[SIGHTING_STORED_BYTES];
+    uint64_t place[1], cells[2] = {7, 7};
+    size_t length = sixty(bytes);
+    memset(sheet, 31, SIGHTING_PLACES);
+    memset(sheet + SIGHTING_PLACES, 1, SIGHTING_PLACES);
+    memset(stored, 7, sizeof stored);
+    expect("store to 181 bytes", 18, sighting_store_short(sheet, bytes, length, stored, SIGHTING_SHORT_BYTES - 1, cells));
+    expect("bytes told by 18", 0, cells[1]);
+    expect("the byte lent first", 7, stored[0]);
+    expect("store to 182 bytes", 0, sighting_store_short(sheet, bytes, length, stored, SIGHTING_SHORT_BYTES, cells));
+    expect("bytes of 60 answers", SIGHTING_SHORT_BYTES, cells[1]);
+    expect("the last field", 59, stored[177]);
+    expect("the last photograph", 1, stored[179]);
+    expect("the number of answers", 60, stored[180]);
+    expect("the number of fields", 60, stored[181]);
+    expect("the byte behind", 7, stored[SIGHTING_SHORT_BYTES]);
+    expect("load 182 bytes", 0, sighting_load_short(loaded, bytes, length, stored, SIGHTING_SHORT_BYTES, place));
+    expect_sheet("all answers and photographs", sheet, loaded);
+    expect("load 183 bytes", 24, sighting_load_short(loaded, bytes, length, stored, SIGHTING_SHORT_BYTES + 1, place));
+    expect("lengthen them", 22, sighting_lengthen(bytes, length, stored, SIGHTING_SHORT_BYTES, old, sizeof old, cells));
+    stored[178] = 32;
+    expect("a code at fault in field 59", 14, sighting_load_short(loaded, bytes, length, stored, SIGHTING_SHORT_BYTES, place));
+    expect("its place", 59, place[0]);
+    stored[177] = 60;
+    expect("a field 60", 24, sighting_load_short(loaded, bytes, length, stored, SIGHTING_SHORT_BYTES, place));
+}
+
+/* The longest forms without photographs, moved to each other. */
+static void sixty_moved(void) {
+    uint8_t bytes[66], old[SIGHTING_STORED_BYTES], back[SIGHTING_STORED_BYTES], moved[SIGHTING_SHORT_BYTES];
+    uint64_t cells[2] = {7, 7};
+    size_t length = sixty(bytes);
+    memset(old, 31, sizeof old);
+    expect("shorten to 181 bytes", 18, sighting_shorten(bytes, length, old, sizeof old, moved, sizeof moved - 1, cells));
+    expect("bytes told by 18", 0, cells[1]);
+    expect("shorten to 182 bytes", 0, sighting_shorten(bytes, length, old, sizeof old, moved, sizeof moved, cells));
+    expect("bytes of the short form", SIGHTING_SHORT_BYTES, cells[1]);
+    expect("lengthen to 59 bytes", 18, sighting_lengthen(bytes, length, moved, sizeof moved, back, sizeof back - 1, cells));
+    expect("lengthen to 60 bytes", 0, sighting_lengthen(bytes, length, moved, sizeof moved, back, sizeof back, cells));
+    expect("bytes of the other form", SIGHTING_STORED_BYTES, cells[1]);
+    expect("the bytes that were moved", 0, (uint64_t)(memcmp(old, back, sizeof back) != 0));
+}
+
 int main(void) {
     wide_numbers();
     read_only_sheet();
@@ -537,14 +763,21 @@ int main(void) {
     last_row();
     nearest_outcome();
     refused_nearest();
+    short_sheets();
+    short_bytes_of_photographs();
+    refused_short_sheets();
+    moved_forms();
+    short_by_no_book();
     report_outcome();
     most_readings();
     sixty_fields();
     sixty_photographs();
     sixty_places();
+    sixty_short();
+    sixty_moved();
     longest_listing();
     longest_listing_of_version_1();
     short_listings();
     refused_show();
-    return differences;
+    return differences != 0;
 }

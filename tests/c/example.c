@@ -1,6 +1,6 @@
 /*
- * Prints the alternatives of example E1, the row that keeps the open code, what a photograph of field 0 leaves in doubt, and the nearest
- * full reading to answers that contradict each other.
+ * Prints the alternatives of example E1, the row that keeps the open code, what a photograph of field 0 leaves in doubt, the nearest full
+ * reading to answers that contradict each other, and the sheet in the short stored form.
  */
 #include <sighting.h>
 #include <stdio.h>
@@ -9,8 +9,8 @@ static const uint8_t book[] = {2, 0, 2, 4, 0, 0, 0, 0, 1, 1, 2, 0, 1, 2, 1, 2, 4
                                1, 1, 1, 2, 2, 2, 2, 3, 3, 0x1A, 0, 3, 2, 1, 0xE5};
 
 int main(void) {
-    uint8_t sheet[SIGHTING_SHEET_BYTES], pairs[SIGHTING_PAIRS_BYTES], codes[SIGHTING_STORED_BYTES];
-    uint64_t place[1], found[3], nearest[4];
+    uint8_t sheet[SIGHTING_SHEET_BYTES], pairs[SIGHTING_PAIRS_BYTES], codes[SIGHTING_STORED_BYTES], stored[SIGHTING_SHORT_BYTES];
+    uint64_t place[1], written[2], found[3], nearest[4];
     sighting_fresh(sheet);
     if (sighting_enter(sheet, book, sizeof book, 0, 0, place) != 0) return 1;
     if (sighting_enter(sheet, book, sizeof book, 1, 1, place) != 0) return 1;
@@ -25,5 +25,9 @@ int main(void) {
     if (sighting_enter(sheet, book, sizeof book, 1, 2, place) != 0) return 1;
     if (sighting_nearest(sheet, book, sizeof book, codes, sizeof codes, nearest) != 0) return 1;
     if (nearest[1] == 1) printf("field 1 code 2: nearest reading %d %d %d, %d changed\n", codes[0], codes[1], codes[2], (int)nearest[2]);
+    if (sighting_store_short(sheet, book, sizeof book, stored, sizeof stored, written) != 0) return 1;
+    printf("stored in %d bytes:", (int)written[1]);
+    for (size_t i = 0; i < written[1]; i++) printf(" %d", stored[i]);
+    printf("\n");
     return 0;
 }

@@ -134,7 +134,7 @@ impl<'a> Engine<'a> {
 pub fn alternatives(sheet: &[u8; SHEET_BYTES], bytes: &[u8], out: &mut [u8]) -> Result<(u64, u64), Refused> {
     let book = check(bytes)?;
     let sheet = Sheet::held(sheet);
-    sheet.check(&book)?;
+    sheet.check(&book.view)?;
     let mut relaxing = [0; PLACES];
     let mut cases = 1;
     for f in (0..book.view.fields).filter(|&f| sheet.in_doubt(f)) {
@@ -160,7 +160,7 @@ pub fn alternatives(sheet: &[u8; SHEET_BYTES], bytes: &[u8], out: &mut [u8]) -> 
 pub fn filtered(sheet: &[u8; SHEET_BYTES], bytes: &[u8], out: &mut [u32]) -> Result<(), Refused> {
     let book = check(bytes)?;
     let sheet = Sheet::held(sheet);
-    sheet.check(&book)?;
+    sheet.check(&book.view)?;
     if out.len() < book.view.fields {
         return Err((18, 0));
     }
@@ -176,7 +176,7 @@ pub fn filtered(sheet: &[u8; SHEET_BYTES], bytes: &[u8], out: &mut [u32]) -> Res
 pub fn row(sheet: &[u8; SHEET_BYTES], bytes: &[u8], field: usize, code: usize, table: usize) -> Result<Option<u64>, Refused> {
     let book = check(bytes)?;
     let sheet = Sheet::held(sheet);
-    sheet.check(&book)?;
+    sheet.check(&book.view)?;
     if field >= book.view.fields {
         return Err((15, 0));
     }

@@ -122,7 +122,7 @@ fn search(book: &Checked, sheet: &Sheet) -> Found {
 pub fn nearest(sheet: &[u8; SHEET_BYTES], bytes: &[u8], out: &mut [u8]) -> Result<Option<(u64, u64)>, Refused> {
     let book = check(bytes)?;
     let sheet = Sheet::held(sheet);
-    sheet.check(&book)?;
+    sheet.check(&book.view)?;
     let fields = book.view.fields;
     let within = |many: &usize| *many <= READINGS;
     (0..fields).try_fold(1, |many, f| Some(many * book.view.codes(f)).filter(within)).ok_or((23, 0))?;

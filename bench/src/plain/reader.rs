@@ -150,6 +150,11 @@ pub fn check(bytes: &[u8]) -> Result<Checked<'_>, Refused> {
     Ok(Checked { view, tables })
 }
 
+/// The view on an accepted book, for a call that asks for no table.
+pub fn view(bytes: &[u8]) -> Result<View<'_>, Refused> {
+    accept(bytes, |_, _| {}).map(|(view, _)| view)
+}
+
 /// Puts each row into its word: the first code in the highest byte, zeros behind the last.
 fn gather<const ARITY: usize>(rows: &[u8], words: &mut [u32]) {
     for (word, row) in words.iter_mut().zip(rows.chunks_exact(ARITY)) {

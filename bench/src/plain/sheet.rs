@@ -1,6 +1,6 @@
 //! A sheet: the answers, and which of them are photographed.
 
-use super::reader::{check, Checked};
+use super::reader::{check, View};
 use super::{Refused, PLACES};
 
 pub const NO_ANSWER: u8 = 255;
@@ -14,9 +14,14 @@ pub struct Sheet {
 }
 
 impl Sheet {
+    /// A sheet without answers and photographs.
+    pub fn fresh() -> Sheet {
+        Sheet { answers: [NO_ANSWER; PLACES], photographed: [false; PLACES] }
+    }
+
     /// The sheet that a caller's bytes hold.
     pub fn held(bytes: &[u8; SHEET_BYTES]) -> Sheet {
-        let mut sheet = Sheet { answers: [NO_ANSWER; PLACES], photographed: [false; PLACES] };
+        let mut sheet = Sheet::fresh();
         for p in 0..PLACES {
             sheet.answers[p] = bytes[p];
             sheet.photographed[p] = bytes[PLACES + p] != 0;
@@ -25,7 +30,7 @@ impl Sheet {
     }
 
     /// The bytes that hold it.
-    fn bytes(&self) -> [u8; SHEET_BYTES] {
+    pub fn bytes(&self) -> [u8; SHEET_BYTES] {
         let mut bytes = [0; SHEET_BYTES];
         for p in 0..PLACES {
             bytes[p] = self.answers[p];
@@ -40,9 +45,9 @@ impl Sheet {
     }
 
     /// The lowest place at fault: refusal 14.
-    pub fn check(&self, book: &Checked) -> Result<(), Refused> {
+    pub fn check(&self, book: &View) -> Result<(), Refused> {
         for (f, &a) in self.answers.iter().enumerate() {
-            let code = || f < book.view.fields && (a as usize) < book.view.codes(f);
+            let code = || f < book.fields && (a as usize) < book.codes(f);
             if !(if a == NO_ANSWER { !self.photographed[f] } else { code() }) {
                 return Err((14, f as u64));
             }
@@ -55,7 +60,7 @@ impl Sheet {
 pub fn photograph(bytes: &mut [u8; SHEET_BYTES], book: &[u8], field: usize) -> Result<(), Refused> {
     let book = check(book)?;
     let mut sheet = Sheet::held(bytes);
-    sheet.check(&book)?;
+    sheet.check(&book.view)?;
     if field >= book.view.fields {
         return Err((15, 0));
     }

@@ -57,6 +57,40 @@ extern "C" {
         out_len: usize,
         outcome: *mut u64,
     ) -> u64;
+    pub fn sighting_load_short(
+        sheet: *mut u8,
+        book: *const u8,
+        book_len: usize,
+        form: *const u8,
+        form_len: usize,
+        outcome: *mut u64,
+    ) -> u64;
+    pub fn sighting_store_short(
+        sheet: *const u8,
+        book: *const u8,
+        book_len: usize,
+        out: *mut u8,
+        out_len: usize,
+        outcome: *mut u64,
+    ) -> u64;
+    pub fn sighting_shorten(
+        book: *const u8,
+        book_len: usize,
+        form: *const u8,
+        form_len: usize,
+        out: *mut u8,
+        out_len: usize,
+        outcome: *mut u64,
+    ) -> u64;
+    pub fn sighting_lengthen(
+        book: *const u8,
+        book_len: usize,
+        form: *const u8,
+        form_len: usize,
+        out: *mut u8,
+        out_len: usize,
+        outcome: *mut u64,
+    ) -> u64;
     pub fn sighting_replay(
         sheet: *mut u8,
         book: *const u8,

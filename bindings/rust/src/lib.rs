@@ -1,7 +1,7 @@
 //! The sighting desk: a safe wrapper over its proved static library.
 //!
 //! A book is a slice of bytes, checked in every call; a [`Sheet`] holds the answers, and which of them a photograph backs. Nothing is
-//! taken from the heap: results go to buffers that the caller lends; [`PAIRS_BYTES`], [`NUMBERS`], [`STORED_BYTES`],
+//! taken from the heap: results go to buffers that the caller lends; [`PAIRS_BYTES`], [`NUMBERS`], [`STORED_BYTES`], [`SHORT_BYTES`],
 //! [`REPORT_BYTES`], [`LISTING_NUMBERS`] and [`BOOK_BYTES`] suffice for every book, sheet and listing. A refused call changes neither
 //! the sheet nor a buffer. Any number may be passed as a field, a code or a table: one that is none is refused.
 //!
@@ -85,6 +85,39 @@
 //! # }
 //! ```
 //!
+//! A sheet is stored in one of two forms. One has a byte for each field, and no photographs. The short one keeps them, and has bytes for
+//! the answered fields alone, by rising field: three for each, the field, its code, and 1 if it is photographed, else 0; and behind them
+//! two, the number of answers and the number of fields.
+//!
+//! ```
+//! use sighting::{lengthen, shorten, Sheet};
+//!
+//! # fn main() -> Result<(), sighting::Refusal> {
+//! # let book = [
+//! #     2, 0, 2, 4, 0, 0, 0, 0, 1, 1, 2, 0, 1, 2, 1, 2, 4, 0, 0, 0, 1, 1, 1, 2, 2, 2, 2, 3, 3, 0x1A, 0, 3, 2, 1, 0xE5,
+//! # ];
+//! let mut sheet = Sheet::load(&book, &[0, 1, 255])?; // by the same book: field 0 answered by 0, field 1 by 1, field 2 not
+//! sheet.photograph(&book, 0)?;
+//!
+//! let mut short = [0; sighting::SHORT_BYTES];
+//! let bytes = sheet.store_short(&book, &mut short)? as usize;
+//! assert_eq!(short[..bytes], [0, 0, 1, 1, 1, 0, 2, 3]); // field 0, photographed; field 1, not; two answers of three fields
+//! assert_eq!(Sheet::load_short(&book, &short[..bytes])?, sheet);
+//!
+//! let bytes = shorten(&book, &[0, 1, 255], &mut short)? as usize; // from one form to the other, and back
+//! assert_eq!(short[..bytes], [0, 0, 0, 1, 1, 0, 2, 3]);
+//! let mut stored = [0; sighting::STORED_BYTES];
+//! assert_eq!(lengthen(&book, &short[..bytes], &mut stored)?, 3);
+//! assert_eq!(stored[..3], [0, 1, 255]);
+//!
+//! short[2] = 1; // a photograph has no place in the other form
+//! assert_eq!(lengthen(&book, &short[..bytes], &mut stored).unwrap_err().number, 22);
+//! let no_sheet = Sheet::load_short(&book, &short[1..bytes]).unwrap_err();
+//! assert_eq!(no_sheet.to_string(), "refused 24 at 0: the bytes are no short stored sheet of this book");
+//! # Ok(())
+//! # }
+//! ```
+//!
 //! A compiler makes such a book from a listing, and sees a book's listing again:
 //!
 //! ```
@@ -134,8 +167,11 @@ pub const PAIRS_BYTES: usize = 3840;
 /// So many numbers suffice for [`Sheet::filtered`].
 pub const NUMBERS: usize = 60;
 
-/// So many bytes suffice for [`Sheet::store`] and [`Sheet::nearest`].
+/// So many bytes suffice for [`Sheet::store`], [`lengthen`] and [`Sheet::nearest`].
 pub const STORED_BYTES: usize = 60;
+
+/// So many bytes suffice for [`Sheet::store_short`] and [`shorten`]: three for each place, and two.
+pub const SHORT_BYTES: usize = 3 * PLACES + 2;
 
 /// So many bytes suffice for [`report`].
 pub const REPORT_BYTES: usize = 21162;
@@ -225,6 +261,47 @@ pub fn report(book: &[u8], form: &[u8], out: &mut [u8]) -> Result<u64, Refusal> 
     };
     let [place, length] = cells;
     answer(number, place, length)
+}
+
+/// Moves a stored sheet, one byte for each field of the book, to the short form, and answers how many bytes that has: those that
+/// [`Sheet::store_short`] writes for the sheet loaded. No answer is photographed in it. Refusals: 1 to 13, 19, 14, 18.
+pub fn shorten(book: &[u8], form: &[u8], out: &mut [u8]) -> Result<u64, Refusal> {
+    let mut cells = [0; 2];
+    // SAFETY: each pointer has its slice's length beside it; two cells are lent.
+    let number = unsafe {
+        ffi::sighting_shorten(
+            book.as_ptr(),
+            book.len(),
+            form.as_ptr(),
+            form.len(),
+            out.as_mut_ptr(),
+            out.len(),
+            cells.as_mut_ptr(),
+        )
+    };
+    let [place, written] = cells;
+    answer(number, place, written)
+}
+
+/// Moves a short stored sheet to the form with one byte for each field of the book, and answers how many they are. It is the way back
+/// from [`shorten`], and [`shorten`] the one from here. That form has no photographs. Refusals: 1 to 13, 24, 14, 22 where some field is
+/// photographed, 18.
+pub fn lengthen(book: &[u8], form: &[u8], out: &mut [u8]) -> Result<u64, Refusal> {
+    let mut cells = [0; 2];
+    // SAFETY: each pointer has its slice's length beside it; two cells are lent.
+    let number = unsafe {
+        ffi::sighting_lengthen(
+            book.as_ptr(),
+            book.len(),
+            form.as_ptr(),
+            form.len(),
+            out.as_mut_ptr(),
+            out.len(),
+            cells.as_mut_ptr(),
+        )
+    };
+    let [place, written] = cells;
+    answer(number, place, written)
 }
 
 /// Shows a book's listing, and answers how many numbers it has: the number of fields and each field's number of codes; the number of
@@ -429,6 +506,28 @@ impl Sheet {
             ffi::sighting_store(self.0.as_ptr(), book.as_ptr(), book.len(), out.as_mut_ptr(), out.len(), cells.as_mut_ptr())
         };
         answer(number, cells[0], ())
+    }
+
+    /// Loads a short stored sheet, with its photographs; a field that it does not name has no answer. Refusals: 1 to 13, 24, and 14 for a
+    /// code that its field lacks, 255 too.
+    pub fn load_short(book: &[u8], form: &[u8]) -> Result<Sheet, Refusal> {
+        let (mut sheet, mut cells) = ([0; SHEET_BYTES], [0; 1]);
+        let number = unsafe {
+            ffi::sighting_load_short(sheet.as_mut_ptr(), book.as_ptr(), book.len(), form.as_ptr(), form.len(), cells.as_mut_ptr())
+        };
+        answer(number, cells[0], Sheet(sheet))
+    }
+
+    /// Stores the sheet in the short form, with its photographs, and answers how many bytes that has: for each answered field, by rising
+    /// field, the field, its code, and 1 if it is photographed, else 0; then the number of answers, and the book's number of fields.
+    /// Refusals: 1 to 13, 14, 18.
+    pub fn store_short(&self, book: &[u8], out: &mut [u8]) -> Result<u64, Refusal> {
+        let mut cells = [0; 2];
+        let number = unsafe {
+            ffi::sighting_store_short(self.0.as_ptr(), book.as_ptr(), book.len(), out.as_mut_ptr(), out.len(), cells.as_mut_ptr())
+        };
+        let [place, written] = cells;
+        answer(number, place, written)
     }
 
     /// Runs a list of calls, three bytes each as [`Call::bytes`] gives them, from a fresh sheet, and then the alternatives of the

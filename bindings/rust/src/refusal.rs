@@ -3,8 +3,8 @@
 use std::error::Error;
 use std::fmt;
 
-/// A refusal: its number, 1 to 23, and its place. The place is a byte of the book for 1 to 13, the first place of the sheet at fault
-/// for 14, and 0 for the others.
+/// A refusal: its number, 1 to 24, and its place. The place is a byte of the book for 1 to 13, the first place of the sheet at fault, or
+/// the first such field of a short stored sheet, for 14, and 0 for the others.
 #[derive(Clone, Copy, Debug, PartialEq, Eq)]
 pub struct Refusal {
     pub number: u64,
@@ -12,7 +12,7 @@ pub struct Refusal {
 }
 
 /// What each number says, from 1.
-const MEANINGS: [&str; 23] = [
+const MEANINGS: [&str; 24] = [
     "the book has fewer than 6 or more than 32,768 bytes",
     "the closing byte is not 0xE5",
     "the version is neither 1 nor 2",
@@ -36,6 +36,7 @@ const MEANINGS: [&str; 23] = [
     "the book has no such table, or the field is not in it",
     "a photographed answer would change; for storing, there is one",
     "all fields' numbers of codes multiplied are above 65,536",
+    "the bytes are no short stored sheet of this book",
 ];
 
 impl Refusal {
@@ -67,7 +68,8 @@ mod tests {
         assert_eq!(meaning(21), "the book has no such table, or the field is not in it");
         assert_eq!(meaning(22), "a photographed answer would change; for storing, there is one");
         assert_eq!(meaning(23), "all fields' numbers of codes multiplied are above 65,536");
-        assert_eq!((meaning(0), meaning(24)), ("no refusal has this number", "no refusal has this number"));
+        assert_eq!(meaning(24), "the bytes are no short stored sheet of this book");
+        assert_eq!((meaning(0), meaning(25)), ("no refusal has this number", "no refusal has this number"));
         assert_eq!(Refusal { number: 3, place: 33 }.to_string(), "refused 3 at 33: the version is neither 1 nor 2");
     }
 }

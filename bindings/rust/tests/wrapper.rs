@@ -1,7 +1,8 @@
 //! What the wrapper adds to the library: its types, and what it does with numbers and buffers.
 
-use sighting::{read, report, show, write, Alternatives, Call, Nearest, Refusal, Sheet};
-use sighting::{BOOK_BYTES, LISTING_NUMBERS, NO_ANSWER, NUMBERS, PAIRS_BYTES, PLACES, REPORT_BYTES, SHEET_BYTES, STORED_BYTES};
+use sighting::{lengthen, read, report, shorten, show, write, Alternatives, Call, Nearest, Refusal, Sheet};
+use sighting::{BOOK_BYTES, LISTING_NUMBERS, NO_ANSWER, NUMBERS, PAIRS_BYTES};
+use sighting::{PLACES, REPORT_BYTES, SHEET_BYTES, SHORT_BYTES, STORED_BYTES};
 
 /// Example E1: three fields of 2, 3 and 3 codes, and two tables.
 const BOOK: [u8; 35] =
@@ -18,6 +19,8 @@ const NO_TABLE: Refusal = Refusal { number: 21, place: 0 };
 const NO_ANSWER_YET: Refusal = Refusal { number: 17, place: 0 };
 const PHOTOGRAPHED: Refusal = Refusal { number: 22, place: 0 };
 const TOO_MANY_READINGS: Refusal = Refusal { number: 23, place: 0 };
+const NO_STORED_SHEET: Refusal = Refusal { number: 19, place: 0 };
+const NO_SHORT_SHEET: Refusal = Refusal { number: 24, place: 0 };
 
 /// E1's sheet: field 0 answered by 0 and field 1 by 1.
 fn answered() -> Sheet {
@@ -57,13 +60,14 @@ fn numbers_that_no_byte_holds_are_refused() {
 #[test]
 fn several_readers_share_a_sheet() {
     let (sheet, read) = (answered(), |sheet: &Sheet| {
-        let (mut pairs, mut numbers, mut form) = ([0; PAIRS_BYTES], [0; NUMBERS], [0; STORED_BYTES]);
+        let (mut pairs, mut numbers, mut form) = ([0; PAIRS_BYTES], [0; NUMBERS], [0; SHORT_BYTES]);
         assert_eq!(sheet.alternatives(&BOOK, &mut pairs), Ok(Alternatives { total: 4, struck: 11 }));
         assert_eq!(sheet.filtered(&BOOK, Some(0), &mut numbers), Ok(()));
         assert_eq!(sheet.row(&BOOK, 2, 1, 0), Ok(Some(1)));
         assert_eq!(sheet.nearest(&BOOK, &mut form), Ok(Some(Nearest { differing: 0, written: 3 })));
         assert_eq!(sheet.store(&BOOK, &mut form), Ok(()));
         assert_eq!((numbers[0], &form[..3]), (0b11, &[0, 1, NO_ANSWER][..]));
+        assert_eq!((sheet.store_short(&BOOK, &mut form), &form[..8]), (Ok(8), &[0, 0, 0, 1, 1, 0, 2, 3][..]));
     });
     std::thread::scope(|scope| {
         scope.spawn(|| read(&sheet));
@@ -267,6 +271,147 @@ fn a_replay_takes_photographs() {
     assert_eq!(replay(&cleared), (answered(), Ok(Alternatives { total: 4, struck: 11 })));
 }
 
+/// The bytes that a call writes to a buffer that is long enough.
+fn all_written(call: impl Fn(&mut [u8]) -> Result<u64, Refusal>) -> Result<Vec<u8>, Refusal> {
+    let mut out = vec![7; SHORT_BYTES];
+    let bytes = call(&mut out)?;
+    out.truncate(bytes as usize);
+    Ok(out)
+}
+
+fn stored_short(sheet: &Sheet) -> Result<Vec<u8>, Refusal> {
+    all_written(|out| sheet.store_short(&BOOK, out))
+}
+
+fn shortened(form: &[u8]) -> Result<Vec<u8>, Refusal> {
+    all_written(|out| shorten(&BOOK, form, out))
+}
+
+fn lengthened(form: &[u8]) -> Result<Vec<u8>, Refusal> {
+    all_written(|out| lengthen(&BOOK, form, out))
+}
+
+/// E1's sheet with and without a photograph, and one without answers.
+#[test]
+fn the_short_form_of_a_sheet() {
+    let (short, backed) = (vec![0, 0, 0, 1, 1, 0, 2, 3], vec![0, 0, 1, 1, 1, 0, 2, 3]);
+    assert_eq!((stored_short(&answered()), stored_short(&photographed())), (Ok(short.clone()), Ok(backed.clone())));
+    assert_eq!(Sheet::load_short(&BOOK, &short), Ok(answered()));
+    assert_eq!(Sheet::load_short(&BOOK, &backed), Ok(photographed()));
+    assert_eq!((shortened(&[0, 1, NO_ANSWER]), lengthened(&short)), (Ok(short.clone()), Ok(vec![0, 1, NO_ANSWER])));
+    assert_eq!(lengthened(&backed), Err(PHOTOGRAPHED));
+    assert_eq!((stored_short(&Sheet::fresh()), Sheet::load_short(&BOOK, &[0, 3])), (Ok(vec![0, 3]), Ok(Sheet::fresh())));
+    assert_eq!((shortened(&[NO_ANSWER; 3]), lengthened(&[0, 3])), (Ok(vec![0, 3]), Ok(vec![NO_ANSWER; 3])));
+}
+
+/// All that a field of so many codes can hold: no answer, or a code without and with a photograph.
+fn held(codes: u8) -> Vec<(u8, u8)> {
+    let answered = (0..codes).flat_map(|code| [(code, 0), (code, 1)]);
+    [(NO_ANSWER, 0)].into_iter().chain(answered).collect()
+}
+
+/// The sheet of E1's book with these three fields is loaded from what it is stored as. Without photographs the two forms are moved to each
+/// other.
+fn goes_through_both_forms(fields: [(u8, u8); 3]) {
+    let mut bytes = *Sheet::fresh().bytes();
+    (0..3).for_each(|f| (bytes[f], bytes[PLACES + f]) = fields[f]);
+    let answered = (0..3).zip(fields).filter(|(_, (code, _))| *code != NO_ANSWER);
+    let answers: Vec<_> = answered.map(|(f, (code, photograph))| [f, code, photograph]).collect();
+    let short = [answers.as_flattened(), &[answers.len() as u8, 3]].concat();
+    assert_eq!(stored_short(&Sheet::from(bytes)), Ok(short.clone()));
+    assert_eq!(Sheet::load_short(&BOOK, &short), Ok(Sheet::from(bytes)));
+    if bytes[PLACES..] == [0; PLACES] {
+        assert_eq!((lengthened(&short), shortened(&bytes[..3])), (Ok(bytes[..3].to_vec()), Ok(short)));
+    } else {
+        assert_eq!(lengthened(&short), Err(PHOTOGRAPHED));
+    }
+}
+
+#[test]
+fn every_sheet_keeps_its_answers_and_photographs() {
+    for first in held(2) {
+        for second in held(3) {
+            held(3).into_iter().for_each(|third| goes_through_both_forms([first, second, third]));
+        }
+    }
+}
+
+/// Length, trailer, field, order and photograph; also where a code is at fault before it.
+#[test]
+fn bytes_that_are_no_short_sheet() {
+    let many = |entries: usize, told: u8| [[0, 0, 0].repeat(entries), vec![told, 3]].concat();
+    for form in [
+        vec![],
+        vec![3],
+        vec![0, 0, 3],
+        vec![0, 0, 0, 3],
+        vec![0, 0, 0, 1, 3, 3],
+        vec![1, 3],
+        vec![0, 2],
+        vec![0, 4],
+        vec![3, 0],
+        vec![0, 0, 0, 0, 3],
+        vec![0, 0, 0, 2, 3],
+        vec![0, 0, 0, 1, 2],
+        vec![3, 0, 0, 1, 3],
+        vec![255, 0, 0, 1, 3],
+        vec![0, 0, 2, 1, 3],
+        vec![0, 0, 255, 1, 3],
+        vec![1, 0, 0, 0, 0, 0, 2, 3],
+        vec![1, 0, 0, 1, 0, 0, 2, 3],
+        vec![0, 2, 0, 0, 0, 0, 2, 3],
+        vec![0, 255, 2, 1, 3],
+        vec![0, 2, 0, 1, 4],
+        many(256, 0),
+        many(257, 1),
+    ] {
+        assert_eq!(Sheet::load_short(&BOOK, &form), Err(NO_SHORT_SHEET), "{form:?}");
+        assert_eq!((lengthened(&form), lengthen(&BOOK, &form, &mut [])), (Err(NO_SHORT_SHEET), Err(NO_SHORT_SHEET)), "{form:?}");
+        assert_eq!(Sheet::load_short(&BOOK[..34], &form), Err(Refusal { number: 2, place: 33 }));
+        assert_eq!(lengthen(&BOOK[..34], &form, &mut []), Err(Refusal { number: 2, place: 33 }));
+    }
+}
+
+/// The place is the field's number, wherever its bytes stand; 255 is no answer there, and at fault.
+#[test]
+fn codes_at_fault_in_a_short_sheet() {
+    for (form, place) in [
+        (&[0, 2, 0, 1, 3][..], 0),
+        (&[2, 3, 0, 1, 3], 2),
+        (&[2, 255, 0, 1, 3], 2),
+        (&[0, 1, 0, 1, 255, 1, 2, 3, 0, 3, 3], 1),
+        (&[0, 0, 1, 1, 2, 1, 2, 3, 1, 3, 3], 2),
+    ] {
+        let fault = Refusal { number: 14, place };
+        assert_eq!(Sheet::load_short(&BOOK, form), Err(fault), "{form:?}");
+        assert_eq!((lengthened(form), lengthen(&BOOK, form, &mut [])), (Err(fault), Err(fault)), "{form:?}");
+    }
+}
+
+/// Each refusal comes before the next one in its call's order, and leaves what is lent.
+#[test]
+fn refusals_of_the_two_forms_in_their_order() {
+    let (no_book, fault) = (Err(Refusal { number: 2, place: 33 }), Err(Refusal { number: 14, place: 0 }));
+    let mut out = [7; 9];
+    assert_eq!(faulty().store_short(&BOOK[..34], &mut []), no_book);
+    assert_eq!(faulty().store_short(&BOOK, &mut []), fault);
+    assert_eq!((photographed().store_short(&BOOK, &mut out[..7]), out), (Err(TOO_FEW), [7; 9]));
+    assert_eq!((photographed().store_short(&BOOK, &mut out), out), (Ok(8), [0, 0, 1, 1, 1, 0, 2, 3, 7]));
+    let mut out = [7; 9];
+    assert_eq!(shorten(&BOOK[..34], &[2, 1], &mut []), no_book);
+    assert_eq!(
+        (shorten(&BOOK, &[2, 1], &mut []), shorten(&BOOK, &[2; 4], &mut [])),
+        (Err(NO_STORED_SHEET), Err(NO_STORED_SHEET))
+    );
+    assert_eq!(shorten(&BOOK, &[2, 1, NO_ANSWER], &mut []), fault);
+    assert_eq!((shorten(&BOOK, &[0, 1, NO_ANSWER], &mut out[..7]), out), (Err(TOO_FEW), [7; 9]));
+    assert_eq!((shorten(&BOOK, &[0, 1, NO_ANSWER], &mut out[..8]), out), (Ok(8), [0, 0, 0, 1, 1, 0, 2, 3, 7]));
+    let mut out = [7; 4];
+    assert_eq!((lengthen(&BOOK, &[1, 1, 1, 1, 3], &mut out[..2]), out), (Err(PHOTOGRAPHED), [7; 4]));
+    assert_eq!((lengthen(&BOOK, &[1, 1, 0, 1, 3], &mut out[..2]), out), (Err(TOO_FEW), [7; 4]));
+    assert_eq!((lengthen(&BOOK, &[1, 1, 0, 1, 3], &mut out[..3]), out), (Ok(3), [NO_ANSWER, 1, NO_ANSWER, 7]));
+}
+
 /// The bytes that the wrapper writes for a listing.
 fn written(listing: &[u16]) -> Result<Vec<u8>, Refusal> {
     let mut out = vec![0; BOOK_BYTES];
@@ -358,9 +503,26 @@ fn the_lengths_named_suffice() {
     assert_eq!(sheet.filtered(&book, None, &mut [0; NUMBERS - 1]), Err(TOO_FEW));
     assert_eq!(sheet.store(&book, &mut [0; STORED_BYTES]), Ok(()));
     assert_eq!(sheet.store(&book, &mut [0; STORED_BYTES - 1]), Err(TOO_FEW));
+    assert_eq!(sheet.store_short(&book, &mut [0; SHORT_BYTES]), Ok(182));
+    assert_eq!(sheet.store_short(&book, &mut [0; SHORT_BYTES - 1]), Err(TOO_FEW));
     assert_eq!(sheet.nearest(&book, &mut [0; STORED_BYTES]), Err(TOO_MANY_READINGS));
     assert!(report(&book, &[NO_ANSWER; 60], &mut [0; REPORT_BYTES]).is_ok());
     assert_eq!(read(&book).map(|counts| counts.fields), Ok(60));
+}
+
+/// The longest stored sheets: 60 fields, all answered.
+#[test]
+fn the_longest_forms_suffice() {
+    let book = [&[32; 60][..], &[0, 0, 60, 0, 2, 0xE5]].concat();
+    let (mut short, mut form) = ([7; SHORT_BYTES], [7; STORED_BYTES]);
+    assert_eq!(shorten(&book, &[31; 60], &mut short[..SHORT_BYTES - 1]), Err(TOO_FEW));
+    assert_eq!(shorten(&book, &[31; 60], &mut short), Ok(182));
+    assert_eq!((&short[..3], &short[177..]), (&[0, 31, 0][..], &[59, 31, 0, 60, 60][..]));
+    assert_eq!(Sheet::load_short(&book, &short), Ok(Sheet::from([31; PLACES])));
+    assert_eq!(lengthen(&book, &short, &mut form[..STORED_BYTES - 1]), Err(TOO_FEW));
+    assert_eq!((lengthen(&book, &short, &mut form), form), (Ok(60), [31; STORED_BYTES]));
+    short[178] = NO_ANSWER;
+    assert_eq!(Sheet::load_short(&book, &short), Err(Refusal { number: 14, place: 59 }));
 }
 
 /// The longest reading: 60 fields of one code.
@@ -401,6 +563,7 @@ fn constants_are_those_of_the_header() {
     assert_eq!(value("SIGHTING_PAIRS_BYTES"), Some(PAIRS_BYTES));
     assert_eq!(value("SIGHTING_NUMBERS"), Some(NUMBERS));
     assert_eq!(value("SIGHTING_STORED_BYTES"), Some(STORED_BYTES));
+    assert_eq!(value("SIGHTING_SHORT_BYTES"), Some(SHORT_BYTES));
     assert_eq!(value("SIGHTING_REPORT_BYTES"), Some(REPORT_BYTES));
     assert_eq!(value("SIGHTING_LISTING_NUMBERS"), Some(LISTING_NUMBERS));
     assert_eq!(value("SIGHTING_BOOK_BYTES"), Some(BOOK_BYTES));
