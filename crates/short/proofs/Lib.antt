@@ -2,3 +2,4 @@ pub mod ReadTurns
 pub mod WriteTurns
 pub mod LoadCases
 pub mod MoveCases
+pub mod Injective
