@@ -5,6 +5,7 @@ use crate::book::{field_limit, Book, Table};
 use crate::calls::Call;
 use crate::draft::Draft;
 use crate::faults::{changed, faulty, some_faults, turned};
+use crate::forms::some_form;
 use crate::listing::Listing;
 use crate::listings;
 use crate::near;
@@ -49,6 +50,8 @@ pub fn case(seed: u64, index: u64) -> Case {
     calls.extend([Call::Show, Call::Write { listing: numbers }]);
     calls.extend(asking::rows(&mut r, &model, &sheet));
     calls.push(Call::Nearest);
+    calls.extend([Call::LoadShort { form: some_form(&mut r, &model) }, Call::StoreShort]);
+    calls.extend([Call::Shorten { form: form(&mut r, &model) }, Call::Lengthen { form: some_form(&mut r, &model) }]);
     Case { book: bytes, sheet, calls, boundary, faults, listing }
 }
 

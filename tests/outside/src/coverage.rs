@@ -36,7 +36,7 @@ pub struct Coverage {
 }
 
 /// The refusals that each call has beside 1 to 13; `true` for a place behind the book's fields.
-const BESIDE: [(&str, &[Kind]); 13] = [
+const BESIDE: [(&str, &[Kind]); 17] = [
     ("read", &[]),
     ("enter", &[(14, false), (14, true), (15, false), (16, false), (22, false)]),
     ("withdraw", &[(14, false), (14, true), (15, false), (17, false), (22, false)]),
@@ -47,6 +47,10 @@ const BESIDE: [(&str, &[Kind]); 13] = [
     ("nearest", &[(14, false), (14, true), (23, false), (18, false)]),
     ("load", &[(14, false), (19, false)]),
     ("store", &[(14, false), (14, true), (22, false), (18, false)]),
+    ("load_short", &[(24, false), (14, false)]),
+    ("store_short", &[(14, false), (14, true), (18, false)]),
+    ("shorten", &[(19, false), (14, false), (18, false)]),
+    ("lengthen", &[(24, false), (14, false), (22, false), (18, false)]),
     ("replay", &[(18, false)]),
     ("report", &[(14, false), (18, false), (19, false)]),
     ("show", &[(18, false)]),
@@ -62,7 +66,7 @@ struct Had {
 /// The call that reads no book, and its refusals.
 const WITHOUT_BOOK: (&str, &[Kind]) = ("write", &[(20, false), (18, false)]);
 
-/// At how many different places a refusal has to be reached: 1 and 15 to 23 have place 0 alone.
+/// At how many different places a refusal has to be reached: 1 and 15 to 24 have place 0 alone.
 fn places_asked(number: u64) -> usize {
     match number {
         2..=11 | 13 | 14 => 3,
@@ -97,7 +101,7 @@ const LENGTHS: [Length; 5] = [
     ("the wider list's", |lent, asked| lent == asked.wider),
 ];
 
-/// How often each of them has to be lent in a run of 40,000 cases.
+/// How often each of them has to be lent in a run of 42,500 cases.
 const LENGTHS_ASKED: u64 = 200;
 
 /// The sheet whose alternatives the call lists; none where it is refused.
