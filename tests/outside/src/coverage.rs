@@ -3,7 +3,7 @@
 use std::collections::{BTreeMap, BTreeSet};
 
 use crate::book::Book;
-use crate::calls::{Call, COUNTING, LISTING, MAKING, OF_A_SHEET, WITH_PAIRS};
+use crate::calls::{Call, COUNTING, LISTING, MAKING, OF_A_SHEET, OF_SHORT_FORMS, WITH_PAIRS};
 use crate::cases::{boundaries, Case};
 use crate::compare::{of_each_call, Asked, Trial};
 use crate::desk::{opened, Desk, Reading};
@@ -18,6 +18,7 @@ use crate::resend_shapes;
 use crate::row_shapes::{self, Asked as RowAsked};
 use crate::shapes::{shapes, PHOTOGRAPHED, SHAPES};
 use crate::sheet::Sheet;
+use crate::short_shapes;
 use crate::tables;
 use crate::versions;
 
@@ -31,7 +32,7 @@ pub struct Coverage {
     /// What the cases had beside that, by its name.
     had: BTreeMap<String, u64>,
     /// What the calls that list had to list, the lengths lent for it, what the calls that count had to count, what the calls for a row
-    /// or a reading had to find, and what each call had of M-103, M-105 and M-107, by call and name.
+    /// or a reading had to find, and what each call had of M-103, M-105, M-107 and M-108, by call and name.
     by_call: BTreeMap<(&'static str, &'static str), u64>,
 }
 
@@ -154,7 +155,7 @@ impl Coverage {
         for of_call in of_each_call(trials) {
             let steps = of_list(reading, of_call[0].call);
             let made: Vec<Made> = of_call.iter().map(|trial| Made { case, reading, trial, steps: &steps }).collect();
-            for all in [versions::SHAPES, photograph_shapes::SHAPES, resend_shapes::SHAPES] {
+            for all in [versions::SHAPES, photograph_shapes::SHAPES, resend_shapes::SHAPES, short_shapes::SHAPES] {
                 made::shapes(all, &made).for_each(|shape| self.count(of_call[0].call, shape));
             }
         }
@@ -259,6 +260,9 @@ impl Coverage {
         }
         for call in resend_shapes::CALLS {
             complete &= self.print_made("answers sent again", resend_shapes::SHAPES, call);
+        }
+        for call in OF_SHORT_FORMS {
+            complete &= self.print_made("short forms", short_shapes::SHAPES, call);
         }
         complete
     }

@@ -1,4 +1,5 @@
-//! Seeded short forms: a book's own, or one with flaws. What answers leave standing plays no part in them, so a field's code is any.
+//! Seeded short forms: a book's own, or one with flaws; and old ones to shorten. What answers leave standing plays no part in them, so a
+//! field's code is any.
 
 use crate::asking::some_code;
 use crate::book::{field_limit, Book};
@@ -57,6 +58,18 @@ pub fn some_form(r: &mut Random, book: &Book) -> Vec<u8> {
     }
     if (2..=4).contains(&flaw) {
         r.one_of(&FLAWS)(r, book, &mut form);
+    }
+    form
+}
+
+/// One byte a field, in a few cases with codes that their fields lack.
+pub fn some_old_form(r: &mut Random, book: &Book) -> Vec<u8> {
+    let mut form = sheet(r, book).answers[..book.counts.len().min(PLACES)].to_vec();
+    if r.one_in(12) {
+        for _ in 0..r.from(1, 3) {
+            let field = r.from(0, form.len() - 1);
+            form[field] = r.from(book.counts[field] as usize, 254) as u8;
+        }
     }
     form
 }

@@ -45,6 +45,9 @@ pub mod row_shapes;
 pub mod shapes;
 pub mod sheet;
 pub mod short;
+#[cfg(test)]
+mod short_edges;
+pub mod short_shapes;
 pub mod slips;
 pub mod standing;
 pub mod steps;
