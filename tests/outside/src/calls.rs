@@ -18,6 +18,10 @@ pub enum Call {
     Nearest,
     Load { form: Vec<u8> },
     Store,
+    LoadShort { form: Vec<u8> },
+    StoreShort,
+    Shorten { form: Vec<u8> },
+    Lengthen { form: Vec<u8> },
     Replay { calls: Vec<u8> },
     Report { form: Vec<u8> },
     Show,
@@ -25,13 +29,14 @@ pub enum Call {
 }
 
 /// The calls that are given a sheet with answers.
-pub const OF_A_SHEET: &[&str] = &["enter", "withdraw", "photograph", "filtered", "alternatives", "row", "nearest", "store"];
+pub const OF_A_SHEET: &[&str] =
+    &["enter", "withdraw", "photograph", "filtered", "alternatives", "row", "nearest", "store", "store_short"];
 
 /// Those of them that hand it back changed, or as it was given.
 pub const CHANGING: &[&str] = &["enter", "withdraw", "photograph"];
 
 /// The calls that hand a sheet back of which nothing was there before.
-pub const MAKING: &[&str] = &["fresh", "clear", "load", "replay"];
+pub const MAKING: &[&str] = &["fresh", "clear", "load", "load_short", "replay"];
 
 /// The calls that are given a field.
 pub const OF_A_FIELD: &[&str] = &["enter", "withdraw", "photograph", "filtered", "row"];
@@ -51,6 +56,10 @@ pub const TELLING: &[&str] = &[
     "nearest",
     "load",
     "store",
+    "load_short",
+    "store_short",
+    "shorten",
+    "lengthen",
     "replay",
     "report",
     "show",
@@ -61,7 +70,19 @@ pub const TELLING: &[&str] = &[
 pub const OF_A_BOOK: &[&str] = TELLING.split_at(TELLING.len() - 1).0;
 
 /// The calls that ask for one element for each field of the book.
-pub const ONE_FOR_EACH: &[&str] = &["filtered", "nearest", "store"];
+pub const ONE_FOR_EACH: &[&str] = &["filtered", "nearest", "store", "lengthen"];
+
+/// The calls that read a stored sheet, one byte a field.
+pub const OF_A_FORM: &[&str] = &["load", "shorten", "report"];
+
+/// The calls of the short form.
+pub const OF_SHORT_FORMS: &[&str] = &["load_short", "store_short", "shorten", "lengthen"];
+
+/// Those of them that read one.
+pub const OF_A_SHORT_FORM: &[&str] = &["load_short", "lengthen"];
+
+/// Those of them that write one.
+pub const SHORTENING: &[&str] = &["store_short", "shorten"];
 
 /// The calls that list alternatives.
 pub const LISTING: &[&str] = &["alternatives", "replay", "report"];
@@ -87,6 +108,10 @@ impl Call {
             Call::Nearest => "nearest",
             Call::Load { .. } => "load",
             Call::Store => "store",
+            Call::LoadShort { .. } => "load_short",
+            Call::StoreShort => "store_short",
+            Call::Shorten { .. } => "shorten",
+            Call::Lengthen { .. } => "lengthen",
             Call::Replay { .. } => "replay",
             Call::Report { .. } => "report",
             Call::Show => "show",
@@ -101,6 +126,7 @@ impl Call {
             Call::Read => 5,
             Call::Nearest => 4,
             Call::Alternatives | Call::Row { .. } | Call::Replay { .. } => 3,
+            Call::StoreShort | Call::Shorten { .. } | Call::Lengthen { .. } => 2,
             Call::Report { .. } | Call::Show | Call::Write { .. } => 2,
             _ => 1,
         }
@@ -109,7 +135,8 @@ impl Call {
     /// The bytes lent to the call to read, beside book and sheet.
     pub fn list(&self) -> &[u8] {
         match self {
-            Call::Load { form } | Call::Report { form } => form,
+            Call::Load { form } | Call::LoadShort { form } | Call::Report { form } => form,
+            Call::Shorten { form } | Call::Lengthen { form } => form,
             Call::Replay { calls } => calls,
             _ => &[],
         }
@@ -145,7 +172,7 @@ impl Call {
 
     /// Whether the call only reads the sheet.
     pub fn only_reads_sheet(&self) -> bool {
-        matches!(self, Call::Filtered { .. } | Call::Alternatives | Call::Row { .. } | Call::Nearest | Call::Store)
+        OF_A_SHEET.contains(&self.name()) && !CHANGING.contains(&self.name())
     }
 
     /// Whether the call lists alternatives.
@@ -158,7 +185,8 @@ impl Call {
         match self {
             Call::Filtered { .. } => Some(sighting::NUMBERS),
             Call::Alternatives | Call::Replay { .. } => Some(sighting::PAIRS_BYTES),
-            Call::Nearest | Call::Store => Some(sighting::STORED_BYTES),
+            Call::Nearest | Call::Store | Call::Lengthen { .. } => Some(sighting::STORED_BYTES),
+            Call::StoreShort | Call::Shorten { .. } => Some(sighting::SHORT_BYTES),
             Call::Report { .. } => Some(sighting::REPORT_BYTES),
             Call::Show => Some(sighting::LISTING_NUMBERS),
             Call::Write { .. } => Some(sighting::BOOK_BYTES),

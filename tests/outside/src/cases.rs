@@ -5,6 +5,7 @@ use crate::book::{field_limit, Book, Table};
 use crate::calls::Call;
 use crate::draft::Draft;
 use crate::faults::{changed, faulty, some_faults, turned};
+use crate::forms;
 use crate::listing::Listing;
 use crate::listings;
 use crate::near;
@@ -49,6 +50,11 @@ pub fn case(seed: u64, index: u64) -> Case {
     calls.extend([Call::Show, Call::Write { listing: numbers }]);
     calls.extend(asking::rows(&mut r, &model, &sheet));
     calls.push(Call::Nearest);
+    calls.extend([Call::LoadShort { form: forms::some_form(&mut r, &model) }, Call::StoreShort]);
+    calls.extend([
+        Call::Shorten { form: form_to_shorten(&mut r, &model) },
+        Call::Lengthen { form: forms::some_form(&mut r, &model) },
+    ]);
     Case { book: bytes, sheet, calls, boundary, faults, listing }
 }
 
@@ -251,7 +257,17 @@ fn spoil(r: &mut Random, book: &Book, sheet: &mut Sheet) {
 
 /// A stored sheet, in some cases of another length, with a fault, or both.
 fn form(r: &mut Random, book: &Book) -> Vec<u8> {
-    let mut form = random::form(r, book);
+    let form = random::form(r, book);
+    flawed(r, book, form)
+}
+
+/// One for the short form, in a few cases with several faults.
+fn form_to_shorten(r: &mut Random, book: &Book) -> Vec<u8> {
+    let form = forms::some_old_form(r, book);
+    flawed(r, book, form)
+}
+
+fn flawed(r: &mut Random, book: &Book, mut form: Vec<u8>) -> Vec<u8> {
     let flaw = r.from(0, 11);
     if flaw < 3 {
         let last = form.len() - 1;

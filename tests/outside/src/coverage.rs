@@ -3,7 +3,7 @@
 use std::collections::{BTreeMap, BTreeSet};
 
 use crate::book::Book;
-use crate::calls::{Call, COUNTING, LISTING, MAKING, OF_A_SHEET, WITH_PAIRS};
+use crate::calls::{Call, COUNTING, LISTING, MAKING, OF_A_SHEET, OF_SHORT_FORMS, WITH_PAIRS};
 use crate::cases::{boundaries, Case};
 use crate::compare::{of_each_call, Asked, Trial};
 use crate::desk::{opened, Desk, Reading};
@@ -18,6 +18,7 @@ use crate::resend_shapes;
 use crate::row_shapes::{self, Asked as RowAsked};
 use crate::shapes::{shapes, PHOTOGRAPHED, SHAPES};
 use crate::sheet::Sheet;
+use crate::short_shapes;
 use crate::tables;
 use crate::versions;
 
@@ -31,12 +32,12 @@ pub struct Coverage {
     /// What the cases had beside that, by its name.
     had: BTreeMap<String, u64>,
     /// What the calls that list had to list, the lengths lent for it, what the calls that count had to count, what the calls for a row
-    /// or a reading had to find, and what each call had of M-103, M-105 and M-107, by call and name.
+    /// or a reading had to find, and what each call had of M-103, M-105, M-107 and M-108, by call and name.
     by_call: BTreeMap<(&'static str, &'static str), u64>,
 }
 
 /// The refusals that each call has beside 1 to 13; `true` for a place behind the book's fields.
-const BESIDE: [(&str, &[Kind]); 13] = [
+const BESIDE: [(&str, &[Kind]); 17] = [
     ("read", &[]),
     ("enter", &[(14, false), (14, true), (15, false), (16, false), (22, false)]),
     ("withdraw", &[(14, false), (14, true), (15, false), (17, false), (22, false)]),
@@ -47,6 +48,10 @@ const BESIDE: [(&str, &[Kind]); 13] = [
     ("nearest", &[(14, false), (14, true), (23, false), (18, false)]),
     ("load", &[(14, false), (19, false)]),
     ("store", &[(14, false), (14, true), (22, false), (18, false)]),
+    ("load_short", &[(24, false), (14, false)]),
+    ("store_short", &[(14, false), (14, true), (18, false)]),
+    ("shorten", &[(19, false), (14, false), (18, false)]),
+    ("lengthen", &[(24, false), (14, false), (22, false), (18, false)]),
     ("replay", &[(18, false)]),
     ("report", &[(14, false), (18, false), (19, false)]),
     ("show", &[(18, false)]),
@@ -62,7 +67,7 @@ struct Had {
 /// The call that reads no book, and its refusals.
 const WITHOUT_BOOK: (&str, &[Kind]) = ("write", &[(20, false), (18, false)]);
 
-/// At how many different places a refusal has to be reached: 1 and 15 to 23 have place 0 alone.
+/// At how many different places a refusal has to be reached: 1 and 15 to 24 have place 0 alone.
 fn places_asked(number: u64) -> usize {
     match number {
         2..=11 | 13 | 14 => 3,
@@ -97,7 +102,7 @@ const LENGTHS: [Length; 5] = [
     ("the wider list's", |lent, asked| lent == asked.wider),
 ];
 
-/// How often each of them has to be lent in a run of 40,000 cases.
+/// How often each of them has to be lent in a run of 42,500 cases.
 const LENGTHS_ASKED: u64 = 200;
 
 /// The sheet whose alternatives the call lists; none where it is refused.
@@ -150,7 +155,7 @@ impl Coverage {
         for of_call in of_each_call(trials) {
             let steps = of_list(reading, of_call[0].call);
             let made: Vec<Made> = of_call.iter().map(|trial| Made { case, reading, trial, steps: &steps }).collect();
-            for all in [versions::SHAPES, photograph_shapes::SHAPES, resend_shapes::SHAPES] {
+            for all in [versions::SHAPES, photograph_shapes::SHAPES, resend_shapes::SHAPES, short_shapes::SHAPES] {
                 made::shapes(all, &made).for_each(|shape| self.count(of_call[0].call, shape));
             }
         }
@@ -255,6 +260,9 @@ impl Coverage {
         }
         for call in resend_shapes::CALLS {
             complete &= self.print_made("answers sent again", resend_shapes::SHAPES, call);
+        }
+        for call in OF_SHORT_FORMS {
+            complete &= self.print_made("short forms", short_shapes::SHAPES, call);
         }
         complete
     }

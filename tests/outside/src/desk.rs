@@ -9,6 +9,7 @@ use crate::nearest::{self, is_too_large};
 use crate::reader::Reader;
 use crate::row::{self, Pointed};
 use crate::sheet::{Sheet, FRESH, NO_ANSWER, PLACES};
+use crate::short;
 use crate::text::report;
 
 /// What reading a book answers.
@@ -28,6 +29,8 @@ pub struct Desk {
     pub row: row::Search,
     pub nearest: nearest::Search,
     pub load: fn(&Book, &[u8]) -> Result<Sheet, Refusal>,
+    pub load_short: fn(&Book, &[u8]) -> Result<Sheet, Refusal>,
+    pub store_short: fn(&Book, &Sheet) -> Vec<u8>,
     pub enter: Enter,
     /// One call of a list: its number, and the sheet after it.
     pub step: fn(Enter, &Book, &mut Sheet, &[u8]) -> u64,
@@ -51,6 +54,8 @@ impl Default for Desk {
             row: row::first_row,
             nearest: nearest::nearest,
             load,
+            load_short: short::load,
+            store_short: short::store,
             enter,
             step: step_by,
             list,
@@ -156,7 +161,7 @@ fn photograph(reading: &Reading, sheet: &Sheet, field: usize) -> Result<Sheet, R
 }
 
 /// One byte a field; that form has no place for a photograph.
-fn store(reading: &Reading, sheet: &Sheet) -> Result<Vec<u8>, Refusal> {
+pub fn store(reading: &Reading, sheet: &Sheet) -> Result<Vec<u8>, Refusal> {
     let book = opened(reading, sheet)?;
     refuse_if(sheet.has_photograph(), 22)?;
     Ok(sheet.answers[..book.counts.len()].to_vec())
@@ -323,6 +328,10 @@ impl Desk {
                 writing(self.filtered(reading, held, relaxed).map(|numbers| (Vec::new(), numbers)), *sheet)
             }
             Call::Store => writing(store(reading, held).map(|form| (Vec::new(), form)), *sheet),
+            Call::LoadShort { form } => handing_back(self.loaded_short(reading, &form), &FRESH),
+            Call::StoreShort => writing(self.stored_short(reading, held).map(counted), *sheet),
+            Call::Shorten { form } => writing(self.shortened(reading, &form).map(counted), *sheet),
+            Call::Lengthen { form } => writing(self.lengthened(reading, &form).map(counted), *sheet),
             Call::Replay { calls } => {
                 let (_, reached) = self.after(reading, &calls);
                 writing(self.listed(reading, &reached), reached)

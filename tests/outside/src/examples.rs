@@ -46,6 +46,19 @@ pub const E1_READINGS: [ReadingAsked; 11] = [
     (&[1, 0, 1], &[2], Some((2, [0, 1, 1]))),
 ];
 
+/// A sheet on E1 by its answers and those of them that are photographed, and its short form.
+pub type Short = (&'static [u8], &'static [usize], &'static [u8]);
+
+pub const E1_SHORT: [Short; 7] = [
+    (&[], &[], &[0, 3]),
+    (&[0, 1], &[], &[0, 0, 0, 1, 1, 0, 2, 3]),
+    (&[0, 1], &[0], &[0, 0, 1, 1, 1, 0, 2, 3]),
+    (&[0, 1], &[0, 1], &[0, 0, 1, 1, 1, 1, 2, 3]),
+    (&[NONE, NONE, 2], &[], &[2, 2, 0, 1, 3]),
+    (&[NONE, NONE, 2], &[2], &[2, 2, 1, 1, 3]),
+    (&[1, 2, 0], &[1], &[0, 1, 0, 1, 2, 1, 2, 0, 0, 3, 3]),
+];
+
 /// Calls of a list on E1 and the number of each. Fields 0 and 1 are answered by 0 and 1 then, and field 0 is photographed.
 pub const E1_PHOTOGRAPHED: [([u8; 3], u64); 12] = [
     ([0, 0, 0], 0),

@@ -74,6 +74,10 @@ impl Library for Exported {
             Call::Nearest => ffi::sighting_nearest(s, b, n, out, lent_len, o),
             Call::Load { .. } => ffi::sighting_load(s, b, n, list, list_len, o),
             Call::Store => ffi::sighting_store(s, b, n, out, lent_len, o),
+            Call::LoadShort { .. } => ffi::sighting_load_short(s, b, n, list, list_len, o),
+            Call::StoreShort => ffi::sighting_store_short(s, b, n, out, lent_len, o),
+            Call::Shorten { .. } => ffi::sighting_shorten(b, n, list, list_len, out, lent_len, o),
+            Call::Lengthen { .. } => ffi::sighting_lengthen(b, n, list, list_len, out, lent_len, o),
             Call::Replay { .. } => ffi::sighting_replay(s, b, n, list, list_len, out, lent_len, o),
             Call::Report { .. } => ffi::sighting_report(b, n, list, list_len, out, lent_len, o),
             Call::Show => ffi::sighting_show(b, n, lent.shown.at, lent.shown.len, o),
@@ -113,20 +117,20 @@ impl Library for Wrapper {
             Call::Nearest => {
                 sheet.nearest(book, bytes).map(|found| nearest::told(found.map(|found| [found.differing, found.written])))
             }
-            Call::Load { .. } => {
-                let loaded = sighting::Sheet::load(book, list);
-                sheet = loaded.unwrap_or_default();
-                nothing_counted(loaded.map(|_| ()))
-            }
+            Call::Load { .. } => handed_back(sighting::Sheet::load(book, list), &mut sheet),
             Call::Store => nothing_counted(sheet.store(book, bytes)),
+            Call::LoadShort { .. } => handed_back(sighting::Sheet::load_short(book, list), &mut sheet),
+            Call::StoreShort => one_count(sheet.store_short(book, bytes)),
+            Call::Shorten { .. } => one_count(sighting::shorten(book, list, bytes)),
+            Call::Lengthen { .. } => one_count(sighting::lengthen(book, list, bytes)),
             Call::Replay { .. } => {
                 let (reached, result) = sighting::Sheet::replay(book, list, bytes);
                 sheet = reached;
                 counts(result)
             }
-            Call::Report { .. } => sighting::report(book, list, bytes).map(|length| vec![length]),
-            Call::Show => sighting::show(book, lent.shown.elements_mut()).map(|written| vec![written]),
-            Call::Write { .. } => sighting::write(lent.listing.elements(), bytes).map(|written| vec![written]),
+            Call::Report { .. } => one_count(sighting::report(book, list, bytes)),
+            Call::Show => one_count(sighting::show(book, lent.shown.elements_mut())),
+            Call::Write { .. } => one_count(sighting::write(lent.listing.elements(), bytes)),
         };
         // the wrapper's sheet has 1 for any byte of a photograph but 0, so one that stays as it was given is not written
         let is_changed = CHANGING.contains(&call.name()) && (result.is_ok() || sheet != given);
@@ -139,6 +143,16 @@ impl Library for Wrapper {
 
 fn counts(result: Result<Alternatives, Refusal>) -> Result<Vec<u64>, Refusal> {
     result.map(|found| vec![found.total, found.struck])
+}
+
+fn one_count(result: Result<u64, Refusal>) -> Result<Vec<u64>, Refusal> {
+    result.map(|count| vec![count])
+}
+
+/// Hands the sheet loaded back, and a fresh one where that is refused.
+fn handed_back(loaded: Result<sighting::Sheet, Refusal>, sheet: &mut sighting::Sheet) -> Result<Vec<u64>, Refusal> {
+    *sheet = loaded.unwrap_or_default();
+    nothing_counted(loaded.map(drop))
 }
 
 fn nothing_counted(result: Result<(), Refusal>) -> Result<Vec<u64>, Refusal> {

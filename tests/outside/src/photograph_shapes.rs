@@ -234,11 +234,11 @@ mod tests {
 
     use super::SHAPES;
     use crate::book::Book;
-    use crate::calls::{Call, LISTING, MAKING, OF_A_SHEET};
+    use crate::calls::{Call, LISTING, MAKING, OF_A_SHEET, OF_SHORT_FORMS};
     use crate::examples::e1;
     use crate::made::{asked, names_of};
     use crate::sheet::{Sheet, FRESH};
-    use crate::{nearest_shapes, resend_shapes, row_shapes, shapes, versions};
+    use crate::{nearest_shapes, resend_shapes, row_shapes, shapes, short_shapes, versions};
 
     /// The shapes of a call on E1 with fields 0 and 1 answered by 0 and 1, and these places photographed.
     fn names(photographed: &[usize], call: Call) -> Vec<&'static str> {
@@ -314,8 +314,9 @@ mod tests {
     /// What a call had is counted by name.
     #[test]
     fn names_of_a_call_are_different() {
-        for &call in OF_A_SHEET.iter().chain(MAKING) {
-            let made = [SHAPES, versions::SHAPES, resend_shapes::SHAPES].into_iter().flat_map(|all| asked(all, call));
+        for &call in OF_A_SHEET.iter().chain(MAKING).chain(OF_SHORT_FORMS) {
+            let made = [SHAPES, versions::SHAPES, resend_shapes::SHAPES, short_shapes::SHAPES];
+            let made = made.into_iter().flat_map(|all| asked(all, call));
             let mut names: Vec<&str> = made.map(|(name, _)| name).collect();
             if LISTING.contains(&call) {
                 names.extend(shapes::SHAPES.iter().chain(&shapes::PHOTOGRAPHED).map(|(name, ..)| *name));

@@ -4,12 +4,10 @@
 use std::ops::RangeInclusive;
 
 use crate::book::Refusal;
-use crate::calls::{Call, LISTING, OF_A_BOOK, OF_A_FIELD, OF_A_SHEET, ONE_FOR_EACH, WITH_PAIRS};
+use crate::calls::{Call, LISTING, OF_A_BOOK, OF_A_FIELD, OF_A_FORM, OF_A_SHEET, ONE_FOR_EACH, WITH_PAIRS};
 use crate::desk::Desk;
 use crate::made::{Made, Shape};
 use crate::sheet::{Sheet, NO_ANSWER};
-
-const OF_A_FORM: &[&str] = &["load", "report"];
 
 const ALL: RangeInclusive<u8> = 0..=255;
 

@@ -4,10 +4,9 @@
 //! bare and by the safe wrapper, with buffers one short, exact, longer, as long as the header says suffices, and of length 0, and with
 //! its memory flush against a page that nobody may touch, in front and behind; a list of calls is also made one by one, alternatives are
 //! held against plain filtering with each answered field relaxed, photographed or not, rows against plain filtering and the listing, a
-//! nearest reading against plain filtering and itself, a book that is shown or written goes the way back too, and an accepted book is
-//! turned into the other version. The run prints how often
-//! each refusal of each call was reached and what else the cases had, and fails if something was missed; some of it has to be had so
-//! often that it takes 40,000 cases.
+//! nearest reading against plain filtering and itself, the two forms of a stored sheet against each other, a book that is shown or written
+//! goes the way back too, and an accepted book is turned into the other version. The run prints how often each refusal of each call was
+//! reached and what else the cases had, and fails if something was missed; some of it has to be had so often that it takes 42,500 cases.
 
 use std::ffi::c_int;
 use std::io::Write;
@@ -108,6 +107,18 @@ fn readings_agree(rooms: &Rooms, case: &Case, reading: &Reading) -> bool {
     disagreement.is_none()
 }
 
+/// Each way between sheets and the two stored forms and back gives what it began with, bare and by the wrapper.
+fn forms_agree(rooms: &Rooms, case: &Case, reading: &Reading) -> bool {
+    let ways: [(&str, &dyn Library); 2] = [("bare", &Exported), ("by the wrapper", &Wrapper)];
+    ways.iter().all(|(way, library)| {
+        let disagreement = rooms.form_disagreement(*library, case, reading);
+        if let Some(disagreement) = &disagreement {
+            println!("{way}: stored forms do not agree\n{disagreement}");
+        }
+        disagreement.is_none()
+    })
+}
+
 /// The ways to make a call.
 fn ways(call: &Call) -> &'static [(&'static str, &'static dyn Library)] {
     let ways: &[(&str, &dyn Library)] = &[("bare", &Exported), ("by the wrapper", &Wrapper), ("one by one", &OneByOne)];
@@ -148,6 +159,7 @@ fn case_agrees(rooms: &Rooms, seed: u64, index: u64, seen: &mut Coverage) -> boo
         && filterings_agree(rooms, &case, &reading)
         && rows_agree(rooms, &case, &reading, &mut random(seed ^ 0xC0DE, index))
         && readings_agree(rooms, &case, &reading)
+        && forms_agree(rooms, &case, &reading)
         && versions_agree(rooms, &case, &reading, &trials)
         && case.calls.iter().all(|call| list_agrees(&case, &reading, call) && round_trips_agree(&case, call))
 }
