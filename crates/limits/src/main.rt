@@ -14,6 +14,7 @@ use sheet::Listing;
 use sheet::ReadingAnswer;
 use sheet::RowAnswer;
 use sheet::Sheet;
+use short::Written;
 
 // One more than a book may have.
 const BYTES: usize = 32769;
@@ -229,6 +230,29 @@ fn try_photograph(field: usize) {
     }
 }
 
+// Storing the same sheet in the short form, with that many bytes lent.
+fn try_short(lent: usize) {
+    let mut bytes = [0; BYTES];
+    let length = put_widest(&mut bytes);
+    let n = within(length, &bytes);
+    let form = [0; PLACES];
+    let loaded = sheet::load(&bytes[..n], &form);
+    let held = loaded.sheet;
+    let mut stored = [0; short::FORM_BYTES];
+    let m = within(lent, &stored);
+    let handed = short::store(held, &bytes[..n], &mut stored[..m]);
+    print_tried(b"short form, lent", lent as u64);
+    let answer = handed.answer;
+    match answer {
+        Written::Unwritten(reason, place) => print_refused(sheet::number(reason), place),
+        Written::Bytes(count) => {
+            io::write_all(STDOUT_FILENO, b": written");
+            print_number(count as u64);
+            io::write_all(STDOUT_FILENO, b"\n");
+        }
+    }
+}
+
 // The row behind the only code in that table of a book with the most tables, each of one row.
 fn try_table(table: usize) {
     let mut bytes = [0; BYTES];
@@ -327,6 +351,8 @@ fn main() {
     try_lent(PAIR_BYTES - 1);
     try_photograph(PLACES - 1);
     try_photograph(PLACES);
+    try_short(short::FORM_BYTES);
+    try_short(short::FORM_BYTES - 1);
     try_table(TABLE_LIMIT - 1);
     try_table(TABLE_LIMIT);
     try_readings(16);

@@ -17,6 +17,9 @@ use sheet::opened::Opened;
 mod entries;
 mod forms;
 
+// The most bytes of a form: three for each place, and the trailer.
+pub const FORM_BYTES: usize = 3 * PLACES + 2;
+
 // The answer of a call that writes a form: how many bytes it wrote; a refusal has its reason and its place.
 pub enum Written {
     Bytes(usize),
