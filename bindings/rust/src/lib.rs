@@ -242,66 +242,41 @@ pub fn read(book: &[u8]) -> Result<Counts, Refusal> {
     answer(number, place, Counts { fields, tables, rows, different_rows })
 }
 
+/// A call that reads a book and a stored sheet and writes bytes: two cells, place and how many it wrote.
+type Writer = unsafe extern "C" fn(*const u8, usize, *const u8, usize, *mut u8, usize, *mut u64) -> u64;
+
+/// What such a call answers.
+///
+/// # Safety
+/// `call` reads and writes no more than the slices and cells that it is lent.
+unsafe fn write_by(call: Writer, book: &[u8], form: &[u8], out: &mut [u8]) -> Result<u64, Refusal> {
+    let mut cells = [0; 2];
+    let number = call(book.as_ptr(), book.len(), form.as_ptr(), form.len(), out.as_mut_ptr(), out.len(), cells.as_mut_ptr());
+    let [place, written] = cells;
+    answer(number, place, written)
+}
+
 /// Writes the text that the program `desk` prints for this book and this stored sheet, and answers its length. A field has `alt` lines
 /// only where, with its answer left out, no field of the book is empty, and the total counts these lines. What the text says of a book
 /// or a sheet that is turned down is no refusal of this call. Refusals: 18.
 pub fn report(book: &[u8], form: &[u8], out: &mut [u8]) -> Result<u64, Refusal> {
-    let mut cells = [0; 2];
-    // SAFETY: each pointer has its slice's length beside it; two cells are lent.
-    let number = unsafe {
-        ffi::sighting_report(
-            book.as_ptr(),
-            book.len(),
-            form.as_ptr(),
-            form.len(),
-            out.as_mut_ptr(),
-            out.len(),
-            cells.as_mut_ptr(),
-        )
-    };
-    let [place, length] = cells;
-    answer(number, place, length)
+    // SAFETY: the call keeps to what it is lent.
+    unsafe { write_by(ffi::sighting_report, book, form, out) }
 }
 
 /// Moves a stored sheet, one byte for each field of the book, to the short form, and answers how many bytes that has: those that
 /// [`Sheet::store_short`] writes for the sheet loaded. No answer is photographed in it. Refusals: 1 to 13, 19, 14, 18.
 pub fn shorten(book: &[u8], form: &[u8], out: &mut [u8]) -> Result<u64, Refusal> {
-    let mut cells = [0; 2];
-    // SAFETY: each pointer has its slice's length beside it; two cells are lent.
-    let number = unsafe {
-        ffi::sighting_shorten(
-            book.as_ptr(),
-            book.len(),
-            form.as_ptr(),
-            form.len(),
-            out.as_mut_ptr(),
-            out.len(),
-            cells.as_mut_ptr(),
-        )
-    };
-    let [place, written] = cells;
-    answer(number, place, written)
+    // SAFETY: the call keeps to what it is lent.
+    unsafe { write_by(ffi::sighting_shorten, book, form, out) }
 }
 
 /// Moves a short stored sheet to the form with one byte for each field of the book, and answers how many they are. It is the way back
 /// from [`shorten`], and [`shorten`] the one from here. That form has no photographs. Refusals: 1 to 13, 24, 14, 22 where some field is
 /// photographed, 18.
 pub fn lengthen(book: &[u8], form: &[u8], out: &mut [u8]) -> Result<u64, Refusal> {
-    let mut cells = [0; 2];
-    // SAFETY: each pointer has its slice's length beside it; two cells are lent.
-    let number = unsafe {
-        ffi::sighting_lengthen(
-            book.as_ptr(),
-            book.len(),
-            form.as_ptr(),
-            form.len(),
-            out.as_mut_ptr(),
-            out.len(),
-            cells.as_mut_ptr(),
-        )
-    };
-    let [place, written] = cells;
-    answer(number, place, written)
+    // SAFETY: the call keeps to what it is lent.
+    unsafe { write_by(ffi::sighting_lengthen, book, form, out) }
 }
 
 /// Shows a book's listing, and answers how many numbers it has: the number of fields and each field's number of codes; the number of
