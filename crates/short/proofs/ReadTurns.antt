@@ -15,7 +15,7 @@ use Rattle.calls.specs.Short.{isShort, codeFault, entriesOnto}
 use Rattle.calls.proofs.ShortPlaces.{ok-next, ok-end, ok-few, onto-next, onto-end, fault-next, fault-end}
 use Rattle.sheet.specs.Opened.{FieldsAt}
 use Rattle.sheet.proofs.Openings.{codes-at}
-use Rattle.short.specs.Forms.{IsForm, RestOk, IsRest}
+use Rattle.short.specs.Forms.{IsForm}
 
 -- ---- an entry's test
 
@@ -61,6 +61,17 @@ module _ (form : List ℕ) (n at k low : ℕ) (whole : Bool) (inv : isShort n k 
         ap (λ (z : ℕ). eqb z n) g ∙ ap (_&& eqb (getD form (at + 1) 0) n) (sym (eq-eqb (getD form at 0) k (sym e ∙ d))) ∙ last
 
 -- ---- an entry of a form, then the rest
+
+-- the bytes from place at on are the rest of a short form under a book of so many fields, and under some book
+pub record RestOk (fields : ℕ) (form : List ℕ) (at : ℕ) : Type 0 where
+  pub many : ℕ
+  pub low : ℕ
+  pub ok : isShort fields many low (drop at form) ≡ true
+
+pub record IsRest (form : List ℕ) (at : ℕ) : Type 0 where
+  pub fields : ℕ
+  pub few : fields ≤ places
+  pub rest : RestOk fields form at
 
 module _ (n : ℕ) (form : List ℕ) (at : ℕ) (h : RestOk n form at) (within : at ≤ length form) (more : 3 ≤ length form - at) where
   rest-both : (entryTest (h .low) n (getD form at 0) (getD form (at + 2) 0) ≡ true)

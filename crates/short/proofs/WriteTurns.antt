@@ -23,7 +23,7 @@ use Rattle.consistency.proofs.Elements.{answer-at}
 use Rattle.consistency.proofs.Limits.{many-few}
 use Rattle.calls.specs.Short.{flagByte, entryOf, entriesOf, shortOf}
 use Rattle.calls.proofs.ShortPlaces.{entries-next, length-entries, short-is, length-short}
-use Rattle.short.specs.Forms.{Fits, Wrote, WroteBelow}
+use Rattle.short.specs.Forms.{Fits, Wrote}
 
 -- ---- stores one behind the other
 
@@ -71,6 +71,12 @@ many-grows p f (suc n) l = at (eq-or-lt-of-le l) (λ h. many-grows p f n h)
     at (inr h) k = omega (arith, k (omega arith))
 
 -- ---- the entries
+
+-- the entries of the answered fields below f are written, up to next, and counted
+pub record WroteBelow (s : Sheet) (o o′ : List ℕ) (next many f : ℕ) : Type 0 where
+  pub next-is : next ≡ length (entriesOf f s)
+  pub bytes : o′ ≡ sets o 0 (entriesOf f s)
+  pub many-is : many ≡ howMany f (answered (s .answers))
 
 module _ (n : ℕ) (s : Sheet) (o : List ℕ) (room : Fits n s o) (long : length (s .answers) ≡ places) where
   -- at the start

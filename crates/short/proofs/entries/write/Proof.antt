@@ -5,8 +5,7 @@ use native.Mathlib.Omega.{arith}
 use lib.ListN.{getD, length-set}
 use mathlib.Core.Bool.{false}
 use Rattle.consistency.specs.Consistency.{sheetWith}
-use Rattle.short.specs.Forms.{WroteBelow}
-use Rattle.short.proofs.WriteTurns.{flag-is, wrote-none, answers-few, room-trailer, same-room, wrote-skip, room-entry, wrote-entry, wrote-all}
+use Rattle.short.proofs.WriteTurns.{WroteBelow, flag-is, wrote-none, answers-few, room-trailer, same-room, wrote-skip, room-entry, wrote-entry, wrote-all}
 use borrow.Author.Needs.{needs}
 use Rattle.short.proofs.entries.write.Statement.{statement}
 use Rattle.short.proofs.entries.write.Tie as tie

@@ -6,8 +6,7 @@ use lib.ListN.{length, drop}
 use Rattle.format.specs.Format.{bookOf}
 use Rattle.calls.specs.Short.{codeFault}
 use Rattle.sheet.proofs.Openings.{fields-end}
-use Rattle.short.specs.Forms.{RestOk}
-use Rattle.short.proofs.ReadTurns.{rest-start, rest-next, rest-field, fault-here, fault-on, fault-last}
+use Rattle.short.proofs.ReadTurns.{RestOk, rest-start, rest-next, rest-field, fault-here, fault-on, fault-last}
 use borrow.Author.Needs.{needs}
 use Rattle.short.proofs.forms.code_fault.Statement.{statement}
 use Rattle.short.proofs.forms.code_fault.Tie as tie

@@ -5,8 +5,7 @@ use native.Mathlib.Omega.{arith}
 use lib.ListN.{length, drop}
 use Rattle.consistency.specs.Consistency.{sheetWith}
 use Rattle.calls.specs.Short.{entriesOnto, sheetFromShort}
-use Rattle.short.specs.Forms.{IsRest}
-use Rattle.short.proofs.ReadTurns.{form-start, form-next, form-field, onto-turn, onto-last}
+use Rattle.short.proofs.ReadTurns.{IsRest, form-start, form-next, form-field, onto-turn, onto-last}
 use borrow.Author.Needs.{needs}
 use Rattle.short.proofs.forms.said.Statement.{statement}
 use Rattle.short.proofs.forms.said.Tie as tie
