@@ -109,3 +109,37 @@ impl Rooms {
         })
     }
 }
+
+#[cfg(test)]
+mod tests {
+    use super::On;
+    use crate::calls::Call;
+    use crate::compare::Rooms;
+    use crate::examples::e1;
+    use crate::sheet::Sheet;
+    use crate::slips::{all, SlowLibrary};
+
+    /// What does not fit together where this call is made on E1, with fields 0 and 1 answered and field 0 photographed.
+    fn problem(library: &SlowLibrary, call: &Call) -> Option<&'static str> {
+        let (rooms, book) = (Rooms::default(), e1().write());
+        On { rooms: &rooms, library, book: &book }.problem(call, &Sheet::of(&[0, 1]).with_photographs(&[0]))
+    }
+
+    #[test]
+    fn each_way() {
+        let (old, plain, photographed) = (vec![0, 1, 255], vec![0, 0, 0, 1, 1, 0, 2, 3], vec![0, 0, 1, 1, 1, 0, 2, 3]);
+        let moved = "an old form moved to the new and back is another";
+        for (slip, call, expected) in [
+            ("shorten: 255 refused by 14", Call::Shorten { form: old.clone() }, moved),
+            ("shorten: fields from 1", Call::Shorten { form: old }, moved),
+            ("shorten: 255 refused by 14", Call::Lengthen { form: plain }, "a new form moved to the old and back is another"),
+            ("load_short: photographs lost", Call::LoadShort { form: photographed }, "a new form loaded and stored is another"),
+            ("store_short: photographs lost", Call::StoreShort, "a sheet stored and loaded is another"),
+        ] {
+            let slips = all();
+            let wrong = SlowLibrary::with(slips.iter().find(|listed| listed.name == slip).expect("it is listed"));
+            assert_eq!(problem(&wrong, &call), Some(expected), "{slip}");
+            assert_eq!(problem(&SlowLibrary::default(), &call), None);
+        }
+    }
+}
