@@ -37,7 +37,7 @@ const FLAWS: [Flaw; 28] = [
     |_, _, form| form.rotate_right(2),
     |_, _, form| form.truncate(form.len() - 2),
     |_, _, form| form.extend_from_within(form.len() - 2..),
-    |r, book, form| lacking_field(r, book, form, |r, form| some_entry(r, form)),
+    |r, book, form| lacking_field(r, book, form, some_entry),
     |r, book, form| lacking_field(r, book, form, |_, form| entries(form).len().checked_sub(1)),
     |_, _, form| entries(form).iter_mut().for_each(|entry| entry[0] += 1),
     |r, _, form| exchanged(r, form),
