@@ -261,8 +261,11 @@ fn form(r: &mut Random, book: &Book) -> Vec<u8> {
     flawed(r, book, form)
 }
 
-/// One for the short form, in a few cases with several faults.
+/// One to shorten, in a few cases with several faults; and in a few, one that is short.
 fn form_to_shorten(r: &mut Random, book: &Book) -> Vec<u8> {
+    if r.one_in(24) {
+        return forms::some_form(r, book);
+    }
     let form = forms::some_old_form(r, book);
     flawed(r, book, form)
 }

@@ -29,8 +29,8 @@ pub struct Desk {
     pub row: row::Search,
     pub nearest: nearest::Search,
     pub load: fn(&Book, &[u8]) -> Result<Sheet, Refusal>,
-    pub load_short: fn(&Book, &[u8]) -> Result<Sheet, Refusal>,
-    pub store_short: fn(&Book, &Sheet) -> Vec<u8>,
+    pub load_short: short::Load,
+    pub store_short: short::Store,
     pub enter: Enter,
     /// One call of a list: its number, and the sheet after it.
     pub step: fn(Enter, &Book, &mut Sheet, &[u8]) -> u64,
@@ -160,9 +160,12 @@ fn photograph(reading: &Reading, sheet: &Sheet, field: usize) -> Result<Sheet, R
     Ok(sheet.with_photographs(&[field]))
 }
 
+fn store(reading: &Reading, sheet: &Sheet) -> Result<Vec<u8>, Refusal> {
+    stored(opened(reading, sheet)?, sheet)
+}
+
 /// One byte a field; that form has no place for a photograph.
-pub fn store(reading: &Reading, sheet: &Sheet) -> Result<Vec<u8>, Refusal> {
-    let book = opened(reading, sheet)?;
+pub fn stored(book: &Book, sheet: &Sheet) -> Result<Vec<u8>, Refusal> {
     refuse_if(sheet.has_photograph(), 22)?;
     Ok(sheet.answers[..book.counts.len()].to_vec())
 }

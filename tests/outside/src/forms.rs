@@ -37,7 +37,7 @@ const FLAWS: [Flaw; 28] = [
     |_, _, form| form.rotate_right(2),
     |_, _, form| form.truncate(form.len() - 2),
     |_, _, form| form.extend_from_within(form.len() - 2..),
-    |r, book, form| lacking_field(r, book, form, |r, form| some_entry(r, form)),
+    |r, book, form| lacking_field(r, book, form, some_entry),
     |r, book, form| lacking_field(r, book, form, |_, form| entries(form).len().checked_sub(1)),
     |_, _, form| entries(form).iter_mut().for_each(|entry| entry[0] += 1),
     |r, _, form| exchanged(r, form),
@@ -74,7 +74,7 @@ pub fn some_old_form(r: &mut Random, book: &Book) -> Vec<u8> {
     form
 }
 
-/// From none to all fields answered, in some sheets with photographs.
+/// From none to all fields answered, in some sheets with photographs, and in a few of the last answer alone.
 fn sheet(r: &mut Random, book: &Book) -> Sheet {
     let (mut sheet, quarters) = (FRESH, r.from(0, 4));
     for field in photographs::fields(book, |_| true) {
@@ -83,7 +83,10 @@ fn sheet(r: &mut Random, book: &Book) -> Sheet {
         }
     }
     photographs::take(r, &mut sheet);
-    sheet
+    match (0..PLACES).rfind(|&place| sheet.is_answered(place)) {
+        Some(last) if r.one_in(16) => sheet.photographed_where(|place| place == last),
+        _ => sheet,
+    }
 }
 
 /// The entries of a good form.

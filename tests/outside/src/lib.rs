@@ -5,6 +5,7 @@ pub mod asking;
 pub mod book;
 pub mod calls;
 pub mod cases;
+pub mod causes;
 pub mod compare;
 pub mod coverage;
 pub mod desk;

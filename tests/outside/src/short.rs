@@ -4,8 +4,14 @@
 use std::collections::BTreeMap;
 
 use crate::book::{refuse, Book, Refusal};
-use crate::desk::{accepted, is_no_code, opened, store as store_long, Desk, Reading};
+use crate::desk::{accepted, is_no_code, opened, stored, Desk, Reading};
 use crate::sheet::{Sheet, FRESH, PLACES};
+
+/// A way to load a short form by an accepted book.
+pub type Load = fn(&Book, &[u8]) -> Result<Sheet, Refusal>;
+
+/// A way to write the short form of a sheet without a fault.
+pub type Store = fn(&Book, &Sheet) -> Vec<u8>;
 
 /// What a form says of each answered field, by rising field: its code, and whether it is photographed.
 pub type Entries = BTreeMap<u8, [u8; 2]>;
@@ -62,12 +68,12 @@ impl Desk {
 
     /// "From the old form: 19 and 14 as in loading."
     pub fn shortened(&self, reading: &Reading, form: &[u8]) -> Result<Vec<u8>, Refusal> {
-        self.stored_short(reading, &self.loaded(reading, form)?)
+        Ok((self.store_short)(accepted(reading)?, &self.loaded(reading, form)?))
     }
 
     /// "With photographs the way back is refused by 22 as in storing."
     pub fn lengthened(&self, reading: &Reading, form: &[u8]) -> Result<Vec<u8>, Refusal> {
-        store_long(reading, &self.loaded_short(reading, form)?)
+        stored(accepted(reading)?, &self.loaded_short(reading, form)?)
     }
 }
 

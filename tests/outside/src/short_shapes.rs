@@ -3,7 +3,9 @@
 
 use std::ops::RangeInclusive;
 
+use crate::book::Book;
 use crate::calls::{Call, OF_A_SHORT_FORM, SHORTENING};
+use crate::causes::{Cause, Form};
 use crate::desk::{is_no_code, Desk};
 use crate::made::{Made, Shape};
 use crate::sheet::{Sheet, NO_ANSWER, PLACES};
@@ -17,129 +19,121 @@ const SHORTEN: &[&str] = &["shorten"];
 const WRITING: &[&str] = &["store_short", "shorten", "lengthen"];
 
 pub const SHAPES: &[Shape] = &[
-    ("no answers read", 3_300, OF_A_SHORT_FORM, |made| made.reads_answers(|answers, _| answers == 0)),
-    ("some fields answered, read", 2_000, OF_A_SHORT_FORM, |made| {
+    ("no answers read", 3_200, OF_A_SHORT_FORM, |made| made.reads_answers(|answers, _| answers == 0)),
+    ("some fields answered, read", 1_800, OF_A_SHORT_FORM, |made| {
         made.reads_answers(|answers, fields| 0 < answers && answers < fields)
     }),
-    ("all fields answered, read", 1_200, OF_A_SHORT_FORM, |made| made.reads_answers(|answers, fields| answers == fields)),
-    ("60 answers read", 52, OF_A_SHORT_FORM, |made| made.reads_answers(|answers, _| answers == PLACES)),
-    ("an answer of field 0 read", 2_200, OF_A_SHORT_FORM, |made| made.reads_field(0..=0)),
-    ("an answer of a field from 32 to 58 read", 340, OF_A_SHORT_FORM, |made| made.reads_field(32..=58)),
-    ("an answer of field 59 read", 130, OF_A_SHORT_FORM, |made| made.reads_field(59..=59)),
-    ("code 31 read", 77, OF_A_SHORT_FORM, |made| made.number() == 0 && made.entries().any(|[_, code, _]| code == 31)),
-    ("24 for no byte", 160, OF_A_SHORT_FORM, |made| made.is_24() && made.form().is_empty()),
-    ("24 for one byte", 330, OF_A_SHORT_FORM, |made| made.is_24() && made.form().len() == 1),
-    ("24 for one byte, the number of fields", 190, OF_A_SHORT_FORM, |made| made.is_24() && made.form() == [made.fields() as u8]),
-    ("24 for one byte more alone", 80, OF_A_SHORT_FORM, |made| made.is_by(Cause::Length) && made.form().len() % 3 == 0),
-    ("24 for two bytes more alone", 220, OF_A_SHORT_FORM, |made| made.is_by(Cause::Length) && made.form().len() % 3 == 1),
-    ("24 for more than 255 entries", 97, OF_A_SHORT_FORM, |made| made.is_24() && made.entries().count() > 255),
-    ("24 for more than 65,535 bytes", 45, OF_A_SHORT_FORM, |made| made.is_24() && made.form().len() > 65_535),
-    ("24 for one answer more told alone", 140, OF_A_SHORT_FORM, |made| {
+    ("all fields answered, read", 1_100, OF_A_SHORT_FORM, |made| made.reads_answers(|answers, fields| answers == fields)),
+    ("60 answers read", 44, OF_A_SHORT_FORM, |made| made.reads_answers(|answers, _| answers == PLACES)),
+    ("an answer of field 0 read", 2_000, OF_A_SHORT_FORM, |made| made.reads_field(0..=0)),
+    ("an answer of a field from 32 to 58 read", 310, OF_A_SHORT_FORM, |made| made.reads_field(32..=58)),
+    ("an answer of field 59 read", 120, OF_A_SHORT_FORM, |made| made.reads_field(59..=59)),
+    ("code 31 read", 78, OF_A_SHORT_FORM, |made| made.number() == 0 && made.entries().iter().any(|entry| entry[1] == 31)),
+    ("24 for no byte", 170, OF_A_SHORT_FORM, |made| made.is_24() && made.form().is_empty()),
+    ("24 for one byte", 340, OF_A_SHORT_FORM, |made| made.is_24() && made.form().len() == 1),
+    ("24 for one byte, the number of fields", 200, OF_A_SHORT_FORM, |made| made.is_24() && made.form() == [made.fields() as u8]),
+    ("24 for one byte more alone", 87, OF_A_SHORT_FORM, |made| made.is_by(Cause::Length) && made.form().len() % 3 == 0),
+    ("24 for two bytes more alone", 230, OF_A_SHORT_FORM, |made| made.is_by(Cause::Length) && made.form().len() % 3 == 1),
+    ("24 for more than 255 entries", 91, OF_A_SHORT_FORM, |made| made.is_24() && made.entries().len() > 255),
+    ("24 for more than 65,535 bytes", 46, OF_A_SHORT_FORM, |made| made.is_24() && made.form().len() > 65_535),
+    ("24 for one answer more told alone", 150, OF_A_SHORT_FORM, |made| {
         made.tells_otherwise(Cause::Answers, |told, answers| told == answers + 1)
     }),
     ("24 for one answer fewer told alone", 110, OF_A_SHORT_FORM, |made| {
         made.tells_otherwise(Cause::Answers, |told, answers| told + 1 == answers)
     }),
-    ("24 for 0 answers told alone", 83, OF_A_SHORT_FORM, |made| made.tells_otherwise(Cause::Answers, |told, _| told == 0)),
-    ("24 for 255 answers told alone", 46, OF_A_SHORT_FORM, |made| made.tells_otherwise(Cause::Answers, |told, _| told == 255)),
-    ("24 for one field more told alone", 32, OF_A_SHORT_FORM, |made| {
+    ("24 for 0 answers told alone", 81, OF_A_SHORT_FORM, |made| made.tells_otherwise(Cause::Answers, |told, _| told == 0)),
+    ("24 for 255 answers told alone", 42, OF_A_SHORT_FORM, |made| made.tells_otherwise(Cause::Answers, |told, _| told == 255)),
+    ("24 for one field more told alone", 30, OF_A_SHORT_FORM, |made| {
         made.tells_otherwise(Cause::Fields, |told, fields| told == fields + 1)
     }),
-    ("24 for one field fewer told alone", 37, OF_A_SHORT_FORM, |made| {
+    ("24 for one field fewer told alone", 30, OF_A_SHORT_FORM, |made| {
         made.tells_otherwise(Cause::Fields, |told, fields| told + 1 == fields)
     }),
-    ("24 for 0 fields told alone", 42, OF_A_SHORT_FORM, |made| made.tells_otherwise(Cause::Fields, |told, _| told == 0)),
-    ("24 for 255 fields told alone", 31, OF_A_SHORT_FORM, |made| made.tells_otherwise(Cause::Fields, |told, _| told == 255)),
-    ("24 for 60 fields told alone", 25, OF_A_SHORT_FORM, |made| made.tells_otherwise(Cause::Fields, |told, _| told == PLACES)),
+    ("24 for 0 fields told alone", 44, OF_A_SHORT_FORM, |made| made.tells_otherwise(Cause::Fields, |told, _| told == 0)),
+    ("24 for 255 fields told alone", 29, OF_A_SHORT_FORM, |made| made.tells_otherwise(Cause::Fields, |told, _| told == 255)),
+    ("24 for 60 fields told alone", 26, OF_A_SHORT_FORM, |made| made.tells_otherwise(Cause::Fields, |told, _| told == PLACES)),
     ("24 for a trailer turned round", 100, OF_A_SHORT_FORM, |made| {
-        made.is_by_all(&[Cause::Answers, Cause::Fields]) && made.trailer() == Some([made.fields(), made.entries().count()])
+        made.is_by_all(&[Cause::Answers, Cause::Fields]) && made.short().trailer() == Some([made.fields(), made.entries().len()])
     }),
-    ("24 for a field of the number of fields alone", 100, OF_A_SHORT_FORM, |made| made.is_of_no_field(|field, n| field == n)),
-    ("24 for field 255 alone", 24, OF_A_SHORT_FORM, |made| made.is_of_no_field(|field, _| field == 255)),
-    ("24 for a field that a sheet has a place for alone", 120, OF_A_SHORT_FORM, |made| {
+    ("24 for a field of the number of fields alone", 92, OF_A_SHORT_FORM, |made| made.is_of_no_field(|field, n| field == n)),
+    ("24 for field 255 alone", 22, OF_A_SHORT_FORM, |made| made.is_of_no_field(|field, _| field == 255)),
+    ("24 for a field that a sheet has a place for alone", 110, OF_A_SHORT_FORM, |made| {
         made.is_of_no_field(|field, _| field < PLACES)
     }),
-    ("24 for field 60 of 60 alone", 11, OF_A_SHORT_FORM, |made| made.is_of_no_field(|field, n| (field, n) == (60, 60))),
-    ("24 for the only entry's field alone", 48, OF_A_SHORT_FORM, |made| {
-        made.is_by(Cause::Lacking) && made.entries().count() == 1
-    }),
-    ("24 for a field twice alone, the first", 55, OF_A_SHORT_FORM, |made| {
+    ("24 for field 60 of 60 alone", 5, OF_A_SHORT_FORM, |made| made.is_of_no_field(|field, n| (field, n) == (60, 60))),
+    ("24 for the only entry's field alone", 50, OF_A_SHORT_FORM, |made| made.is_by(Cause::Lacking) && made.entries().len() == 1),
+    ("24 for a field twice alone, the first", 57, OF_A_SHORT_FORM, |made| {
         made.is_out_of_order(Place::First, |one, next| one == next)
     }),
-    ("24 for a field twice alone, in between", 19, OF_A_SHORT_FORM, |made| {
+    ("24 for a field twice alone, in between", 22, OF_A_SHORT_FORM, |made| {
         made.is_out_of_order(Place::Between, |one, next| one == next)
     }),
-    ("24 for a field twice alone, the last", 51, OF_A_SHORT_FORM, |made| {
+    ("24 for a field twice alone, the last", 53, OF_A_SHORT_FORM, |made| {
         made.is_out_of_order(Place::Last, |one, next| one == next)
     }),
-    ("24 for a falling field alone, the first", 27, OF_A_SHORT_FORM, |made| {
+    ("24 for a falling field alone, the first", 26, OF_A_SHORT_FORM, |made| {
         made.is_out_of_order(Place::First, |one, next| one > next)
     }),
-    ("24 for a falling field alone, in between", 10, OF_A_SHORT_FORM, |made| {
+    ("24 for a falling field alone, in between", 7, OF_A_SHORT_FORM, |made| {
         made.is_out_of_order(Place::Between, |one, next| one > next)
     }),
-    ("24 for a falling field alone, the last", 30, OF_A_SHORT_FORM, |made| {
+    ("24 for a falling field alone, the last", 34, OF_A_SHORT_FORM, |made| {
         made.is_out_of_order(Place::Last, |one, next| one > next)
     }),
-    ("24 for fields that all fall alone", 61, OF_A_SHORT_FORM, |made| {
-        made.is_by(Cause::Order) && made.entries().count() > 2 && made.pairs().all(|(one, next)| one > next)
+    ("24 for fields that all fall alone", 63, OF_A_SHORT_FORM, |made| {
+        made.is_by(Cause::Order) && made.entries().len() > 2 && made.short().pairs().all(|(one, next)| one > next)
     }),
     ("24 for a photographed byte of 2 alone", 59, OF_A_SHORT_FORM, |made| made.is_no_photograph(|_, byte| byte == 2)),
-    ("24 for a photographed byte of 255 alone", 26, OF_A_SHORT_FORM, |made| made.is_no_photograph(|_, byte| byte == 255)),
-    ("24 for a photographed byte from 3 to 254 alone", 130, OF_A_SHORT_FORM, |made| {
+    ("24 for a photographed byte of 255 alone", 29, OF_A_SHORT_FORM, |made| made.is_no_photograph(|_, byte| byte == 255)),
+    ("24 for a photographed byte from 3 to 254 alone", 120, OF_A_SHORT_FORM, |made| {
         made.is_no_photograph(|_, byte| (3..=254).contains(&byte))
     }),
-    ("24 for the first photographed byte alone", 73, OF_A_SHORT_FORM, |made| {
+    ("24 for the first photographed byte alone", 71, OF_A_SHORT_FORM, |made| {
         made.is_no_photograph(|place, _| place == Place::First)
     }),
-    ("24 for a photographed byte in between alone", 23, OF_A_SHORT_FORM, |made| {
+    ("24 for a photographed byte in between alone", 26, OF_A_SHORT_FORM, |made| {
         made.is_no_photograph(|place, _| place == Place::Between)
     }),
-    ("24 for the last photographed byte alone", 77, OF_A_SHORT_FORM, |made| {
+    ("24 for the last photographed byte alone", 67, OF_A_SHORT_FORM, |made| {
         made.is_no_photograph(|place, _| place == Place::Last)
     }),
-    ("24 for bytes of an old form", 80, OF_A_SHORT_FORM, |made| {
+    ("24 for bytes of an old form", 77, OF_A_SHORT_FORM, |made| {
         made.is_24() && Desk::default().loaded(made.reading, made.form()).is_ok()
     }),
-    ("24 for the length, before 14", 65, OF_A_SHORT_FORM, |made| made.is_by(Cause::Length) && made.codes_at_fault().count() > 0),
-    ("24 for the answers, before 14", 98, OF_A_SHORT_FORM, |made| {
-        made.is_by(Cause::Answers) && made.codes_at_fault().count() > 0
+    ("24 for the length, before 14", 67, OF_A_SHORT_FORM, |made| made.is_before_14(Cause::Length)),
+    ("24 for the answers, before 14", 95, OF_A_SHORT_FORM, |made| made.is_before_14(Cause::Answers)),
+    ("24 for the fields, before 14", 57, OF_A_SHORT_FORM, |made| made.is_before_14(Cause::Fields)),
+    ("24 for a field, before 14", 56, OF_A_SHORT_FORM, |made| made.is_before_14(Cause::Lacking)),
+    ("24 for the order, before 14", 130, OF_A_SHORT_FORM, |made| made.is_before_14(Cause::Order)),
+    ("24 for a photographed byte, before 14", 71, OF_A_SHORT_FORM, |made| made.is_before_14(Cause::Photographed)),
+    ("24 behind a code at fault", 20, OF_A_SHORT_FORM, |made| made.is_behind_fault()),
+    ("14 for the number of codes", 520, OF_A_SHORT_FORM, |made| made.is_fault_of(|[field, code, _]| code == made.count(field))),
+    ("14 for 254", 520, OF_A_SHORT_FORM, |made| made.is_fault_of(|[_, code, _]| code == 254)),
+    ("14 for 255", 520, OF_A_SHORT_FORM, |made| made.is_fault_of(|[_, code, _]| code == NO_ANSWER)),
+    ("14 for a photographed code", 560, OF_A_SHORT_FORM, |made| made.is_fault_of(|[_, _, photographed]| photographed == 1)),
+    ("14 for the only entry", 410, OF_A_SHORT_FORM, |made| made.number() == 14 && made.entries().len() == 1),
+    ("14 for the first of several entries", 970, OF_A_SHORT_FORM, |made| {
+        made.is_fault(|index| made.stands(index) == Place::First)
     }),
-    ("24 for the fields, before 14", 65, OF_A_SHORT_FORM, |made| made.is_by(Cause::Fields) && made.codes_at_fault().count() > 0),
-    ("24 for a field, before 14", 63, OF_A_SHORT_FORM, |made| made.is_by(Cause::Lacking) && made.codes_at_fault().count() > 0),
-    ("24 for the order, before 14", 130, OF_A_SHORT_FORM, |made| made.is_by(Cause::Order) && made.codes_at_fault().count() > 0),
-    ("24 for a photographed byte, before 14", 70, OF_A_SHORT_FORM, |made| {
-        made.is_by(Cause::Photographed) && made.codes_at_fault().count() > 0
+    ("14 for an entry in between", 260, OF_A_SHORT_FORM, |made| made.is_fault(|index| made.stands(index) == Place::Between)),
+    ("14 for the last of several entries", 440, OF_A_SHORT_FORM, |made| made.is_fault(|index| made.stands(index) == Place::Last)),
+    ("14 for one of several codes at fault", 610, OF_A_SHORT_FORM, |made| made.number() == 14 && made.codes_at_fault().len() > 1),
+    ("14 at a field that is not the entry's number", 790, OF_A_SHORT_FORM, |made| {
+        made.is_fault(|index| index as u64 != made.place())
     }),
-    ("24 behind a code at fault", 21, OF_A_SHORT_FORM, |made| made.is_behind_fault()),
-    ("14 for the number of codes", 510, OF_A_SHORT_FORM, |made| {
-        made.is_fault(|made, [field, code, _]| code == made.count(field))
-    }),
-    ("14 for 254", 520, OF_A_SHORT_FORM, |made| made.is_fault(|_, [_, code, _]| code == 254)),
-    ("14 for 255", 510, OF_A_SHORT_FORM, |made| made.is_fault(|_, [_, code, _]| code == NO_ANSWER)),
-    ("14 for a photographed code", 500, OF_A_SHORT_FORM, |made| made.is_fault(|_, [_, _, photographed]| photographed == 1)),
-    ("14 for the only entry", 400, OF_A_SHORT_FORM, |made| made.number() == 14 && made.entries().count() == 1),
-    ("14 for the first of several entries", 960, OF_A_SHORT_FORM, |made| made.is_fault_at(Place::First)),
-    ("14 for an entry in between", 250, OF_A_SHORT_FORM, |made| made.is_fault_at(Place::Between)),
-    ("14 for the last of several entries", 450, OF_A_SHORT_FORM, |made| made.is_fault_at(Place::Last)),
-    ("14 for one of several codes at fault", 580, OF_A_SHORT_FORM, |made| {
-        made.number() == 14 && made.codes_at_fault().count() > 1
-    }),
-    ("14 at a field that is not the entry's number", 800, OF_A_SHORT_FORM, |made| {
-        made.number() == 14 && made.codes_at_fault().next().is_some_and(|entry| entry as u64 != made.place())
-    }),
-    ("14 at a field from 32 to 58", 58, OF_A_SHORT_FORM, |made| made.number() == 14 && (32..=58).contains(&made.place())),
-    ("14 at field 59", 23, OF_A_SHORT_FORM, |made| made.number() == 14 && made.place() == 59),
-    ("some answers photographed in the form", 1_000, LOAD, |made| {
+    ("14 at a field from 32 to 58", 52, OF_A_SHORT_FORM, |made| made.number() == 14 && (32..=58).contains(&made.place())),
+    ("14 at field 59", 22, OF_A_SHORT_FORM, |made| made.number() == 14 && made.place() == 59),
+    ("some answers photographed in the form", 1_200, LOAD, |made| {
         made.number() == 0 && made.made_sheet().has_photograph() && !made.made_sheet().is_all_photographed()
     }),
-    ("all answers photographed in the form", 860, LOAD, |made| made.number() == 0 && made.made_sheet().is_all_photographed()),
-    ("field 0 photographed in the form", 910, LOAD, |made| made.number() == 0 && made.made_sheet().is_photographed(0)),
+    ("all answers photographed in the form", 870, LOAD, |made| made.number() == 0 && made.made_sheet().is_all_photographed()),
+    ("field 0 photographed in the form", 860, LOAD, |made| made.number() == 0 && made.made_sheet().is_photographed(0)),
     ("a field from 32 to 58 photographed in the form", 300, LOAD, |made| {
         made.number() == 0 && (32..=58).any(|field| made.made_sheet().is_photographed(field))
     }),
     ("field 59 photographed in the form", 110, LOAD, |made| made.number() == 0 && made.made_sheet().is_photographed(59)),
-    ("60 answers photographed in the form", 36, LOAD, |made| {
+    ("60 answers photographed in the form", 33, LOAD, |made| {
         made.number() == 0 && made.made_sheet().photographed().count() == PLACES
     }),
     ("an answer before it of a field without an entry", 5_100, LOAD, |made| {
@@ -153,49 +147,47 @@ pub const SHAPES: &[Shape] = &[
     ("1 to 13 with answers before it", 5_200, LOAD, |made| {
         made.is_refused(1..=13) && some_place(|place| made.sheet().is_answered(place))
     }),
-    ("24 before 22", 940, LENGTHEN, |made| made.is_24() && made.has_photographed_entry()),
-    ("14 before 22", 770, LENGTHEN, |made| made.number() == 14 && made.has_photographed_entry()),
-    ("22 for the first of several entries alone", 130, LENGTHEN, |made| made.is_22_for(Place::First)),
-    ("22 for an entry in between alone", 160, LENGTHEN, |made| made.is_22_for(Place::Between)),
-    ("22 for the last of several entries alone", 240, LENGTHEN, |made| made.is_22_for(Place::Last)),
-    ("22 for all entries", 890, LENGTHEN, |made| {
-        made.number() == 22 && made.entries().all(|[_, _, photographed]| photographed == 1)
+    ("24 before 22", 1_000, LENGTHEN, |made| made.is_24() && made.has_photographed_entry()),
+    ("14 before 22", 870, LENGTHEN, |made| made.number() == 14 && made.has_photographed_entry()),
+    ("22 for the first of several entries alone", 110, LENGTHEN, |made| {
+        made.is_22_for(|index| made.stands(index) == Place::First)
     }),
-    ("22 for field 59 alone", 7, LENGTHEN, |made| {
-        made.number() == 22 && made.entries().filter(|entry| entry[2] == 1).all(|[field, ..]| field == 59)
-    }),
+    ("22 for an entry in between alone", 160, LENGTHEN, |made| made.is_22_for(|index| made.stands(index) == Place::Between)),
+    ("22 for the last of several entries alone", 510, LENGTHEN, |made| made.is_22_for(|index| made.stands(index) == Place::Last)),
+    ("22 for all entries", 910, LENGTHEN, |made| made.number() == 22 && made.entries().iter().all(|entry| entry[2] == 1)),
+    ("22 for field 59 alone", 28, LENGTHEN, |made| made.is_22_for(|index| made.entries()[index][0] == 59)),
     ("24 before 18", 3_600, LENGTHEN, |made| made.is_24() && made.lent() < made.fields()),
     ("24 where enough is lent", 2_700, LENGTHEN, |made| made.is_24() && made.lent() >= made.fields()),
     ("14 before 18", 2_100, LENGTHEN, |made| made.number() == 14 && made.lent() < made.fields()),
-    ("14 where enough is lent", 1_500, LENGTHEN, |made| made.number() == 14 && made.lent() >= made.fields()),
-    ("22 before 18", 1_900, LENGTHEN, |made| made.number() == 22 && made.lent() < made.fields()),
-    ("22 where enough is lent", 1_300, LENGTHEN, |made| made.number() == 22 && made.lent() >= made.fields()),
-    ("18 for a form shorter than the fields", 2_700, LENGTHEN, |made| {
+    ("14 where enough is lent", 1_600, LENGTHEN, |made| made.number() == 14 && made.lent() >= made.fields()),
+    ("22 before 18", 2_200, LENGTHEN, |made| made.number() == 22 && made.lent() < made.fields()),
+    ("22 where enough is lent", 1_600, LENGTHEN, |made| made.number() == 22 && made.lent() >= made.fields()),
+    ("18 for a form shorter than the fields", 2_600, LENGTHEN, |made| {
         made.number() == 18 && made.form().len() < made.fields() && made.lent() >= made.form().len()
     }),
-    ("fewer bytes lent than the form has", 3_300, LENGTHEN, |made| made.number() == 0 && made.lent() < made.form().len()),
-    ("no answers written", 1_800, SHORTENING, |made| made.writes(|answers, _| answers == 0)),
-    ("one answer written", 940, SHORTENING, |made| made.writes(|answers, _| answers == 1)),
-    ("some fields answered, written", 2_900, SHORTENING, |made| made.writes(|answers, fields| 0 < answers && answers < fields)),
-    ("all fields answered, written", 1_800, SHORTENING, |made| made.writes(|answers, fields| answers == fields)),
-    ("182 bytes written", 100, SHORTENING, |made| made.writes(|answers, _| answers == PLACES)),
-    ("182 bytes asked, 181 lent", 100, SHORTENING, |made| made.number() == 18 && (made.asked(), made.lent()) == (182, 181)),
-    ("field 0 without an answer, written", 3_300, SHORTENING, |made| made.writes_sheet(|sheet, _| !sheet.is_answered(0))),
-    ("the last field alone answered, written", 460, SHORTENING, |made| {
+    ("fewer bytes lent than the form has", 3_100, LENGTHEN, |made| made.number() == 0 && made.lent() < made.form().len()),
+    ("no answers written", 1_700, SHORTENING, |made| made.writes(|answers, _| answers == 0)),
+    ("one answer written", 890, SHORTENING, |made| made.writes(|answers, _| answers == 1)),
+    ("some fields answered, written", 2_700, SHORTENING, |made| made.writes(|answers, fields| 0 < answers && answers < fields)),
+    ("all fields answered, written", 1_700, SHORTENING, |made| made.writes(|answers, fields| answers == fields)),
+    ("182 bytes written", 95, SHORTENING, |made| made.writes(|answers, _| answers == PLACES)),
+    ("182 bytes asked, 181 lent", 95, SHORTENING, |made| made.number() == 18 && (made.asked(), made.lent()) == (182, 181)),
+    ("field 0 without an answer, written", 3_100, SHORTENING, |made| made.writes_sheet(|sheet, _| !sheet.is_answered(0))),
+    ("the last field alone answered, written", 430, SHORTENING, |made| {
         made.writes_sheet(|sheet, fields| (0..fields).all(|field| sheet.is_answered(field) == (field + 1 == fields)))
     }),
-    ("a field from 32 to 58 written", 650, SHORTENING, |made| {
+    ("a field from 32 to 58 written", 610, SHORTENING, |made| {
         made.writes_sheet(|sheet, _| (32..=58).any(|f| sheet.is_answered(f)))
     }),
-    ("field 59 written", 270, SHORTENING, |made| made.writes_sheet(|sheet, _| sheet.is_answered(59))),
-    ("a form shorter than the fields, written where it has room", 1_600, SHORTENING, |made| {
+    ("field 59 written", 250, SHORTENING, |made| made.writes_sheet(|sheet, _| sheet.is_answered(59))),
+    ("a form shorter than the fields, written where it has room", 1_500, SHORTENING, |made| {
         made.number() == 0 && made.lent() < made.fields()
     }),
-    ("18 where as many bytes are lent as fields", 4_500, SHORTENING, |made| made.number() == 18 && made.lent() >= made.fields()),
-    ("one byte too few", 6_600, WRITING, |made| made.number() == 18 && made.lent() + 1 == made.asked()),
-    ("no byte lent", 1_300, WRITING, |made| made.number() == 18 && made.lent() == 0),
-    ("just enough lent", 6_600, WRITING, |made| made.number() == 0 && made.lent() == made.asked()),
-    ("more lent", 6_600, WRITING, |made| made.number() == 0 && made.lent() > made.asked()),
+    ("18 where as many bytes are lent as fields", 4_300, SHORTENING, |made| made.number() == 18 && made.lent() >= made.fields()),
+    ("one byte too few", 6_300, WRITING, |made| made.number() == 18 && made.lent() + 1 == made.asked()),
+    ("no byte lent", 1_200, WRITING, |made| made.number() == 18 && made.lent() == 0),
+    ("just enough lent", 6_300, WRITING, |made| made.number() == 0 && made.lent() == made.asked()),
+    ("more lent", 6_300, WRITING, |made| made.number() == 0 && made.lent() > made.asked()),
     ("14 before 18", 1_700, SHORTENING, |made| made.number() == 14 && made.lent() < 2),
     ("14 where enough is lent", 960, SHORTENING, |made| made.number() == 14 && made.lent() >= 3 * made.fields() + 2),
     ("some answers photographed, written", 2_100, STORE, |made| made.number() == 0 && made.is_part_photographed()),
@@ -211,28 +203,11 @@ pub const SHAPES: &[Shape] = &[
     ("a photograph of field 59, written", 110, STORE, |made| made.number() == 0 && made.sheet().is_photographed(59)),
     ("60 photographs written", 35, STORE, |made| made.number() == 0 && made.sheet().photographed().count() == PLACES),
     ("18 with a photograph", 3_300, STORE, |made| made.number() == 18 && made.sheet().has_photograph()),
-    ("19 before 14", 1_900, SHORTEN, |made| made.number() == 19 && made.old_faults().next().is_some()),
-    ("19 before 18", 5_900, SHORTEN, |made| made.number() == 19 && made.lent() < 2),
-    ("19 where enough is lent", 3_200, SHORTEN, |made| made.number() == 19 && made.lent() >= 3 * made.fields() + 2),
-    ("14 for one of several codes of an old form", 410, SHORTEN, |made| made.number() == 14 && made.old_faults().count() > 1),
+    ("19 before 14", 2_100, SHORTEN, |made| made.number() == 19 && made.old_faults().next().is_some()),
+    ("19 before 18", 6_200, SHORTEN, |made| made.number() == 19 && made.lent() < 2),
+    ("19 where enough is lent", 3_500, SHORTEN, |made| made.number() == 19 && made.lent() >= 3 * made.fields() + 2),
+    ("14 for one of several codes of an old form", 380, SHORTEN, |made| made.number() == 14 && made.old_faults().count() > 1),
 ];
-
-/// What makes bytes no short form.
-#[derive(Clone, Copy, PartialEq)]
-enum Cause {
-    /// They are no entries of three bytes and two more.
-    Length,
-    /// The trailer's number of answers is not that of the entries.
-    Answers,
-    /// The trailer's number of fields is not the book's.
-    Fields,
-    /// The book has no such field.
-    Lacking,
-    Order,
-    Photographed,
-}
-
-const CAUSES: [Cause; 6] = [Cause::Length, Cause::Answers, Cause::Fields, Cause::Lacking, Cause::Order, Cause::Photographed];
 
 /// Where something stands among several, in a row of that length.
 #[derive(Clone, Copy, PartialEq)]
@@ -260,36 +235,18 @@ fn some_place(so: impl Fn(usize) -> bool) -> bool {
 }
 
 impl Made<'_> {
+    /// The bytes that the call is given.
     fn form(&self) -> &[u8] {
         self.trial.call.list()
     }
 
-    /// The entries of a short form, as many as are whole.
-    fn entries(&self) -> impl Iterator<Item = [u8; 3]> + '_ {
-        let (entries, _) = self.form()[..self.form().len().saturating_sub(2)].as_chunks();
-        entries.iter().copied()
+    /// These bytes as a short form.
+    fn short(&self) -> Form<'_> {
+        Form { fields: self.fields(), bytes: self.form() }
     }
 
-    /// The fields of each entry and the next.
-    fn pairs(&self) -> impl Iterator<Item = (u8, u8)> + '_ {
-        self.entries().zip(self.entries().skip(1)).map(|(one, next)| (one[0], next[0]))
-    }
-
-    /// The number of answers and the number of fields that a short form tells.
-    fn trailer(&self) -> Option<[usize; 2]> {
-        self.form().last_chunk().map(|told: &[u8; 2]| told.map(usize::from))
-    }
-
-    fn has(&self, cause: Cause) -> bool {
-        let told = self.trailer();
-        match cause {
-            Cause::Length => self.form().len() % 3 != 2,
-            Cause::Answers => told.is_none_or(|[answers, _]| answers != self.entries().count()),
-            Cause::Fields => told.is_none_or(|[_, fields]| fields != self.fields()),
-            Cause::Lacking => self.entries().any(|[field, ..]| field as usize >= self.fields()),
-            Cause::Order => self.pairs().any(|(one, next)| one >= next),
-            Cause::Photographed => self.entries().any(|[_, _, photographed]| photographed > 1),
-        }
+    fn entries(&self) -> &[[u8; 3]] {
+        self.short().entries()
     }
 
     fn is_24(&self) -> bool {
@@ -298,7 +255,7 @@ impl Made<'_> {
 
     /// 24 for these causes and no others.
     fn is_by_all(&self, causes: &[Cause]) -> bool {
-        self.is_24() && CAUSES.iter().all(|&cause| self.has(cause) == causes.contains(&cause))
+        self.is_24() && self.short().has_just(causes)
     }
 
     /// 24 for this cause alone.
@@ -308,8 +265,8 @@ impl Made<'_> {
 
     /// 24 for a number of the trailer alone, which is so beside the right one.
     fn tells_otherwise(&self, cause: Cause, so: fn(usize, usize) -> bool) -> bool {
-        let pair = self.trailer().map(|[answers, fields]| match cause {
-            Cause::Answers => (answers, self.entries().count()),
+        let pair = self.short().trailer().map(|[answers, fields]| match cause {
+            Cause::Answers => (answers, self.entries().len()),
             _ => (fields, self.fields()),
         });
         self.is_by(cause) && pair.is_some_and(|(told, right)| so(told, right))
@@ -317,40 +274,51 @@ impl Made<'_> {
 
     /// 24 for a field alone that the book lacks: the first such is so beside the number of fields.
     fn is_of_no_field(&self, so: fn(usize, usize) -> bool) -> bool {
-        let mut lacking = self.entries().map(|[field, ..]| field as usize).filter(|&field| field >= self.fields());
-        self.is_by(Cause::Lacking) && lacking.next().is_some_and(|field| so(field, self.fields()))
+        let lacking = self.entries().iter().map(|entry| entry[0] as usize).find(|&field| field >= self.fields());
+        self.is_by(Cause::Lacking) && lacking.is_some_and(|field| so(field, self.fields()))
     }
 
     /// 24 for one pair of fields alone, which stands there among all pairs and is so.
     fn is_out_of_order(&self, place: Place, so: fn(u8, u8) -> bool) -> bool {
-        let wrong: Vec<usize> = (0..).zip(self.pairs()).filter(|(_, (one, next))| one >= next).map(|(index, _)| index).collect();
-        let is_there = |index: usize| Place::of(index, self.entries().count() - 1) == place;
+        let pairs: Vec<(u8, u8)> = self.short().pairs().collect();
+        let wrong: Vec<usize> = (0..pairs.len()).filter(|&index| pairs[index].0 >= pairs[index].1).collect();
         self.is_by(Cause::Order)
             && wrong.len() == 1
-            && is_there(wrong[0])
-            && self.pairs().nth(wrong[0]).is_some_and(|(one, next)| so(one, next))
+            && Place::of(wrong[0], pairs.len()) == place
+            && so(pairs[wrong[0]].0, pairs[wrong[0]].1)
+    }
+
+    /// The entries that are so, by their number.
+    fn which(&self, so: impl Fn([u8; 3]) -> bool) -> Vec<usize> {
+        (0..self.entries().len()).filter(|&index| so(self.entries()[index])).collect()
+    }
+
+    /// Where an entry stands among all.
+    fn stands(&self, index: usize) -> Place {
+        Place::of(index, self.entries().len())
     }
 
     /// 24 for one photographed byte alone, which is so, with its entry's place.
     fn is_no_photograph(&self, so: fn(Place, u8) -> bool) -> bool {
-        let wrong: Vec<(usize, u8)> = (0..).zip(self.entries().map(|entry| entry[2])).filter(|&(_, byte)| byte > 1).collect();
-        let is_so = |(index, byte): (usize, u8)| so(Place::of(index, self.entries().count()), byte);
-        self.is_by(Cause::Photographed) && wrong.len() == 1 && is_so(wrong[0])
+        let wrong = self.which(|[_, _, photographed]| photographed > 1);
+        self.is_by(Cause::Photographed) && wrong.len() == 1 && so(self.stands(wrong[0]), self.entries()[wrong[0]][2])
     }
 
-    /// The entries of the book's fields whose codes are at fault, by their number.
-    fn codes_at_fault(&self) -> impl Iterator<Item = usize> + '_ {
-        let is_fault = |[field, code, _]: [u8; 3]| {
-            self.reading.as_ref().is_ok_and(|book| (field as usize) < self.fields() && is_no_code(book, field as usize, code))
-        };
-        self.entries().enumerate().filter(move |&(_, entry)| is_fault(entry)).map(|(index, _)| index)
+    /// The entries of the book's fields whose codes are at fault.
+    fn codes_at_fault(&self) -> Vec<usize> {
+        let is_fault = |book: &Book, field: usize, code: u8| field < book.counts.len() && is_no_code(book, field, code);
+        self.which(|[field, code, _]| self.reading.as_ref().is_ok_and(|book| is_fault(book, field as usize, code)))
     }
 
-    /// 24 for what stands behind a code at fault, which a form read entry by entry would meet first.
+    /// 24 for this cause alone, with a code at fault.
+    fn is_before_14(&self, cause: Cause) -> bool {
+        self.is_by(cause) && !self.codes_at_fault().is_empty()
+    }
+
+    /// 24 for a photographed byte behind a code at fault, which a form read entry by entry would meet first.
     fn is_behind_fault(&self) -> bool {
-        let mut wrong = self.entries().enumerate().filter(|(_, [_, _, photographed])| *photographed > 1);
-        let first = wrong.next().map(|(index, _)| index);
-        self.is_by(Cause::Photographed) && self.codes_at_fault().next().is_some_and(|fault| Some(fault) < first)
+        let first = self.which(|[_, _, photographed]| photographed > 1).first().copied();
+        self.is_by(Cause::Photographed) && self.codes_at_fault().first().is_some_and(|&fault| Some(fault) < first)
     }
 
     /// The place that 14 names.
@@ -363,34 +331,33 @@ impl Made<'_> {
         self.reading.as_ref().map_or(0, |book| book.counts[field as usize])
     }
 
-    /// 14 for an entry that is so.
-    fn is_fault(&self, so: fn(&Self, [u8; 3]) -> bool) -> bool {
-        let first = || self.codes_at_fault().next().and_then(|index| self.entries().nth(index));
-        self.number() == 14 && first().is_some_and(|entry| so(self, entry))
+    /// 14 for an entry that is so, by its number.
+    fn is_fault(&self, so: impl Fn(usize) -> bool) -> bool {
+        self.number() == 14 && self.codes_at_fault().first().is_some_and(|&index| so(index))
     }
 
-    fn is_fault_at(&self, place: Place) -> bool {
-        let first = || self.codes_at_fault().next();
-        self.number() == 14 && first().is_some_and(|index| Place::of(index, self.entries().count()) == place)
+    /// 14 for an entry with such bytes.
+    fn is_fault_of(&self, so: impl Fn([u8; 3]) -> bool) -> bool {
+        self.is_fault(|index| so(self.entries()[index]))
     }
 
     fn has_photographed_entry(&self) -> bool {
-        self.entries().any(|[_, _, photographed]| photographed == 1)
+        self.entries().iter().any(|entry| entry[2] == 1)
     }
 
-    /// 22 for this entry alone.
-    fn is_22_for(&self, place: Place) -> bool {
-        let photographed: Vec<usize> = (0..).zip(self.entries()).filter(|(_, entry)| entry[2] == 1).map(|(i, _)| i).collect();
-        self.number() == 22 && photographed.len() == 1 && Place::of(photographed[0], self.entries().count()) == place
+    /// 22 for one entry alone, which is so.
+    fn is_22_for(&self, so: impl Fn(usize) -> bool) -> bool {
+        let photographed = self.which(|[_, _, photographed]| photographed == 1);
+        self.number() == 22 && photographed.len() == 1 && so(photographed[0])
     }
 
     /// An accepted short form has so many answers of so many fields.
     fn reads_answers(&self, so: fn(usize, usize) -> bool) -> bool {
-        self.number() == 0 && so(self.entries().count(), self.fields())
+        self.number() == 0 && so(self.entries().len(), self.fields())
     }
 
     fn reads_field(&self, fields: RangeInclusive<u8>) -> bool {
-        self.number() == 0 && self.entries().any(|[field, ..]| fields.contains(&field))
+        self.number() == 0 && self.entries().iter().any(|entry| fields.contains(&entry[0]))
     }
 
     /// The sheet that the call hands back.

@@ -49,7 +49,7 @@ impl On<'_> {
     }
 
     /// "Moving an old form to the new and back gives the old bytes", and both make the same sheet.
-    fn from_old(&self, form: &[u8]) -> Option<&'static str> {
+    fn old_moved(&self, form: &[u8]) -> Option<&'static str> {
         let short = self.shorten(form).unwrap_or_default();
         match (self.lengthen(&short).as_deref() == Some(form), self.load_short(&short) == self.load(form)) {
             (false, _) => Some("an old form moved to the new and back is another"),
@@ -59,7 +59,7 @@ impl On<'_> {
     }
 
     /// "Moving a new form without photographs to the old and back gives the new bytes. With photographs the way back is refused."
-    fn from_new(&self, form: &[u8]) -> Option<&'static str> {
+    fn new_moved(&self, form: &[u8]) -> Option<&'static str> {
         let loaded = self.load_short(form)?;
         match self.lengthen(form) {
             Some(_) if loaded.has_photograph() => Some("a new form with photographs is moved to the old"),
@@ -72,12 +72,13 @@ impl On<'_> {
     }
 
     /// "Sheets can be loaded from and stored in the new form, marks kept."
-    fn from_sheet(&self, sheet: &Sheet) -> Option<&'static str> {
+    fn stored_and_loaded(&self, sheet: &Sheet) -> Option<&'static str> {
         let loaded = self.store_short(*sheet).and_then(|form| self.load_short(&form));
         (loaded != Some(sheet.in_bits())).then_some("a sheet stored and loaded is another")
     }
 
-    fn by_loading(&self, form: &[u8]) -> Option<&'static str> {
+    /// The other way round.
+    fn loaded_and_stored(&self, form: &[u8]) -> Option<&'static str> {
         let stored = self.load_short(form).and_then(|sheet| self.store_short(sheet));
         (stored.as_deref() != Some(form)).then_some("a new form loaded and stored is another")
     }
@@ -85,10 +86,10 @@ impl On<'_> {
     /// What does not fit together, of a call that has to be accepted.
     fn problem(&self, call: &Call, sheet: &Sheet) -> Option<&'static str> {
         match call {
-            Call::Shorten { form } => self.from_old(form),
-            Call::Lengthen { form } => self.from_new(form),
-            Call::StoreShort => self.from_sheet(sheet),
-            Call::LoadShort { form } => self.by_loading(form).or_else(|| self.from_new(form)),
+            Call::Shorten { form } => self.old_moved(form),
+            Call::Lengthen { form } => self.new_moved(form),
+            Call::StoreShort => self.stored_and_loaded(sheet),
+            Call::LoadShort { form } => self.loaded_and_stored(form).or_else(|| self.new_moved(form)),
             _ => None,
         }
     }
@@ -107,5 +108,39 @@ impl Rooms {
                 format!("{call:?}\nbook {book}\nsheet {sheet}\n{problem}")
             })
         })
+    }
+}
+
+#[cfg(test)]
+mod tests {
+    use super::On;
+    use crate::calls::Call;
+    use crate::compare::Rooms;
+    use crate::examples::e1;
+    use crate::sheet::Sheet;
+    use crate::slips::{all, SlowLibrary};
+
+    /// What does not fit together where this call is made on E1, with fields 0 and 1 answered and field 0 photographed.
+    fn problem(library: &SlowLibrary, call: &Call) -> Option<&'static str> {
+        let (rooms, book) = (Rooms::default(), e1().write());
+        On { rooms: &rooms, library, book: &book }.problem(call, &Sheet::of(&[0, 1]).with_photographs(&[0]))
+    }
+
+    #[test]
+    fn each_way() {
+        let (old, plain, photographed) = (vec![0, 1, 255], vec![0, 0, 0, 1, 1, 0, 2, 3], vec![0, 0, 1, 1, 1, 0, 2, 3]);
+        let moved = "an old form moved to the new and back is another";
+        for (slip, call, expected) in [
+            ("shorten: 255 refused by 14", Call::Shorten { form: old.clone() }, moved),
+            ("shorten: fields from 1", Call::Shorten { form: old }, moved),
+            ("shorten: 255 refused by 14", Call::Lengthen { form: plain }, "a new form moved to the old and back is another"),
+            ("load_short: photographs lost", Call::LoadShort { form: photographed }, "a new form loaded and stored is another"),
+            ("store_short: photographs lost", Call::StoreShort, "a sheet stored and loaded is another"),
+        ] {
+            let slips = all();
+            let wrong = SlowLibrary::with(slips.iter().find(|listed| listed.name == slip).expect("it is listed"));
+            assert_eq!(problem(&wrong, &call), Some(expected), "{slip}");
+            assert_eq!(problem(&SlowLibrary::default(), &call), None);
+        }
     }
 }

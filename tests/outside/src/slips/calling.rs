@@ -5,18 +5,19 @@ use super::{
     Wrong::{Left, Part},
 };
 use crate::book::{refuse, Book, Refusal};
-use crate::calls::{self, Call, CHANGING, OF_A_CODE, OF_A_FIELD, OF_A_SHEET, ONE_FOR_EACH, TELLING};
+use crate::calls::{self, Call, CHANGING, OF_A_CODE, OF_A_FIELD, OF_A_FORM, OF_A_SHEET, ONE_FOR_EACH, TELLING};
 use crate::compare::UNWRITTEN;
 use crate::desk::{faults, Desk};
 use crate::filter::largest;
 use crate::reader::field_list;
 use crate::sheet::{Sheet, FRESH, NO_ANSWER};
 
-const WRITING: &[&str] = &["filtered", "alternatives", "nearest", "store", "replay", "report", "show", "write"];
+const WRITING: &[&str] =
+    &["filtered", "alternatives", "nearest", "store", "store_short", "shorten", "lengthen", "replay", "report", "show", "write"];
 /// The calls that refuse a field without an answer.
 const OF_AN_ANSWER: &[&str] = &["withdraw", "photograph", "filtered"];
 /// The calls that write and have a count.
-const COUNTING: &[&str] = &["alternatives", "nearest", "replay", "report", "show", "write"];
+const COUNTING: &[&str] = &["alternatives", "nearest", "store_short", "shorten", "lengthen", "replay", "report", "show", "write"];
 
 pub const SLIPS: &[Listed] = &[
     ("a field taken as a byte", OF_A_FIELD, Part(|desk| desk.taken = |call| taken(call, byte, whole))),
@@ -28,7 +29,7 @@ pub const SLIPS: &[Listed] = &[
     ("a code by its low five bits", OF_A_CODE, Part(|desk| desk.taken = |call| taken(call, whole, |code| code % 32))),
     ("a list of calls that stops after ten", &["replay"], Part(|desk| desk.taken = ten_calls)),
     ("an incomplete last call made", &["replay"], Part(|desk| desk.taken = completed)),
-    ("14 tested before 19", &["load", "report"], Part(|desk| desk.load = fault_first)),
+    ("14 tested before 19", OF_A_FORM, Part(|desk| desk.load = fault_first)),
     ("14 tested before 8 to 13", OF_A_SHEET, Left(fault_before_tables)),
     ("14 names the last place at fault", OF_A_SHEET, Left(last_fault_named)),
     ("15 tested before 14", OF_A_FIELD, Left(|seen, left| before(left, 14, 15, || seen.has_no_field()))),
@@ -45,7 +46,7 @@ pub const SLIPS: &[Listed] = &[
     ("zeros behind what is written", WRITING, Left(cleared_behind)),
     ("a refusal clears the sheet", CHANGING, Left(|_, left| if_refused(left, |left| left.sheet = FRESH))),
     ("a refusal clears the sheet", &["replay"], Left(|_, left| if_refused(left, |left| left.sheet = FRESH))),
-    ("a refusal leaves the sheet", &["load"], Left(|seen, left| if_refused(left, |left| left.sheet = *seen.sheet))),
+    ("a refusal leaves the sheet", &["load", "load_short"], Left(|seen, left| if_refused(left, |left| left.sheet = *seen.sheet))),
     ("a refusal's place not written", TELLING, Left(|_, left| if_refused(left, |left| left.cells[0] = UNWRITTEN))),
     ("an accepted call's place not written", TELLING, Left(place_unwritten)),
 ];
@@ -100,7 +101,7 @@ fn fault_first(book: &Book, form: &[u8]) -> Result<Sheet, Refusal> {
 
 impl Seen<'_> {
     pub fn accepted(&self) -> &Book {
-        self.reading.as_ref().expect("14 to 18 and 21 to 23 come after the book was read")
+        self.reading.as_ref().expect("14 to 19 and 21 to 24 come after the book was read")
     }
 
     pub fn field(&self) -> usize {

@@ -181,7 +181,7 @@ fn missing_as_1(call: &Call) -> Call {
     }
 }
 
-fn nothing_lent_first(seen: &Seen, left: &mut calls::Left) {
+pub fn nothing_lent_first(seen: &Seen, left: &mut calls::Left) {
     if (1..=13).contains(&left.number) && seen.lent == 0 {
         left.number = 18;
         left.cells.fill(0);

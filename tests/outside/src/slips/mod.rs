@@ -5,6 +5,7 @@ mod calling;
 mod counting;
 mod doubting;
 mod filtering;
+mod lengthening;
 mod lifting;
 mod listing;
 mod nearing;
@@ -14,6 +15,7 @@ mod pointing;
 mod reading;
 mod resending;
 mod rows;
+mod shortening;
 mod straying;
 mod versions;
 
@@ -26,6 +28,7 @@ use crate::library::{Lent, Library};
 use crate::nearest;
 use crate::row::Search;
 use crate::sheet::Sheet;
+use crate::short;
 pub use lifting::listed_although_empty;
 pub use straying::Stray;
 
@@ -51,6 +54,10 @@ pub enum Wrong {
     Near(nearest::Search),
     /// The desk enters a code of a field by this.
     Entered(Enter),
+    /// The desk loads short forms by this.
+    Loaded(short::Load),
+    /// The desk writes short forms by this.
+    Stored(short::Store),
     /// The desk leaves something else than it answers.
     Left(fn(&Seen, &mut Left)),
     /// The desk touches memory that it may not touch.
@@ -80,7 +87,8 @@ pub fn all() -> Vec<Slip> {
     let of_rows = [counting::SLIPS, pointing::SLIPS, nearing::SLIPS].concat();
     let of_versions = [versions::SLIPS, places::SLIPS].concat();
     let of_photographs = [photographs::SLIPS, doubting::SLIPS, resending::SLIPS].concat();
-    let listed = [&of_document_01, &of_rows[..], &of_versions, &of_photographs, lifting::SLIPS, listing::SLIPS].concat();
+    let of_forms = [listing::SLIPS, shortening::SLIPS, lengthening::SLIPS].concat();
+    let listed = [&of_document_01, &of_rows[..], &of_versions, &of_photographs, lifting::SLIPS, &of_forms].concat();
     let in_each = |(what, calls, wrong): Listed| calls.iter().map(move |call| Slip::new(call, what, wrong));
     listed.into_iter().flat_map(in_each).chain(straying::slips()).collect()
 }
@@ -112,6 +120,8 @@ impl SlowLibrary {
             Wrong::Sought(search) => desk.row = search,
             Wrong::Near(search) => desk.nearest = search,
             Wrong::Entered(enter) => desk.enter = enter,
+            Wrong::Loaded(load) => desk.load_short = load,
+            Wrong::Stored(store) => desk.store_short = store,
             _ => {}
         }
         SlowLibrary { desk, wrong: Some(slip.wrong), last: RefCell::default() }
@@ -232,6 +242,16 @@ mod tests {
             ("nearest: all answered fields counted", "the reading is not the nearest to itself"),
         ];
         are_seen(&slips, |library, rooms, case, reading| rooms.reading_disagreement(library, case, reading));
+    }
+
+    #[test]
+    fn forms_that_the_way_back_does_not_give_are_seen() {
+        let slips = [
+            ("store_short: photographs lost", "a sheet stored and loaded is another"),
+            ("store_short: fields from 32 on left out", "a new form loaded and stored is another"),
+            ("shorten: 255 refused by 14", "a new form moved to the old and back is another"),
+        ];
+        are_seen(&slips, |library, rooms, case, reading| rooms.form_disagreement(library, case, reading));
     }
 
     #[test]

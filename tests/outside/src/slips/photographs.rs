@@ -187,7 +187,7 @@ pub const SLIPS: &[Listed] = &[
     }),
     of(MAKING, "photographs before the answers", |_, left| left.sheet = exchanged(&left.sheet)),
     of(&["clear"], "photographed answers left", photographed_left),
-    of(&["load"], "photographs left by a refusal", |seen, left| {
+    of(&["load", "load_short"], "photographs left by a refusal", |seen, left| {
         if_refused(left, |left| left.sheet.photographs = seen.sheet.photographs)
     }),
     of(FILTERED, "a photographed field refused by 22", |seen, left| turn_down(seen, left, 22, |seen| seen.is_photographed())),

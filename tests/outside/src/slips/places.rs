@@ -9,7 +9,7 @@ use super::{
     Wrong::{Left, Part},
 };
 use crate::book::{field_limit, refuse, Book, Refusal};
-use crate::calls::{self, Call, OF_A_FIELD, OF_A_SHEET, ONE_FOR_EACH};
+use crate::calls::{self, Call, OF_A_FIELD, OF_A_FORM, OF_A_SHEET, ONE_FOR_EACH};
 use crate::desk::{faults, is_on_field, step, Desk};
 use crate::filter::{allowed, alternatives, largest, pass_cases, remove, unsupported, Alternatives, Filter, PassCase, Subdomain};
 use crate::sheet::{Sheet, NO_ANSWER, PLACES};
@@ -18,6 +18,9 @@ use crate::sheet::{Sheet, NO_ANSWER, PLACES};
 const BEHIND: usize = field_limit(1);
 
 const LAST: usize = PLACES - 1;
+
+/// The calls that make a sheet of what they are given.
+const FORMING: &[&str] = &["load", "load_short", "replay"];
 
 const fn of_a_sheet(what: &'static str, change: fn(&Seen, &mut calls::Left)) -> Listed {
     (what, OF_A_SHEET, Left(change))
@@ -28,7 +31,7 @@ const fn of_a_field(what: &'static str, exchange: fn(&mut Desk)) -> Listed {
 }
 
 const fn loading(what: &'static str, exchange: fn(&mut Desk)) -> Listed {
-    (what, &["load", "report"], Part(exchange))
+    (what, OF_A_FORM, Part(exchange))
 }
 
 pub const fn replaying(what: &'static str, exchange: fn(&mut Desk)) -> Listed {
@@ -57,12 +60,8 @@ pub const SLIPS: &[Listed] = &[
     of_a_sheet("14 sees no byte above 127", |seen, left| unseen(seen, left, |place, sheet, _| sheet.answers[place] > 127)),
     ("only the first 32 places made 255", &["fresh", "clear"], Left(|seen, left| kept(seen, left, BEHIND))),
     ("the last place not made 255", &["fresh", "clear"], Left(|seen, left| kept(seen, left, LAST))),
-    (
-        "places from 32 on behind the fields left as they were",
-        &["load", "replay"],
-        Left(|seen, left| kept_behind(seen, left, BEHIND)),
-    ),
-    ("the last place left as it was behind the fields", &["load", "replay"], Left(|seen, left| kept_behind(seen, left, LAST))),
+    ("places from 32 on behind the fields left as they were", FORMING, Left(|seen, left| kept_behind(seen, left, BEHIND))),
+    ("the last place left as it was behind the fields", FORMING, Left(|seen, left| kept_behind(seen, left, LAST))),
     of_a_field("fields from 32 on taken as none", |desk| desk.taken = |call| taken(call, |f| none_if(f, f >= BEHIND), whole)),
     of_a_field("field 59 taken as none", |desk| desk.taken = |call| taken(call, |f| none_if(f, f == LAST), whole)),
     of_a_field("a field by its low five bits", |desk| desk.taken = |call| taken(call, |f| remainder(f, 32), whole)),

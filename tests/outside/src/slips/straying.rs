@@ -69,19 +69,19 @@ impl Stray {
 /// The calls that each memory is lent to.
 const LENT: [(Memory, &[&str]); 9] = [
     (Memory::Book, OF_A_BOOK),
-    (Memory::List, &["load", "replay", "report"]),
+    (Memory::List, &["load", "load_short", "shorten", "lengthen", "replay", "report"]),
     (Memory::Listing, &["write"]),
     (Memory::Sheet, MAKING),
     (Memory::Sheet, OF_A_SHEET),
     (Memory::Outcome, TELLING),
-    (Memory::Bytes, &["alternatives", "nearest", "store", "replay", "report", "write"]),
+    (Memory::Bytes, &["alternatives", "nearest", "store", "store_short", "shorten", "lengthen", "replay", "report", "write"]),
     (Memory::Shown, &["show"]),
     (Memory::Numbers, &["filtered"]),
 ];
 
 /// The calls that each memory is lent to be read only.
 const LENT_TO_READ: [(Memory, &[&str]); 4] =
-    [LENT[0], LENT[1], LENT[2], (Memory::Sheet, &["filtered", "alternatives", "row", "nearest", "store"])];
+    [LENT[0], LENT[1], LENT[2], (Memory::Sheet, &["filtered", "alternatives", "row", "nearest", "store", "store_short"])];
 
 const BESIDE: [(Place, Access); 4] = [
     (Place::Before, Access::Read),
