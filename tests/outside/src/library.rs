@@ -97,10 +97,7 @@ impl Library for Wrapper {
         let mut sheet = given;
         let result = match call {
             Call::Read => sighting::read(book).map(|c| vec![c.fields, c.tables, c.rows, c.different_rows]),
-            Call::Fresh => {
-                sheet = sighting::Sheet::fresh();
-                Ok(Vec::new())
-            }
+            Call::Fresh => handed_back(Ok(sighting::Sheet::fresh()), &mut sheet),
             Call::Clear => {
                 sheet.clear();
                 Ok(Vec::new())
@@ -108,10 +105,7 @@ impl Library for Wrapper {
             Call::Enter { field, code } => nothing_counted(sheet.enter(book, *field, *code)),
             Call::Withdraw { field } => nothing_counted(sheet.withdraw(book, *field)),
             Call::Photograph { field } => nothing_counted(sheet.photograph(book, *field)),
-            Call::Filtered { relaxed } => {
-                let relaxed = Some(*relaxed).filter(|&f| f != sighting::NO_ANSWER as usize);
-                nothing_counted(sheet.filtered(book, relaxed, numbers))
-            }
+            Call::Filtered { relaxed } => nothing_counted(sheet.filtered(book, field_of(*relaxed), numbers)),
             Call::Alternatives => counts(sheet.alternatives(book, bytes)),
             Call::Row { field, code, table } => sheet.row(book, *field, *code, *table).map(row::told),
             Call::Nearest => {
@@ -123,11 +117,7 @@ impl Library for Wrapper {
             Call::StoreShort => one_count(sheet.store_short(book, bytes)),
             Call::Shorten { .. } => one_count(sighting::shorten(book, list, bytes)),
             Call::Lengthen { .. } => one_count(sighting::lengthen(book, list, bytes)),
-            Call::Replay { .. } => {
-                let (reached, result) = sighting::Sheet::replay(book, list, bytes);
-                sheet = reached;
-                counts(result)
-            }
+            Call::Replay { .. } => replayed(sighting::Sheet::replay(book, list, bytes), &mut sheet),
             Call::Report { .. } => one_count(sighting::report(book, list, bytes)),
             Call::Show => one_count(sighting::show(book, lent.shown.elements_mut())),
             Call::Write { .. } => one_count(sighting::write(lent.listing.elements(), bytes)),
@@ -143,6 +133,17 @@ impl Library for Wrapper {
 
 fn counts(result: Result<Alternatives, Refusal>) -> Result<Vec<u64>, Refusal> {
     result.map(|found| vec![found.total, found.struck])
+}
+
+/// The field relaxed, or none for 255.
+fn field_of(relaxed: usize) -> Option<usize> {
+    Some(relaxed).filter(|&f| f != sighting::NO_ANSWER as usize)
+}
+
+/// Hands the sheet reached back.
+fn replayed(answer: (sighting::Sheet, Result<Alternatives, Refusal>), sheet: &mut sighting::Sheet) -> Result<Vec<u64>, Refusal> {
+    *sheet = answer.0;
+    counts(answer.1)
 }
 
 fn one_count(result: Result<u64, Refusal>) -> Result<Vec<u64>, Refusal> {
