@@ -6,5 +6,4 @@ pub mod Rows
 pub mod TablesFit
 pub mod Answers
 pub mod Injective
-pub mod Walking
 pub mod Checks

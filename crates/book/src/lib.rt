@@ -1,4 +1,6 @@
 // The reader: whether bytes are a book, and what is counted in it. Document 01, "The book's bytes" and "When a call is turned down".
+#![tactic(auto)]
+
 ghost use Rattle.std.specs.Prelude.{◌≡◌, ◌↔◌};
 ghost use Rattle.format.specs.Reading.{reading, checking};
 ghost use Rattle.format.specs.Layout.{HasLayout};

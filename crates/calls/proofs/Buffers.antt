@@ -40,6 +40,7 @@ refused_18 bytes s q given e = at q given (condition1 bytes s q (λ z. omega ari
 -- writing is refused on a condition of its own, whatever the bytes
 of_writing : {bytes : List ℕ} {s : Sheet} {l o : List ℕ} {number place : ℕ} → RefusedBy bytes s (to_write l o) number place → WriteRefusal l o number place
 of_writing (the_book g e r) = absurd (true≢false (sym g))
+of_writing {bytes = bytes} {s = s} {l = l} {o = o} {number = number} {place = place} (the_call _ x) = elim x [ ]
 of_writing (the_listing r) = r
 
 -- ---- that condition

@@ -1,1 +1,3 @@
 // Arc consistency: definitions and theorems alone, no code.
+#![tactic(auto)]
+

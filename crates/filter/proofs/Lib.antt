@@ -32,5 +32,4 @@ pub mod Gathers
 pub mod Passes
 pub mod Agreement
 pub mod Emptied
-pub mod ViewCalls
 pub mod Lookups

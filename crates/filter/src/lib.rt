@@ -1,5 +1,7 @@
 // The filter over an accepted book: the one pass for all cases, plain filtering by the same engine with one case, the cases of a pass in
 // which some field is empty, and the row behind a code.
+#![tactic(auto)]
+
 ghost use Rattle.std.specs.Prelude.{◌≡◌};
 ghost use Rattle.format.specs.Format.{book_of};
 ghost use Rattle.book.specs.View.{Viewed};

@@ -1,1 +1,3 @@
 // The book's format: definitions and theorems alone, no code.
+#![tactic(auto)]
+

@@ -1,5 +1,7 @@
 // Joining two books into one, request M-109. A set of fields is one number, the word of its field list, and so is a row: sets and rows rise
 // as these words do. The next table is that of the least set left, and its rows are those in every table on it.
+#![tactic(auto)]
+
 ghost use Rattle.std.specs.Prelude.{◌≡◌, ◌≤◌, length, take};
 ghost use Rattle.format.specs.Format.{book_of};
 ghost use Rattle.format.specs.Writing.{into};
@@ -27,7 +29,7 @@ pub enum Joined {
 }
 
 // The numbers of an accepted book, as checking it answers them.
-#[derive(Drop)]
+#[derive(Clone, Copy)]
 pub(crate) struct Numbers {
     list: usize,
     fields: usize,

@@ -1,4 +1,6 @@
 // Listings: a book shown as the run of numbers that the compilers keep, and a book written from one. Requests M-100 and M-103.
+#![tactic(auto)]
+
 ghost use Rattle.std.specs.Prelude.{◌≡◌, ◌≢◌, ◌↔◌};
 ghost use Rattle.format.specs.Writing.{showing, writing};
 ghost use Rattle.format.specs.WriteAndShow.{HasListing};

@@ -1,4 +1,6 @@
 // The nearest full reading of an accepted book. Document 02, M-106.
+#![tactic(auto)]
+
 ghost use Rattle.std.specs.Prelude.{◌≡◌, not, ◌&&◌, eqb, ltb};
 ghost use Rattle.format.specs.Basics.{pick};
 ghost use Rattle.format.specs.Format.{book_of};

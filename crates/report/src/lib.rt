@@ -1,4 +1,6 @@
 // The whole text that the desk prints. Document 01, "Examples to hold".
+#![tactic(auto)]
+
 ghost use Rattle.std.specs.Prelude.{◌≡◌, ◌≤◌, length};
 ghost use Rattle.format.specs.Format.{book_of};
 ghost use Rattle.format.specs.Writing.{into};

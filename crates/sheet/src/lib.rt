@@ -1,4 +1,6 @@
 // The sheet and its calls. Document 01, "The sheet and its one pass" and "When a call is turned down"; document 02, M-104 to M-107.
+#![tactic(auto)]
+
 ghost use Rattle.std.specs.Prelude.{◌≡◌, false, List, [], ◌∷◌, ℕ, ◌≤◌, get_or};
 ghost use Rattle.consistency.specs.Counting.{any_below};
 ghost use Rattle.consistency.specs.Consistency.{places};

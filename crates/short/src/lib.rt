@@ -1,4 +1,6 @@
 // The short stored form of a sheet: sheets loaded from it and stored in it, and moved between it and the old form. Document 02, M-108.
+#![tactic(auto)]
+
 ghost use Rattle.std.specs.Prelude.{◌≡◌, List, [], ℕ};
 ghost use Rattle.calls.specs.Calls.{fresh_sheet, turned};
 ghost use Rattle.calls.specs.Short.{loaded_short, stored_short, shortened, lengthened};
