@@ -98,7 +98,7 @@ pub fn gather(book: &[u8], start: usize, arity: usize, list: &mut [u32])
 }
 
 // How the rows of a table stand: no word is less than the one before it, and so many are different; or one is less.
-#[derive(Drop)]
+#[derive(Clone, Copy)]
 pub(crate) enum Order {
     Rises(usize),
     Falls,

@@ -44,7 +44,7 @@ pub const BOOK_LIMIT: usize = TABLE_LIMIT * (3 + ARITY_LIMIT)
     + 6;
 
 // Why bytes are no book. number_of (specs) gives each kind document 01's number.
-#[derive(Drop)]
+#[derive(Clone, Copy)]
 pub enum Refusal {
     Length,
     Closing,
@@ -83,7 +83,7 @@ pub fn number(kind: Refusal) -> u64
 }
 
 // What reading answers: the counts of an accepted book, or the first refusal and its place.
-#[derive(Drop)]
+#[derive(Clone, Copy)]
 pub enum Reading {
     Accepted {
         fields: usize,
@@ -95,7 +95,7 @@ pub enum Reading {
 }
 
 // What checking answers: the numbers of an accepted book that calls on it start from, or the first refusal and its place.
-#[derive(Drop)]
+#[derive(Clone, Copy)]
 pub enum Checked {
     Good {
         list: usize,
@@ -107,7 +107,7 @@ pub enum Checked {
 }
 
 // A book, held as one view on the lent bytes: where its field list stands, and its numbers of fields, tables and rows.
-#[derive(Drop)]
+#[derive(Clone, Copy)]
 pub struct Book<'a> {
     pub bytes: &'a [u8],
     pub list: usize,

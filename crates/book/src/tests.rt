@@ -13,14 +13,14 @@ use super::{
 const LENGTH_LIMIT: usize = 32768;
 
 // A test's answer.
-#[derive(Drop)]
+#[derive(Clone, Copy)]
 pub(crate) enum Test {
     Pass,
     Fail(Refusal, usize),
 }
 
 // A table's answer: where it ends, with the rows so far, or a refusal.
-#[derive(Drop)]
+#[derive(Clone, Copy)]
 pub(crate) enum Step {
     Next { at: usize, rows: usize },
     Stop(Refusal, usize),

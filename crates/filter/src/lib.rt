@@ -31,7 +31,7 @@ const EVERY_CASE: u64 = 18446744073709551615;
 
 // The number of the first row of a table that supports a code; or that none does; or that the table has no column for the field, as it is
 // with a table that the book lacks.
-#[derive(Drop)]
+#[derive(Clone, Copy)]
 pub enum Supporting {
     Row(usize),
     NoRow,

@@ -13,14 +13,14 @@ use super::support::{Found, Shape, shape_at, support, wide};
 use book::{CODES, PLACES};
 
 // The cases in which each code still looks for a row that supports it, and the number of codes that have such a case.
-#[derive(Drop)]
+#[derive(Clone, Copy)]
 struct Need {
     cases: [u64; CODES],
     waiting: usize,
 }
 
 // The strikes so far, and the tables to look at again.
-#[derive(Drop)]
+#[derive(Clone, Copy)]
 pub(crate) struct Pass {
     pub(crate) struck: u32,
     pub(crate) queue: u64,

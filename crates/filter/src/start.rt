@@ -10,7 +10,7 @@ use super::support::wide;
 use book::{CODES, PLACES};
 
 // The cases: all of them, and for each field those that relax it.
-#[derive(Drop)]
+#[derive(Clone, Copy)]
 pub(crate) struct OwnCases {
     pub(crate) words: [u64; PLACES],
     pub(crate) all: u64,

@@ -7,7 +7,7 @@ use super::WORDS;
 use book::CODES;
 
 // A table's place, number of fields, place of its first row, and number of rows.
-#[derive(Drop)]
+#[derive(Clone, Copy)]
 pub(crate) struct Shape {
     pub(crate) at: usize,
     pub(crate) arity: usize,
@@ -16,7 +16,7 @@ pub(crate) struct Shape {
 }
 
 // The first supporting row, with the cases that it supports.
-#[derive(Drop)]
+#[derive(Clone, Copy)]
 pub(crate) enum Found {
     Row(usize, u64),
     Nothing,

@@ -17,7 +17,7 @@ const NO_KEY: usize = 4294967296;
 const END_MOST: usize = PLACES + 6;
 
 // Too many tables or rows, or more than there is room for; or where the tables end and how many they are.
-#[derive(Drop)]
+#[derive(Clone, Copy)]
 pub(crate) enum Laid {
     Over,
     All(usize, usize),

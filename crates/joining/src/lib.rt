@@ -19,7 +19,7 @@ mod sets;
 
 // What join answers: how many bytes it wrote; the reader's refusal of the first book, or else of the second, and its place; that the books'
 // code counts differ; that the joined book breaks a limit; or that fewer bytes are lent.
-#[derive(Drop)]
+#[derive(Clone, Copy)]
 pub enum Joined {
     Bytes(usize),
     Refused(Refusal, usize),
@@ -38,7 +38,7 @@ pub(crate) struct Numbers {
 }
 
 // What laying out the joined book answers: that it breaks a limit, or has no room; or how many bytes it has.
-#[derive(Drop)]
+#[derive(Clone, Copy)]
 pub(crate) enum Whole {
     Over,
     Laid(usize),

@@ -13,7 +13,7 @@ mod numbers;
 mod tests;
 
 // What show answers: how many numbers it wrote, the reader's refusal of the book and its place, or that fewer are lent.
-#[derive(Drop)]
+#[derive(Clone, Copy)]
 pub enum Shown {
     Numbers(usize),
     Refused(Refusal, usize),
@@ -21,7 +21,7 @@ pub enum Shown {
 }
 
 // What write answers: how many bytes it wrote, that the numbers are no book's listing, or that fewer bytes are lent.
-#[derive(Drop)]
+#[derive(Clone, Copy)]
 pub enum Written {
     Bytes(usize),
     Unwritable,

@@ -11,7 +11,7 @@ use book::BOOK_LIMIT;
 const BYTE_LIMIT: u16 = 255;
 
 // A table's answer: the place behind it, or that it cannot be laid out.
-#[derive(Drop)]
+#[derive(Clone, Copy)]
 pub(crate) enum Step {
     Next(usize),
     Stop,

@@ -18,7 +18,7 @@ mod rows;
 const READINGS: usize = 65536;
 
 // The nearest reading so far, and in how many fields it differs; more fields than the book has where none is found.
-#[derive(Drop)]
+#[derive(Clone, Copy)]
 pub struct Found {
     pub least: usize,
     pub reading: [u8; PLACES],
@@ -38,7 +38,7 @@ fn apart(answer: u8, code: u8) -> usize
 }
 
 // Where the search stands: the codes of the fields below f, how many of them differ, and the nearest reading so far.
-#[derive(Drop)]
+#[derive(Clone, Copy)]
 pub(crate) struct Turn {
     pub(crate) reading: [u8; PLACES],
     pub(crate) f: usize,

@@ -14,7 +14,7 @@ use book::PLACES;
 const WORD_BITS: usize = 32;
 
 // A reading's codes for the fields of a table up to one of them: how many, and as one number.
-#[derive(Drop)]
+#[derive(Clone, Copy)]
 pub(crate) struct Front {
     pub(crate) width: usize,
     pub(crate) word: u32,

@@ -26,7 +26,7 @@ pub const PAIR_BYTES: usize = 2 * (PLACES * CODES);
 const NONE_RELAXED: usize = 255;
 
 // The length of the text that was written; or 18, too few bytes lent.
-#[derive(Drop)]
+#[derive(Clone, Copy)]
 pub enum Printed {
     Written(usize),
     TooShort,

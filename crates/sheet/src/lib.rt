@@ -19,14 +19,14 @@ mod masks;
 pub mod opened;
 
 // For each place the answered code, or 255 for no answer, and whether a photograph backs the answer.
-#[derive(Drop)]
+#[derive(Clone, Copy)]
 pub struct Sheet {
     pub answers: [u8; PLACES],
     pub photographed: [bool; PLACES],
 }
 
 // Why a call is turned down: the reader's refusal of the book, 14 to 19, or 21 to 24. number_of (specs) gives each the papers' number.
-#[derive(Drop)]
+#[derive(Clone, Copy)]
 pub enum Reason {
     Book(Refusal),
     Fault,
@@ -61,35 +61,35 @@ pub fn number(reason: Reason) -> u64
 }
 
 // The answer of a call that counts nothing: a refusal has its reason and its place.
-#[derive(Drop)]
+#[derive(Clone, Copy)]
 pub enum Answer {
     Done,
     Refused(Reason, usize),
 }
 
 // The answer of a call beside the sheet that it hands back.
-#[derive(Drop)]
+#[derive(Clone, Copy)]
 pub struct Handed {
     pub answer: Answer,
     pub sheet: Sheet,
 }
 
 // The answer of alternatives.
-#[derive(Drop)]
+#[derive(Clone, Copy)]
 pub enum Listing {
     Listed { total: usize, struck: u32 },
     Unlisted(Reason, usize),
 }
 
 // The answer of alternatives beside the sheet that it hands back.
-#[derive(Drop)]
+#[derive(Clone, Copy)]
 pub struct HandedList {
     pub answer: Listing,
     pub sheet: Sheet,
 }
 
 // The answer of row: the number of a row, or that there is none.
-#[derive(Drop)]
+#[derive(Clone, Copy)]
 pub enum RowAnswer {
     Row(usize),
     NoRow,
@@ -97,14 +97,14 @@ pub enum RowAnswer {
 }
 
 // The answer of row beside the sheet that it hands back.
-#[derive(Drop)]
+#[derive(Clone, Copy)]
 pub struct HandedRow {
     pub answer: RowAnswer,
     pub sheet: Sheet,
 }
 
 // The answer of nearest: in how many fields the reading written differs from the answers, and its number of bytes; or that there is none.
-#[derive(Drop)]
+#[derive(Clone, Copy)]
 pub enum ReadingAnswer {
     Reading { differing: usize, written: usize },
     NoReading,
@@ -112,7 +112,7 @@ pub enum ReadingAnswer {
 }
 
 // The answer of nearest beside the sheet that it hands back.
-#[derive(Drop)]
+#[derive(Clone, Copy)]
 pub struct HandedReading {
     pub answer: ReadingAnswer,
     pub sheet: Sheet,

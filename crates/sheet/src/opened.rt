@@ -9,7 +9,7 @@ use super::Reason;
 use book::{Checked, PLACES};
 
 // A book and a sheet that pass, with the numbers of a view of the book; or the first refusal and its place.
-#[derive(Drop)]
+#[derive(Clone, Copy)]
 pub enum Opened {
     Ready {
         list: usize,

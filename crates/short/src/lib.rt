@@ -18,14 +18,14 @@ mod forms;
 pub const FORM_BYTES: usize = 3 * PLACES + 2;
 
 // The answer of a call that writes a form: how many bytes it wrote; a refusal has its reason and its place.
-#[derive(Drop)]
+#[derive(Clone, Copy)]
 pub enum Written {
     Bytes(usize),
     Unwritten(Reason, usize),
 }
 
 // The answer of storing beside the sheet that it hands back.
-#[derive(Drop)]
+#[derive(Clone, Copy)]
 pub struct HandedForm {
     pub answer: Written,
     pub sheet: Sheet,

@@ -1,0 +1,46 @@
+use mathlib.Core.Path.{refl}
+use native.Mathlib.Omega.{arith}
+use lib.ListN.{get_or, length-set}
+use mathlib.Core.Bool.{false}
+use Rattle.short.proofs.WriteTurns.{flag_is, wrote_none, answers_few, room_trailer, same_room, wrote_skip, room_entry, wrote_entry, wrote_all}
+use borrow.Author.Rules.{rules}
+use Rattle.short.proofs.entries.write.Goals as goal
+
+pub loop-f-init : goal.loop-f-init
+loop-f-init c = (omega arith, wrote_none _ _ _ c.requires (search rules))
+
+pub bounds-answers-f : goal.bounds-answers-f
+bounds-answers-f c = omega (arith, c.requires.few)
+
+pub overflow_add-f : goal.overflow_add-f
+overflow_add-f c = omega (arith, c.requires.few)
+
+pub loop-f-preserved-then-answers-f : goal.loop-f-preserved-then-answers-f
+loop-f-preserved-then-answers-f c = (omega arith, wrote_skip _ _ _ c.requires (search rules) _ _ _ _ c.loop-f.invariant.1 c.loop-f-test.true c.if-answers-f.true)
+
+pub put_entry-next-requires : goal.put_entry-next-requires
+put_entry-next-requires c = omega (arith, room_entry _ _ _ c.requires (search rules) _ _ _ _ c.loop-f.invariant.1 c.loop-f-test.true c.if-answers-f.false, same_room _ _ _ c.requires (search rules) _ _ _ _ c.loop-f.invariant.1)
+
+pub overflow_add-many : goal.overflow_add-many
+overflow_add-many c = omega (arith, answers_few _ _ _ c.requires (search rules) _ _ _ _ c.loop-f.invariant.1, c.requires.few)
+
+pub loop-f-preserved : goal.loop-f-preserved
+loop-f-preserved c = (omega arith, wrote_entry _ _ _ c.requires (search rules) _ _ _ _ c.loop-f.invariant.1 c.loop-f-test.true c.if-answers-f.false _ _ _ _ _ refl refl (flag_is (get_or c.args.photographed c.loop-f.f false)) c.put_entry-next.ensures.1 c.put_entry-next.ensures.0)
+
+pub bounds-out-next : goal.bounds-out-next
+bounds-out-next c = omega (arith, room_trailer _ _ _ c.requires (search rules) _ _ _ _ c.loop-f.invariant.1 c.loop-f.invariant.0, same_room _ _ _ c.requires (search rules) _ _ _ _ c.loop-f.invariant.1)
+
+pub overflow_add-out : goal.overflow_add-out
+overflow_add-out c = omega (arith, room_trailer _ _ _ c.requires (search rules) _ _ _ _ c.loop-f.invariant.1 c.loop-f.invariant.0)
+
+pub bounds-out-next-2 : goal.bounds-out-next-2
+bounds-out-next-2 c = simp length-set (omega (arith, room_trailer _ _ _ c.requires (search rules) _ _ _ _ c.loop-f.invariant.1 c.loop-f.invariant.0, same_room _ _ _ c.requires (search rules) _ _ _ _ c.loop-f.invariant.1))
+
+pub overflow_add-result : goal.overflow_add-result
+overflow_add-result c = omega (arith, room_trailer _ _ _ c.requires (search rules) _ _ _ _ c.loop-f.invariant.1 c.loop-f.invariant.0)
+
+pub shape_of-out : goal.shape_of-out
+shape_of-out c = simp length-set (same_room _ _ _ c.requires (search rules) _ _ _ _ c.loop-f.invariant.1)
+
+pub returns : goal.returns
+returns c = wrote_all _ _ _ c.requires (search rules) _ _ _ _ c.loop-f.invariant.1 (omega arith) _ _ _ refl refl refl

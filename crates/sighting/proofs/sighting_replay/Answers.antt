@@ -1,0 +1,9 @@
+-- `sighting_replay` meets its contract: what the call hands back is put where room is lent for it. Assumes nothing.
+use Rattle.calls.specs.Histories.{calls_in}
+use Rattle.sighting.proofs.Along.{replay_told}
+use Rattle.sighting.proofs.sighting_replay.Goals as goal
+
+pub returns : goal.returns
+returns c =
+    let all = replay_told c.args.book.now (calls_in c.args.calls.now) c.args.out.now (c.hand_list.ensures _) c.replay.ensures.answer in
+    record { answer = all.0; bytes = all.1.0; condition3 = all.1.1 }
