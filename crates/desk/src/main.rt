@@ -1,8 +1,12 @@
 // The desk: prints what it has to say of the book in book.bin and of the stored sheet in sheet.bin, in the current folder.
-ghost use Rattle.io.specs.Counts.{IsPrefixLen};
+#![tactic(auto)]
 
-use libc::STDOUT_FILENO;
+ghost use Rattle.std.specs.Counts.{IsPrefixLen};
+
 use report::{Printed, TEXT_LIMIT};
+use std::fs::File;
+use std::io;
+use std::io::{Read, Write};
 
 // One byte more than a book may have, so that too long is told from long enough.
 const BOOK_BYTES: usize = 32769;
@@ -10,30 +14,40 @@ const BOOK_BYTES: usize = 32769;
 // More than any sheet has.
 const SHEET_BYTES: usize = 64;
 
-// Reads a file, and answers how many bytes it has: 0 where it cannot be opened.
-fn read_file(path: &[u8], buffer: &mut [u8]) -> usize
+// Fills the buffer from the file as far as it goes, and answers how many bytes that are. A read that fails ends the file.
+fn read_full(file: &mut File, buffer: &mut [u8]) -> usize
     ensures { IsPrefixLen result buffer.new }
 {
-    let fd = os::open_read(path);
-    if fd < 0 {
-        return 0;
+    let mut count = 0;
+    while count < buffer.len() {
+        match file.read(&mut buffer[count..]) {
+            Ok(0) | Err(_) => return count,
+            Ok(n) => count += n,
+        }
     }
-    let count = io::read_full(fd, buffer);
-    libc::close(fd);
     count
 }
 
-fn main() {
+// Reads a file, and answers how many bytes it has: 0 where it cannot be opened.
+fn read_file(rt: &HostRuntime, path: &str, buffer: &mut [u8]) -> usize
+    ensures { IsPrefixLen result buffer.new }
+{
+    let mut file = match File::open(rt, path) {
+        Ok(file) => file,
+        Err(_) => return 0,
+    };
+    read_full(&mut file, buffer)
+}
+
+fn main(rt: HostRuntime) -> io::Result<()> {
     let mut book = [0; BOOK_BYTES];
     let mut form = [0; SHEET_BYTES];
     let mut text = [0; TEXT_LIMIT];
-    let book_length = read_file(b"book.bin", &mut book);
-    let form_length = read_file(b"sheet.bin", &mut form);
+    let book_length = read_file(&rt, "book.bin", &mut book);
+    let form_length = read_file(&rt, "sheet.bin", &mut form);
     let printed = report::report(&book[..book_length], &form[..form_length], &mut text);
     if let Printed::Written(length) = printed {
-        // A program has no exit status of its own: bin/desk makes one of what is said here.
-        if !io::write_all(STDOUT_FILENO, &text[..length]) {
-            os::fail(b"desk");
-        }
+        io::writer(&rt).write_all(&text[..length])?;
     }
+    Ok(())
 }
