@@ -15,7 +15,7 @@ use Rattle.format.proofs.Booleans.{and_in, and_left, and_right, false_T}
 use Rattle.consistency.specs.Consistency.{Subdomain, Sheet, codes, backed, relax}
 use Rattle.consistency.specs.Largest.{largest}
 use Rattle.consistency.specs.Emptiness.{none_empty, NoneEmpty}
-use Rattle.consistency.specs.Counts.{bit, answered, mask, total, lines, line_bytes}
+use Rattle.consistency.specs.Counts.{bit, answered, mask, lines, line_bytes}
 use Rattle.consistency.proofs.Booleans.{any_out}
 use Rattle.consistency.proofs.Largest.{largest_is}
 use Rattle.consistency.proofs.Masks.{mask_some, zero_bit}

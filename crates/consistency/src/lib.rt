@@ -1,3 +1,2 @@
 // Arc consistency: definitions and theorems alone, no code.
 #![tactic(auto)]
-

@@ -1,6 +1,6 @@
 -- What is promised of two books joined: it follows from there being one that is so. Assumes nothing.
 use mathlib.Core.Path.{◌≡◌, refl, sym, ap, ◌∙◌, subst}
-use mathlib.Core.Logic.{◌⊎◌, inl, ⊎_elim, ⊎_swap}
+use mathlib.Core.Logic.{inl, ⊎_elim, ⊎_swap}
 use mathlib.Core.List.Memᴰ
 use mathlib.Core.List.{List, [], ◌∷◌}
 use Prim.Native.Nat.{ℕ}

@@ -1,5 +1,5 @@
 -- Request M-109: what is promised of two books joined. The statement; proofs/JoinedBooks.antt has its proof. Assumes nothing.
-use Rattle.std.specs.Prelude.{ℕ, ◌≤◌, ◌≡◌, ◌↔◌, length}
+use Rattle.std.specs.Prelude.{◌≤◌, ◌≡◌, ◌↔◌, length}
 use Rattle.format.specs.Basics.{In, Pairwise}
 use Rattle.format.specs.Format.{Table, Book, of_version, WellFormed, table_limit, row_limit, row_total}
 use Rattle.format.specs.Joining.{Precedes, TablePrecedes, IsJoined, joined}

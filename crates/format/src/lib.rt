@@ -1,3 +1,2 @@
 // The book's format: definitions and theorems alone, no code.
 #![tactic(auto)]
-

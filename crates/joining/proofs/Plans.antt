@@ -18,7 +18,6 @@ use Rattle.format.proofs.Booleans.{T_true, true_T}
 use Rattle.format.proofs.Elements.{all_of}
 use Rattle.format.proofs.Limits.{limit_most}
 use Rattle.format.proofs.Members.{all_in_list, of_member, in_map}
-use Rattle.format.proofs.Precedence.{equal}
 use Rattle.format.proofs.Risen.{rows_unique, in_risen, risen_in, risen_rises}
 use Rattle.format.proofs.Joined.{occurs_listed, listed_occurs, in_keep, keep_in, common_are, common_rise}
 use Rattle.words.specs.RowWord.{row_word}

@@ -14,7 +14,7 @@ use Rattle.format.specs.Basics.{pick}
 use Rattle.format.specs.Format.{Book, WellFormed}
 use Rattle.format.proofs.Booleans.{T_true, T_false, true_T, false_T}
 use Rattle.consistency.specs.Counting.{how_many}
-use Rattle.consistency.specs.Consistency.{Sheet, codes, answer, backed}
+use Rattle.consistency.specs.Consistency.{Sheet, codes, backed}
 use Rattle.consistency.specs.Readings.{differs, differing}
 use Rattle.consistency.specs.Nearest.{Nearest, found, is_full, keeps_backed, after, choose, readings}
 use Rattle.consistency.proofs.Booleans.{all_in, all_out, below_suc}

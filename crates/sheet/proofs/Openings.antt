@@ -7,7 +7,7 @@ use lib.Dec.{ltb}
 use lib.ListN.{length, get_or-eq_default}
 use borrow.Author.Tests.{lt-ltb, le-ltb, ltb-false}
 use Rattle.format.specs.Format.{Book, code_limit, byte, version_of, book_of}
-use Rattle.format.specs.Reading.{refused, Verdict, pass, fail, and_then, verdict, checking}
+use Rattle.format.specs.Reading.{Verdict, pass, fail, and_then, verdict, checking}
 use Rattle.format.proofs.Limits.{limit_most}
 use Rattle.format.proofs.Picks.{pick_first, pick_second}
 use Rattle.format.proofs.Trailer.{fail≢pass}

@@ -1,6 +1,5 @@
 -- An answer is told by what is shown of it: no two answers of the calls that write a form show the same number, place and count. Assumes nothing.
 use mathlib.Core.Path.{◌≡◌, ap, ap₂}
-use Prim.Native.Nat.{ℕ}
 use native.Mathlib.Omega.{arith}
 use lib.ListN.{get_or}
 use Rattle.format.specs.Reading.{Outcome}

@@ -24,17 +24,17 @@ byte-fields-requires c = omega (arith, trailer_long c.args.book.now (sym (ap ver
 
 pub overflow_sub-n-3 : goal.overflow_sub-n-3
 overflow_sub-n-3 c = omega (
-      arith,
-      trailer_long c.args.book.now
-          (sym (ap verdict_of c.in_default.is) ∙ c.trailer-trailer.ensures),
-    )
+  arith,
+  trailer_long c.args.book.now
+      (sym (ap verdict_of c.in_default.is) ∙ c.trailer-trailer.ensures),
+)
 
 pub byte-tables-requires : goal.byte-tables-requires
 byte-tables-requires c = omega (
-      arith,
-      trailer_long c.args.book.now
-          (sym (ap verdict_of c.in_default.is) ∙ c.trailer-trailer.ensures),
-    )
+  arith,
+  trailer_long c.args.book.now
+      (sym (ap verdict_of c.in_default.is) ∙ c.trailer-trailer.ensures),
+)
 
 pub field_list-counts-requires : goal.field_list-counts-requires
 field_list-counts-requires c = let p = sym (ap verdict_of c.in_default.is) ∙ c.trailer-trailer.ensures in

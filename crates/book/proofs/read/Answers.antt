@@ -26,11 +26,11 @@ different_total-count-requires c = read_fits c.args.book.now _ _ _ _ (sym (ap sh
 pub returns-in-Refused : goal.returns-in-Refused
 returns-in-Refused c = let e = sym (ap shown_check c.in-Refused.is) ∙ c.check-checked.ensures in
     let both = with-layout c.args.book.now _ (λ i. omega (arith, c.shared_slice_known-1.given i))
-          (read_bad c.args.book.now _ _ (number_some c.in-Refused.kind) e) in
+    (read_bad c.args.book.now _ _ (number_some c.in-Refused.kind) e) in
     record { answer = both.0; layout = both.1 }
 
 pub returns-in-Good : goal.returns-in-Good
 returns-in-Good c = let e = sym (ap shown_check c.in-Good.is) ∙ c.check-checked.ensures in
     let both = with-layout c.args.book.now _ (λ i. omega (arith, c.shared_slice_known-1.given i))
-          (read_good c.args.book.now _ _ _ _ e _ c.different_total-count.ensures) in
+    (read_good c.args.book.now _ _ _ _ e _ c.different_total-count.ensures) in
     record { answer = both.0; layout = both.1 }

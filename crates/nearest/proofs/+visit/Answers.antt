@@ -1,18 +1,17 @@
 use mathlib.Core.Path.{◌≡◌, refl, sym, ap, subst, ◌∙◌}
 use mathlib.Core.Bool.{◌&&◌, not}
-use Prim.Native.Nat.{◌+◌, ◌-◌}
+use Prim.Native.Nat.{◌+◌}
 use lib.ListN.{length, get_or}
 use lib.Dec.{eqb}
 use Rattle.format.specs.Format.{book_of, byte}
 use Rattle.consistency.specs.Consistency.{sheet_with}
 use Rattle.nearest.specs.declared.Turn.{Turn}
-use Rattle.nearest.specs.Asks.{held, Ready, Right, decides}
+use Rattle.nearest.specs.Asks.{held, Right, decides}
 use Rattle.nearest.proofs.Products.{list_within}
 use Rattle.nearest.proofs.CodeTurns.{rest_end}
 use Rattle.nearest.proofs.Visits.{one_more, few_fields, leaf, codes_start, turn_rows, turn_deeper, turn_far, turn_photograph, turn_ready}
 use native.Mathlib.Omega.{arith}
 use borrow.Author.Rules.{rules}
-use Prim.Native.Nat.{ℕ}
 use Rattle.nearest.proofs.+visit.Goals as goal
 
 pub passed-at-requires : goal.passed-at-requires

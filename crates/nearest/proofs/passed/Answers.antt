@@ -6,7 +6,7 @@ use lib.Dec.{eqb}
 use borrow.Author.Rules.{length_unmapped}
 use Rattle.format.specs.Format.{book_of, byte}
 use Rattle.consistency.specs.Consistency.{sheet_with}
-use Rattle.nearest.specs.Asks.{turn_at, held, Passed}
+use Rattle.nearest.specs.Asks.{held, Passed}
 use Rattle.nearest.proofs.Products.{list_within}
 use Rattle.nearest.proofs.Visits.{one_more, few_fields, turn_only, turn_ready}
 use native.Mathlib.Omega.{arith}

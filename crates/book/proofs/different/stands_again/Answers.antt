@@ -1,5 +1,4 @@
 use mathlib.Core.Path.{refl, sym, ◌∙◌}
-use Rattle.words.specs.RowWord.{row_word}
 use Rattle.book.proofs.Pairs.{row_first, rest_fits, own_fits, own_code, behind_fits, among_on, among_other, among_yes, among_end}
 use native.Mathlib.Omega.{arith}
 use Rattle.book.proofs.different.stands_again.Goals as goal

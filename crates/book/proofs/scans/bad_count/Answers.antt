@@ -16,10 +16,10 @@ returns-then-book-i-gt-CODE_LIMIT c = bad_here _ _ _ c.loop-i-test.true (count_m
 
 pub loop-i-preserved : goal.loop-i-preserved
 loop-i-preserved c = (
-      search rules,
-      bad_on _ _ _ c.loop-i-test.true
-          (count_good c.args.book.now _ c.if-book-i-lt1.false c.if-book-i-gt-CODE_LIMIT.false) ∙ c.loop-i.invariant.1,
-    )
+  search rules,
+  bad_on _ _ _ c.loop-i-test.true
+      (count_good c.args.book.now _ c.if-book-i-lt1.false c.if-book-i-gt-CODE_LIMIT.false) ∙ c.loop-i.invariant.1,
+)
 
 pub returns : goal.returns
 returns c = bad_none _ _ _ c.loop-i-test.false ∙ c.loop-i.invariant.1

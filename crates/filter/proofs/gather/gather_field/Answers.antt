@@ -1,5 +1,4 @@
 use mathlib.Core.Path.{refl}
-use mathlib.Core.Logic.{⊎_elim}
 use Rattle.filter.proofs.Gathers.{number_fits, gather_set, gather_unset, mask_all}
 use native.Mathlib.Omega.{arith}
 use Rattle.filter.proofs.gather.gather_field.Goals as goal
@@ -39,7 +38,7 @@ pub loop-c-preserved : goal.loop-c-preserved
 loop-c-preserved c = (
   omega arith,
   elim c.if-marks-f-eq1.branch [
-    then-marks-f-eq1 w ↦ gather_set c.args.marks.now c.args.f _ _ c.loop-c-test.true c.loop-c.invariant.1 w.if-marks-f-eq1.true _ w.number-is
+    | then-marks-f-eq1 w ↦ gather_set c.args.marks.now c.args.f _ _ c.loop-c-test.true c.loop-c.invariant.1 w.if-marks-f-eq1.true _ w.number-is
     | else-marks-f-eq1 w ↦ gather_unset c.args.marks.now c.args.f _ _ c.loop-c-test.true c.loop-c.invariant.1 w.if-marks-f-eq1.false _ w.number-is
   ],
 )

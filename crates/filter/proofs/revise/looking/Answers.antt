@@ -1,5 +1,4 @@
 use mathlib.Core.Path.{refl}
-use mathlib.Core.Logic.{⊎_elim}
 use Rattle.filter.proofs.Needs.{counted_none, counted_more, counted_still, looks_none, looks_next, looks_all}
 use native.Mathlib.Omega.{arith}
 use Rattle.filter.proofs.revise.looking.Goals as goal
@@ -12,7 +11,7 @@ pub loop-c-preserved : goal.loop-c-preserved
 loop-c-preserved c = (
   omega arith,
   elim c.if-word-ne0.branch [
-    then-word-ne0 w ↦ counted_more c.loop-c.invariant.1 c.loop-c.c _ (omega (arith, c.requires.1)) (c.loop-c.invariant.2.beyond _ (omega arith)) w.if-word-ne0.true w.waiting-is
+    | then-word-ne0 w ↦ counted_more c.loop-c.invariant.1 c.loop-c.c _ (omega (arith, c.requires.1)) (c.loop-c.invariant.2.beyond _ (omega arith)) w.if-word-ne0.true w.waiting-is
     | else-word-ne0 w ↦ counted_still c.loop-c.invariant.1 c.loop-c.c _ (omega (arith, c.requires.1)) (c.loop-c.invariant.2.beyond _ (omega arith)) w.if-word-ne0.false w.waiting-is
   ],
   looks_next _ _ _ _ c.loop-c.invariant.1.full (omega (arith, c.requires.1)) c.loop-c.invariant.2 _ refl,

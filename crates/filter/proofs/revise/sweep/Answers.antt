@@ -1,4 +1,3 @@
-use mathlib.Core.Logic.{⊎_elim}
 use Rattle.filter.proofs.Shapes.{field_in, shape_in}
 use Rattle.filter.proofs.Sweeps.{swept_none, table_asked, swept_all, field_below, field_word, column_asks, swept_struck, swept_still}
 use native.Mathlib.Omega.{arith}
@@ -54,7 +53,7 @@ pub loop-j-preserved : goal.loop-j-preserved
 loop-j-preserved c = (
   omega arith,
   elim c.if-n-struck.branch [
-    then-n-struck w ↦ swept_struck c.requires (shape_in (table_asked c.requires) c.shape_at-table.ensures) c.loop-j.invariant.1 c.loop-j-test.true c.wide-f.ensures c.revise-n.ensures w.if-n-struck.true w.struck-is w.tables-is
+    | then-n-struck w ↦ swept_struck c.requires (shape_in (table_asked c.requires) c.shape_at-table.ensures) c.loop-j.invariant.1 c.loop-j-test.true c.wide-f.ensures c.revise-n.ensures w.if-n-struck.true w.struck-is w.tables-is
     | else-n-struck w ↦ swept_still c.requires (shape_in (table_asked c.requires) c.shape_at-table.ensures) c.loop-j.invariant.1 c.loop-j-test.true c.wide-f.ensures c.revise-n.ensures w.if-n-struck.false w.struck-is w.tables-is
   ],
 )

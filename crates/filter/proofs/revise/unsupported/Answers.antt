@@ -1,4 +1,3 @@
-use mathlib.Core.Logic.{⊎_elim}
 use Rattle.filter.proofs.Shapes.{row_in}
 use Rattle.filter.proofs.ColumnSearch.{searching_start, searching_done, searching_ends, row_later, row_below, code_below, searching_less, searching_kept}
 use native.Mathlib.Omega.{arith}
@@ -45,11 +44,11 @@ pub loop-waiting-smaller : goal.loop-waiting-smaller
 loop-waiting-smaller c = omega (arith, row_below c.requires.0 c.requires.1.0 c.loop-waiting.invariant c.support.ensures c.in-Row.is, row_later c.requires.0 c.requires.1.0 c.loop-waiting.invariant c.support.ensures c.in-Row.is)
 
 pub loop-waiting-preserved : goal.loop-waiting-preserved
-loop-waiting-preserved c = 
-  elim c.if-rest-eq0.branch [
-    then-rest-eq0 w ↦ searching_less c.requires.0 c.requires.1.0 c.loop-waiting.invariant c.support.ensures c.in-Row.is c.wide-c.ensures w.if-rest-eq0.true w.waiting-is
-    | else-rest-eq0 w ↦ searching_kept c.requires.0 c.requires.1.0 c.loop-waiting.invariant c.support.ensures c.in-Row.is c.wide-c.ensures w.if-rest-eq0.false w.waiting-is
-  ]
+loop-waiting-preserved c =
+    elim c.if-rest-eq0.branch [
+      | then-rest-eq0 w ↦ searching_less c.requires.0 c.requires.1.0 c.loop-waiting.invariant c.support.ensures c.in-Row.is c.wide-c.ensures w.if-rest-eq0.true w.waiting-is
+      | else-rest-eq0 w ↦ searching_kept c.requires.0 c.requires.1.0 c.loop-waiting.invariant c.support.ensures c.in-Row.is c.wide-c.ensures w.if-rest-eq0.false w.waiting-is
+    ]
 
 pub returns-in-Nothing : goal.returns-in-Nothing
 returns-in-Nothing c = searching_ends c.requires.0 c.requires.1.0 c.loop-waiting.invariant c.support.ensures c.in-Nothing.is

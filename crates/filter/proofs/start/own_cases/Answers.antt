@@ -1,5 +1,4 @@
 use mathlib.Core.Path.{refl, ap}
-use mathlib.Core.Logic.{⊎_elim}
 use Rattle.consistency.specs.Consistency.{places}
 use Rattle.filter.proofs.Lists.{zeros}
 use Rattle.filter.proofs.CaseWords.{cases_none, own_fits, cases_same, cases_doubted, cases_open, cases_backed, cases_done}
@@ -40,12 +39,12 @@ pub loop-f-preserved : goal.loop-f-preserved
 loop-f-preserved c = (
   omega arith,
   elim c.if-answers-f.branch [
-    then-answers-f+then-not-photographed-f w ↦ cases_same w.words-is w.all-is (cases_doubted _ _ _ _ c.loop-f.invariant.1 (omega (arith, c.requires)) w.if-answers-f.true (ap not w.if-not-photographed-f.true))
+    | then-answers-f+then-not-photographed-f w ↦ cases_same w.words-is w.all-is (cases_doubted _ _ _ _ c.loop-f.invariant.1 (omega (arith, c.requires)) w.if-answers-f.true (ap not w.if-not-photographed-f.true))
     | else-answers-f w ↦ cases_same w.words-is w.all-is
-      (elim w.else-answers-f.branch [
-        else-answers-f-via-then-answers-f+else-not-photographed-f v ↦ cases_backed _ _ _ _ c.loop-f.invariant.1 (omega (arith, c.requires)) (ap not v.if-not-photographed-f.false)
-        | else-answers-f-via-else-answers-f v ↦ cases_open _ _ _ _ c.loop-f.invariant.1 (omega (arith, c.requires)) v.if-answers-f.false
-      ])
+        (elim w.else-answers-f.branch [
+          | else-answers-f-via-then-answers-f+else-not-photographed-f v ↦ cases_backed _ _ _ _ c.loop-f.invariant.1 (omega (arith, c.requires)) (ap not v.if-not-photographed-f.false)
+          | else-answers-f-via-else-answers-f v ↦ cases_open _ _ _ _ c.loop-f.invariant.1 (omega (arith, c.requires)) v.if-answers-f.false
+        ])
   ],
 )
 

@@ -1,5 +1,4 @@
 use mathlib.Core.Path.{refl, sym, ap, ◌∙◌}
-use mathlib.Core.Logic.{⊎_elim}
 use Prim.Native.Nat.{ℕ}
 use lib.ListN.{get_or}
 use Rattle.filter.proofs.Firsts.{first_none}
@@ -103,7 +102,7 @@ loop-k-preserved c = (
   omega arith,
   elim c.if-k-j.branch [ then-k-j+else-cases-eq0-2 w ↦ omega (arith, w.if-cases-eq0-2.false) | else-k-j w ↦ omega (arith, c.loop-k.invariant.2) ],
   elim c.if-k-j.branch [
-    then-k-j+else-cases-eq0-2 w ↦ w.cases-is ∙ column_and _ _ c.requires.0 _ _ _ c.rows-test.true c.loop-k.k _ _ _ _ c.loop-k-test.true w.if-k-j.true c.loop-k.invariant.3 w.wide-f.ensures w.wide-code.ensures
+    | then-k-j+else-cases-eq0-2 w ↦ w.cases-is ∙ column_and _ _ c.requires.0 _ _ _ c.rows-test.true c.loop-k.k _ _ _ _ c.loop-k-test.true w.if-k-j.true c.loop-k.invariant.3 w.wide-f.ensures w.wide-code.ensures
     | else-k-j w ↦ w.cases-is ∙ column_skip _ _ c.requires.0 _ _ _ c.rows-test.true c.loop-k.k _ _ w.if-k-j.false c.loop-k.invariant.3
   ],
 )

@@ -1,6 +1,4 @@
 use mathlib.Core.Path.{◌∙◌}
-use mathlib.Core.Logic.{⊎_elim}
-use borrow.Author.Tests.{not-false}
 use Rattle.format.proofs.Decode.{promise_well}
 use Rattle.nearest.proofs.TableTurns.{all_few, walk_start, walk_end, walk_head, met, hold_start, hold_skip, front_asks, hold_yes, hold_no, hold_none}
 use native.Mathlib.Omega.{arith}
@@ -44,7 +42,7 @@ pub loop-i-preserved : goal.loop-i-preserved
 loop-i-preserved c = let m = met _ _ _ _ c.requires.numbers _ _ _ c.loop-i.invariant.0 c.loop-i-test.true _ _ c.wide-arity.ensures.0 c.row_count-count.ensures.0 in (
   m.next,
   (elim c.if-width-gt0.branch [
-    then-width-gt0+else-not-has_front w ↦ hold_yes _ _ _ (promise_well _ c.requires.numbers.promise).sized _ _ _ _ _ _ m _ c.front_at-codes.ensures w.if-width-gt0.true _ c.requires.packed _ w.has_front.ensures w.if-not-has_front.false
+    | then-width-gt0+else-not-has_front w ↦ hold_yes _ _ _ (promise_well _ c.requires.numbers.promise).sized _ _ _ _ _ _ m _ c.front_at-codes.ensures w.if-width-gt0.true _ c.requires.packed _ w.has_front.ensures w.if-not-has_front.false
     | else-width-gt0 w ↦ hold_skip _ _ _ (promise_well _ c.requires.numbers.promise).sized _ _ _ _ _ _ m _ c.front_at-codes.ensures w.if-width-gt0.false
   ]) ∙ c.loop-i.invariant.1,
 )

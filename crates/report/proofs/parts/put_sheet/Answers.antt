@@ -1,6 +1,5 @@
 -- `report::parts::put_sheet` meets its contract: its parts, one behind the other. Assumes nothing.
 use Rattle.report.proofs.SheetPart.{line_room, alts_room, opens_room, sheet_puts}
-use borrow.Author.Rules.{rules}
 use Rattle.report.proofs.parts.put_sheet.Goals as goal
 
 pub count_answered-requires : goal.count_answered-requires

@@ -1,5 +1,4 @@
 use mathlib.Core.Path.{◌≡◌, sym, ap, ◌∙◌}
-use mathlib.Core.Logic.{⊎_elim}
 use Prim.Native.Nat.{ℕ, ◌+◌}
 use borrow.Author.Tests.{eq-eqb, ne_eqb}
 use Rattle.consistency.specs.Counting.{how_many}
@@ -18,7 +17,7 @@ overflow_add-f c = omega (arith, c.requires.field_in, c.requires.codes_in_lem)
 pub loop-c-preserved : goal.loop-c-preserved
 loop-c-preserved c = let p = stands c.args.marks.now c.args.k c.args.f in
     elim c.if-marks-f-eq1.branch [
-      then-marks-f-eq1 w ↦ (omega arith, w.count-is ∙ ap (λ (x : ℕ). x + 1) c.loop-c.invariant.1 ∙ sym (many_more p c.loop-c.c (eq-eqb _ _ w.if-marks-f-eq1.true)), omega arith)
+      | then-marks-f-eq1 w ↦ (omega arith, w.count-is ∙ ap (λ (x : ℕ). x + 1) c.loop-c.invariant.1 ∙ sym (many_more p c.loop-c.c (eq-eqb _ _ w.if-marks-f-eq1.true)), omega arith)
       | else-marks-f-eq1 w ↦ (omega arith, w.count-is ∙ c.loop-c.invariant.1 ∙ sym (many_same p c.loop-c.c (ne_eqb _ _ w.if-marks-f-eq1.false)), omega arith)
     ]
 

@@ -1,5 +1,4 @@
 use mathlib.Core.Path.{◌≡◌, refl, sym, ap, ◌∙◌}
-use mathlib.Core.Logic.{⊎_elim}
 use Prim.Native.Nat.{ℕ, ◌+◌, ◌*◌}
 use lib.ListN.{length, length-set}
 use lib.Seq.{sets, length-sets}
@@ -33,18 +32,18 @@ overflow_add-next c = omega (arith, many_not c.loop-c.c (stands c.args.marks.now
 pub loop-c-preserved : goal.loop-c-preserved
 loop-c-preserved c = let p = stands c.args.marks.now c.args.k c.args.f in
     elim c.if-marks-f-eq1.branch [
-      then-marks-f-eq1 w ↦
-        let e = eq-eqb _ _ w.if-marks-f-eq1.true in (
-          omega arith,
-          omega (arith, w.next-is, c.loop-c.invariant.1, many_more p c.loop-c.c e),
-          w.out-is ∙ line_written p c.args.f c.loop-c.c _ _ c.args.at c.loop-c.next e c.loop-c.invariant.1 c.loop-c.invariant.2,
-        )
+      | then-marks-f-eq1 w ↦
+          let e = eq-eqb _ _ w.if-marks-f-eq1.true in (
+            omega arith,
+            omega (arith, w.next-is, c.loop-c.invariant.1, many_more p c.loop-c.c e),
+            w.out-is ∙ line_written p c.args.f c.loop-c.c _ _ c.args.at c.loop-c.next e c.loop-c.invariant.1 c.loop-c.invariant.2,
+          )
       | else-marks-f-eq1 w ↦
-        let e = ne_eqb _ _ w.if-marks-f-eq1.false in (
-          omega arith,
-          omega (arith, w.next-is, c.loop-c.invariant.1, many_same p c.loop-c.c e),
-          w.out-is ∙ c.loop-c.invariant.2 ∙ ap (sets _ c.args.at) (sym (lines_same p c.args.f c.loop-c.c e)),
-        )
+          let e = ne_eqb _ _ w.if-marks-f-eq1.false in (
+            omega arith,
+            omega (arith, w.next-is, c.loop-c.invariant.1, many_same p c.loop-c.c e),
+            w.out-is ∙ c.loop-c.invariant.2 ∙ ap (sets _ c.args.at) (sym (lines_same p c.args.f c.loop-c.c e)),
+          )
     ]
 
 pub shape_of-out : goal.shape_of-out

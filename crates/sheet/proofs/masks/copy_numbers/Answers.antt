@@ -17,10 +17,10 @@ bounds-out-i c = let long : length c.args.from ≡ places = search rules in
 
 pub loop-i-preserved : goal.loop-i-preserved
 loop-i-preserved c = let long : length c.args.from ≡ places = search rules in (
-      search rules,
-      ap (λ (l : List ℕ). set l c.loop-i.i (get_or c.args.from c.loop-i.i 0)) c.loop-i.invariant.1
-          ∙ copied_on c.args.from c.args.out.now c.loop-i.i (omega arith) (omega arith),
-    )
+  search rules,
+  ap (λ (l : List ℕ). set l c.loop-i.i (get_or c.args.from c.loop-i.i 0)) c.loop-i.invariant.1
+      ∙ copied_on c.args.from c.args.out.now c.loop-i.i (omega arith) (omega arith),
+)
 
 pub shape_of-out : goal.shape_of-out
 shape_of-out c = let long : length c.args.from ≡ places = search rules in
