@@ -4,7 +4,7 @@ use mathlib.Core.Path.{◌≡◌, refl, sym, subst}
 use mathlib.Core.List.{List}
 use lib.ListN.{length}
 use Rattle.format.specs.Format.{Table, Book}
-use Rattle.consistency.specs.Consistency.{nth}
+use Rattle.consistency.specs.Consistency.{Subdomain, Fits, nth}
 use Rattle.consistency.specs.Largest.{largest}
 use Rattle.consistency.specs.Alike.{AlikeTables, Alike, VersionsAlike}
 use Rattle.consistency.proofs.Largest.{largest_is, largest_unique}
@@ -41,13 +41,17 @@ module _ {b d : Book} (p : Alike b d) where
             record { at = p.from i; at_in = p.from_in i l; on = (partner i l).same_fields; has = (partner i l).there };
       }
 
+  -- what fits one fits the other
+  pub alike_fits : {a : List ℕ} {S : Subdomain} → Fits b a S → Fits d a S
+  alike_fits = fits_narrows alike_narrows
+
 -- so one's largest is the other's
 pub alike_largest : {b d : Book} → Alike b d → (a : List ℕ) (f c : ℕ) → largest b a f c ≡ largest d a f c
 alike_largest {b} {d} p a =
     largest_unique {b = d} {a = a}
     (record {
-      fits = fits_narrows (alike_narrows p) (largest_is b a).fits;
-      has_all = λ R r. (largest_is b a).has_all R (fits_narrows (alike_narrows (alike_sym p)) r);
+      fits = alike_fits p (largest_is b a).fits;
+      has_all = λ R r. (largest_is b a).has_all R (alike_fits (alike_sym p) r);
     })
     (largest_is d a)
 
