@@ -31,7 +31,7 @@ turned = record { version = 1; counts = 2 ∷ 3 ∷ 3 ∷ []; tables = second �
 -- the last row of E1's first table is its second
 pub example_repeated : Repeated example 0 3
 example_repeated =
-    record { table_in_lem = omega arith; row_in = omega arith; other = 1; other_in = omega arith; elsewhere = λ e. omega arith; same = refl }
+    record { table_in = omega arith; row_in = omega arith; other = 1; other_in = omega arith; elsewhere = λ e. omega arith; same = refl }
 
 pairs : (i : ℕ) → i < 2 → AlikeTables (nth example i) (nth turned (1 - i))
 pairs zero l =

@@ -108,7 +108,7 @@ repeat_alike b i r h =
     at : (k : ℕ) → Dec (k ≡ i) → AlikeTables (nth b k) (nth (without_row b i r) k)
     at k (yes e) =
         subst (λ (x : ℕ). AlikeTables (nth b x) (nth (without_row b i r) x)) (sym e)
-        (subst (AlikeTables (nth b i)) (sym (get_or-set_same b.tables i _ _ h.table_in_lem))
+        (subst (AlikeTables (nth b i)) (sym (get_or-set_same b.tables i _ _ h.table_in))
         (less_alike (nth b i) r h.row_in h.other h.other_in h.elsewhere h.same))
     at k (no n) = same_alike (sym (get_or-set_other b.tables i k _ _ n))
 
@@ -143,7 +143,7 @@ repeat_well : (b : Book) (i r : ℕ) → Repeated b i r → WellFormed b → Wel
 repeat_well b i r h w =
     let t : Table = nth b i in
     let u : Table = less t r h.row_in in
-    let ok : TableOk b.counts t = all_at (TableOk b.counts) b.tables no_table w.each i h.table_in_lem in
+    let ok : TableOk b.counts t = all_at (TableOk b.counts) b.tables no_table w.each i h.table_in in
     let rows : row_total (set b.tables i u) ≤ row_total b.tables =
     sum_set row_total (λ x. length x.rows) (λ x xs. refl) b.tables i no_table u (omega (arith, fewer t r h.row_in)) in
     let bytes : length (tables_bytes (set b.tables i u)) ≤ length (tables_bytes b.tables) =

@@ -44,7 +44,7 @@ without_row b i r =
 
 -- row r of table i stands in that table at another place too
 pub record Repeated (b : Book) (i r : ℕ) : Type 0 where
-  pub table_in_lem : i < length b.tables
+  pub table_in : i < length b.tables
   pub row_in : r < length (nth b i).rows
   pub other : ℕ
   pub other_in : other < length (nth b i).rows

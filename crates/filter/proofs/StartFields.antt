@@ -79,7 +79,7 @@ module _ (s a own : List ℕ) (all list fields : ℕ) (q : Starts s own all list
           record {
             size = y.size;
             field_in = field_place;
-            codes_in_lem = k_few;
+            codes_in = k_few;
             within = q.within f;
             small = omega (arith, y.few, field_place);
           }

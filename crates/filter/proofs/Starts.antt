@@ -74,7 +74,7 @@ module _ (M N : List ℕ) (f k x all own s t c : ℕ) (q : StartsField M f k all
     (al : all < 2 ^ 64) (ol : own < 2 ^ 64) where
   -- c is a code that a field can have
   code_in : c < code_limit
-  code_in = le_trans l q.codes_in_lem
+  code_in = le_trans l q.codes_in
 
   -- the word's place
   pub start_in : f * code_limit + c < places * code_limit

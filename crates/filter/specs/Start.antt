@@ -35,7 +35,7 @@ start_word x c all own = pick (eqb x 255 || eqb c x) all own
 pub record StartsField (M : List ℕ) (f k all own s : ℕ) : Type 0 where
   pub size : length M ≡ places * code_limit
   pub field_in : f < places
-  pub codes_in_lem : k ≤ code_limit
+  pub codes_in : k ≤ code_limit
   pub within : (k : ℕ) → T (bit own k) → T (bit all k)
   pub small : s ≤ 64 * (places * code_limit)
 

@@ -106,7 +106,7 @@ module _ {bytes : List ℕ} {s : Sheet} {M : List ℕ} {empty list fields : ℕ}
           record {
             case_in = case_few case-is;
             field_in = omega (arith, fields_few bytes list fields x.at);
-            codes_in_lem = omega (arith, codes_is, codes_few bytes (verdict_promise bytes x.at.passes) f);
+            codes_in = omega (arith, codes_is, codes_few bytes (verdict_promise bytes x.at.passes) f);
           }
 
       module _ (e : in_doubt s f ≡ true) (full : bit empty k ≡ false) where

@@ -26,7 +26,7 @@ lines_below n p f = map (λ (c : ℕ). record { field = f; code = c }) (those n 
 pub record InMarks (k f n : ℕ) : Type 0 where
   pub case_in : k < 64
   pub field_in : f < places
-  pub codes_in_lem : n ≤ code_limit
+  pub codes_in : n ≤ code_limit
 
 -- o has room from place at on for two bytes each of this many lines
 pub record Room (o : List ℕ) (at many : ℕ) : Type 0 where

@@ -15,19 +15,19 @@ pub overflow_mul-marks : goal.overflow_mul-marks
 overflow_mul-marks c = omega (arith, c.requires.field_in)
 
 pub overflow_add-marks : goal.overflow_add-marks
-overflow_add-marks c = omega (arith, c.wide-code.ensures, c.requires.field_in, c.requires.codes_in_lem)
+overflow_add-marks c = omega (arith, c.wide-code.ensures, c.requires.field_in, c.requires.codes_in)
 
 pub offset_bounds-marks-f : goal.offset_bounds-marks-f
-offset_bounds-marks-f c = omega (arith, c.wide-code.ensures, c.requires.field_in, c.requires.codes_in_lem)
+offset_bounds-marks-f c = omega (arith, c.wide-code.ensures, c.requires.field_in, c.requires.codes_in)
 
 pub bounds-marks-f : goal.bounds-marks-f
 bounds-marks-f c = omega (arith, c.wide-code.ensures, start_in _ _ _ _ _ _ _ _ _ _ c.requires c.loop-c.invariant.1 c.loop-c-test.true (omega (arith, c.ranges.all)) (omega (arith, c.ranges.own)))
 
 pub overflow_add-struck : goal.overflow_add-struck
-overflow_add-struck c = omega (arith, c.loop-c.invariant.1.few, c.requires.small, c.requires.codes_in_lem, few_struck _ _ _ _ _ _ _ _ _ _ c.requires c.loop-c.invariant.1 c.loop-c-test.true (omega (arith, c.ranges.all)) (omega (arith, c.ranges.own)) _ c.start_word-word.ensures)
+overflow_add-struck c = omega (arith, c.loop-c.invariant.1.few, c.requires.small, c.requires.codes_in, few_struck _ _ _ _ _ _ _ _ _ _ c.requires c.loop-c.invariant.1 c.loop-c-test.true (omega (arith, c.ranges.all)) (omega (arith, c.ranges.own)) _ c.start_word-word.ensures)
 
 pub overflow_add-c : goal.overflow_add-c
-overflow_add-c c = omega (arith, c.requires.codes_in_lem)
+overflow_add-c c = omega (arith, c.requires.codes_in)
 
 pub loop-c-smaller : goal.loop-c-smaller
 loop-c-smaller c = omega arith

@@ -12,7 +12,7 @@ pub overflow_mul-f : goal.overflow_mul-f
 overflow_mul-f c = omega (arith, c.requires.field_in)
 
 pub overflow_add-f : goal.overflow_add-f
-overflow_add-f c = omega (arith, c.requires.field_in, c.requires.codes_in_lem)
+overflow_add-f c = omega (arith, c.requires.field_in, c.requires.codes_in)
 
 pub loop-c-preserved : goal.loop-c-preserved
 loop-c-preserved c = let p = stands c.args.marks.now c.args.k c.args.f in

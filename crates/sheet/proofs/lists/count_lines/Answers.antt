@@ -51,7 +51,7 @@ pub count_codes-sum-requires : goal.count_codes-sum-requires
 count_codes-sum-requires c = in_marks (c.requires) c.loop-f-test.true c.loop-f.invariant.1 c.wide-n.ensures
 
 pub overflow_add-sum : goal.overflow_add-sum
-overflow_add-sum c = omega (arith, few_below (c.requires) c.loop-f.f, c.loop-f.invariant.2, fields_few _ _ _ c.requires.at, (in_marks (c.requires) c.loop-f-test.true c.loop-f.invariant.1 c.wide-n.ensures).codes_in_lem, c.count_codes-sum.ensures.1)
+overflow_add-sum c = omega (arith, few_below (c.requires) c.loop-f.f, c.loop-f.invariant.2, fields_few _ _ _ c.requires.at, (in_marks (c.requires) c.loop-f-test.true c.loop-f.invariant.1 c.wide-n.ensures).codes_in, c.count_codes-sum.ensures.1)
 
 pub overflow_add-k-else-empty-k-eq1 : goal.overflow_add-k-else-empty-k-eq1
 overflow_add-k-else-empty-k-eq1 c = omega (arith, case_few (c.requires) c.loop-f-test.true c.loop-f.invariant.1)

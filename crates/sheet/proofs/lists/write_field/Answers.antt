@@ -20,14 +20,14 @@ bounds-out-next c = let p = stands c.args.marks.now c.args.k c.args.f in
     omega (arith, line_fits p c.args.f c.loop-c.c c.args.n _ _ _ _ c.loop-c-test.true c.requires.1.fits (eq-eqb _ _ c.if-marks-f-eq1.true) c.loop-c.invariant.1 c.loop-c.invariant.2)
 
 pub overflow_add-out : goal.overflow_add-out
-overflow_add-out c = omega (arith, many_not c.loop-c.c (stands c.args.marks.now c.args.k c.args.f), c.loop-c.invariant.1, c.requires.1.small, c.requires.0.codes_in_lem)
+overflow_add-out c = omega (arith, many_not c.loop-c.c (stands c.args.marks.now c.args.k c.args.f), c.loop-c.invariant.1, c.requires.1.small, c.requires.0.codes_in)
 
 pub bounds-out-next-then-marks-f-eq1 : goal.bounds-out-next-then-marks-f-eq1
 bounds-out-next-then-marks-f-eq1 c = let p = stands c.args.marks.now c.args.k c.args.f in
     simp length-set (line_fits p c.args.f c.loop-c.c c.args.n _ _ _ _ c.loop-c-test.true c.requires.1.fits (eq-eqb _ _ c.if-marks-f-eq1.true) c.loop-c.invariant.1 c.loop-c.invariant.2)
 
 pub overflow_add-next : goal.overflow_add-next
-overflow_add-next c = omega (arith, many_not c.loop-c.c (stands c.args.marks.now c.args.k c.args.f), c.loop-c.invariant.1, c.requires.1.small, c.requires.0.codes_in_lem)
+overflow_add-next c = omega (arith, many_not c.loop-c.c (stands c.args.marks.now c.args.k c.args.f), c.loop-c.invariant.1, c.requires.1.small, c.requires.0.codes_in)
 
 pub loop-c-preserved : goal.loop-c-preserved
 loop-c-preserved c = let p = stands c.args.marks.now c.args.k c.args.f in
