@@ -1,5 +1,5 @@
 /*
- * The sighting desk as a library: libsighting.a, made by `rt staticlib sighting`.
+ * The sighting desk as a library: libsighting.a, made by tests/build.
  *
  * A book is lent as its bytes, a sheet is an array of SIGHTING_SHEET_BYTES bytes that the caller keeps, and a listing is an array of
  * 16-bit numbers, of any length. Every function is total: for any bytes of a book, any bytes of a sheet and any numbers it ends with

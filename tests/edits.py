@@ -9,10 +9,10 @@ import glob
 import re
 import sys
 
-REFUSED = re.compile(r"^rt: must-fail (\S+): refused, as it must be: (.*)")
+REFUSED = re.compile(r"^rt: must-fail (\S+): refused, as it must be(.*)")
 OK = re.compile(r"^rt: ok;.* must-fail edits: (\d+) refused(.*)")
 UNFIT = (
-    r"is not in scope|that can be named (?:from )?here|has no field|no module has|was not admitted|: Parse: |: Scope: "
+    r"only because a proof file names|is not in scope|that can be named (?:from )?here|has no field|no module has|was not admitted|: Parse: |: Scope: "
     r"|is not in the file|does not name|error: expected"
 )
 

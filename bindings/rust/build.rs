@@ -1,4 +1,4 @@
-//! Finds libsighting.a: in the folder that SIGHTING_LIB_DIR names, else where `rt staticlib sighting` writes it. The archive needs
+//! Finds libsighting.a: in the folder that SIGHTING_LIB_DIR names, else where tests/build writes it. The archive needs
 //! no library beside it but C's own, which Rust links anyway.
 
 use std::env;
@@ -15,7 +15,7 @@ fn main() {
     println!("cargo:rerun-if-env-changed=SIGHTING_LIB_DIR");
     println!("cargo:rerun-if-changed={}", archive.display());
     if !archive.exists() {
-        panic!("no {}: run `rt staticlib sighting`, or name its folder in SIGHTING_LIB_DIR", archive.display());
+        panic!("no {}: run tests/build, or name its folder in SIGHTING_LIB_DIR", archive.display());
     }
     println!("cargo:rustc-link-search=native={}", folder.display());
     println!("cargo:rustc-link-lib=static=sighting");
