@@ -1,5 +1,5 @@
 -- Document 02, M-109: what the call that joins two books promises, and examples. Its proofs are request109 (proofs/JoinedBytes.antt) and
--- join-examples (proofs/JoinExamples.antt). Assumes nothing.
+-- join_examples_lem (proofs/JoinExamples.antt). Assumes nothing.
 use Rattle.std.specs.Prelude.{ℕ, zero, suc, ◌≤◌, ◌≡◌, ◌↔◌, List, [], ◌∷◌, ◌++◌, map, length, replicate}
 use Rattle.format.specs.Format.{Table, Book, field_most, of_version, WellFormed, encode, book_of}
 use Rattle.format.specs.Reading.{Outcome, accepted, refused, Accepted}

@@ -1,5 +1,5 @@
 -- Document 02, M-106: what the call for the nearest full reading says and writes, and examples. Its proofs are request106 (proofs/NearestShown.antt)
--- and nearest-examples (proofs/Examples.antt). Assumes nothing.
+-- and nearest_examples_lem (proofs/Examples.antt). Assumes nothing.
 use Rattle.std.specs.Prelude.{ℕ, ◌≤◌, ◌≡◌, ◌↔◌, List, [], ◌∷◌, ◌++◌, map, Bool, true, length, drop, replicate}
 use Rattle.format.specs.Format.{encode, book_of}
 use Rattle.format.specs.Reading.{Outcome, accepted, refused, Accepted}

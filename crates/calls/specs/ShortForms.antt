@@ -1,5 +1,5 @@
 -- Document 02, M-108: what the calls with the short stored form promise together, and examples. The proofs are request108 (proofs/ShortCalls.antt) and
--- short-examples (proofs/ShortExamples.antt). Assumes nothing.
+-- short_examples (proofs/ShortExamples.antt). Assumes nothing.
 use Rattle.std.specs.Prelude.{ℕ, ◌+◌, ◌-◌, ◌*◌, ◌≤◌, ◌<◌, ◌≡◌, ◌↔◌, true, false, List, [], ◌∷◌, map, length, replicate}
 use Rattle.format.specs.Format.{Book, book_of}
 use Rattle.format.specs.Reading.{Outcome, accepted, refused, Accepted}
