@@ -7,3 +7,4 @@ pub mod TablesFit
 pub mod Answers
 pub mod Injective
 pub mod Checks
+pub mod Smaller

@@ -15,8 +15,8 @@ use Rattle.book.proofs.Answers.{read_bad, read_fits, read_good}
 use Rattle.book.proofs.read.Goals as goal
 
 -- an answer that is what reading says accepts exactly bytes with the layout
-with-layout : (s : List ℕ) (o : Outcome) → ((i : ℕ) → get_or s i 0 < 256) → o ≡ reading s → (o ≡ reading s) × (o.number ≡ 0 ↔ HasLayout s)
-with-layout s o b e =
+with_layout : (s : List ℕ) (o : Outcome) → ((i : ℕ) → get_or s i 0 < 256) → o ≡ reading s → (o ≡ reading s) × (o.number ≡ 0 ↔ HasLayout s)
+with_layout s o b e =
     let bytes : Bytes s = all_of (λ x. x < 256) s 0 (λ k h. b k) in
     (e, subst (λ (x : Outcome). x.number ≡ 0 ↔ HasLayout s) (sym e) (condition2_layout.exactly s bytes))
 
@@ -25,12 +25,12 @@ different_total-count-requires c = read_fits c.args.book.now _ _ _ _ (sym (ap sh
 
 pub returns-in-Refused : goal.returns-in-Refused
 returns-in-Refused c = let e = sym (ap shown_check c.in-Refused.is) ∙ c.check-checked.ensures in
-    let both = with-layout c.args.book.now _ (λ i. omega (arith, c.shared_slice_known-1.given i))
+    let both = with_layout c.args.book.now _ (λ i. omega (arith, c.shared_slice_known-1.given i))
     (read_bad c.args.book.now _ _ (number_some c.in-Refused.kind) e) in
     record { answer = both.0; layout = both.1 }
 
 pub returns-in-Good : goal.returns-in-Good
 returns-in-Good c = let e = sym (ap shown_check c.in-Good.is) ∙ c.check-checked.ensures in
-    let both = with-layout c.args.book.now _ (λ i. omega (arith, c.shared_slice_known-1.given i))
+    let both = with_layout c.args.book.now _ (λ i. omega (arith, c.shared_slice_known-1.given i))
     (read_good c.args.book.now _ _ _ _ e _ c.different_total-count.ensures) in
     record { answer = both.0; layout = both.1 }

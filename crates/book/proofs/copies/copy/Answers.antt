@@ -1,26 +1,16 @@
 use mathlib.Core.Path.{◌≡◌, refl, ap, ◌∙◌}
-use mathlib.Core.Logic.{◌⊎◌, inl, inr}
 use mathlib.Core.List.{List, ◌++◌}
-use Prim.Native.Nat.{ℕ, ◌≤◌, ◌<◌}
+use Prim.Native.Nat.{ℕ}
 use lib.ListN.{length, get_or, take, drop, set}
 use Rattle.format.proofs.Copying.{copied_on, copied_length, copied_most}
 use borrow.Author.Rules.{rules}
 use native.Mathlib.Omega.{arith}
+use Rattle.book.proofs.Smaller.{first_smaller, second_smaller}
 use Rattle.book.proofs.copies.copy.Goals as goal
 use Rattle.book.proofs.copies.copy.Goals.{then-out-n, else-out-n}
 
--- n is the smaller of the two numbers
-abbrev Smaller : ℕ → ℕ → ℕ → Type 0
-Smaller j k n = (n ≤ j) × (n ≤ k) × ((n ≡ j) ⊎ (n ≡ k))
-
-first-smaller : (j k n : ℕ) → n ≡ j → j ≤ k → Smaller j k n
-first-smaller j k n e h = (omega arith, omega arith, inl e)
-
-second-smaller : (j k n : ℕ) → n ≡ k → k < j → Smaller j k n
-second-smaller j k n e h = (omega arith, omega arith, inr e)
-
 pub loop-i-init : goal.loop-i-init
-loop-i-init c = (elim c.if-out-n.branch [ then-out-n w ↦ second-smaller _ _ _ w.n-is w.if-out-n.true | else-out-n w ↦ first-smaller _ _ _ w.n-is w.if-out-n.false ], search rules, refl)
+loop-i-init c = (elim c.if-out-n.branch [ then-out-n w ↦ second_smaller _ _ _ w.n-is w.if-out-n.true | else-out-n w ↦ first_smaller _ _ _ w.n-is w.if-out-n.false ], search rules, refl)
 
 pub bounds-out-i : goal.bounds-out-i
 bounds-out-i c = let a = c.args in
