@@ -4,7 +4,7 @@ use mathlib.Core.List.{List, [], ◌∷◌}
 use Prim.Native.Nat.{ℕ, ◌≤◌, ◌<◌}
 use native.Mathlib.Omega.{arith}
 use lib.ListN.{length}
-use Rattle.format.specs.Format.{row_limit, list_place, field_count, table_count, row_total, different_total, tables_at, book_of}
+use Rattle.format.specs.Format.{row_limit, list_place, field_count, table_count, row_total, different_total, book_of}
 use Rattle.format.specs.Promise.{place}
 use Rattle.format.specs.Reading.{Outcome, accepted, refused, Verdict, pass, fail, next, stop, trailer_verdict, list_test, table_step, tables_step, last_test, verdict, outcome, reading, checking}
 use Rattle.format.proofs.Views.{counts_count, tables_count}
@@ -14,8 +14,7 @@ use Rattle.format.proofs.TableTests.{table_good}
 use Rattle.format.proofs.AllTables.{tables_good}
 use Rattle.format.proofs.Verdict.{verdict_promise}
 use Rattle.format.proofs.Accepted.{checked_verdict}
-use Rattle.book.specs.Bounds.{BodyFits, TablesFit}
-use Rattle.book.proofs.TablesFit.{tables_fit_lem}
+use Rattle.book.specs.Bounds.{BodyFits}
 use Rattle.book.specs.View.{Viewed}
 
 module _ (s : List ℕ) where
@@ -105,25 +104,16 @@ module _ (s : List ℕ) where
           rows_is = cc counts_are;
         }
 
-    -- the tables of an accepted book lie within the bytes and have few rows
-    pub read_fits : TablesFit s tables
-    read_fits =
-        let p = verdict_promise s passed in
-        let et : tables ≡ table_count s = cc counts_are in
-        rw et (tables_fit_lem s p)
-
     -- its counts, with the different rows of its tables
-    pub read_good : (different : ℕ) → different ≡ different_total (tables_at s 0 tables)
+    pub read_good : (different : ℕ) → different ≡ different_total (book_of s).tables
         → accepted (fields ∷ tables ∷ rows ∷ different ∷ []) ≡ reading s
-    unfolding book_of
     read_good different d =
         let ef : fields ≡ field_count s = cc counts_are in
         let et : tables ≡ table_count s = cc counts_are in
         let er : rows ≡ row_total (book_of s).tables = cc counts_are in
         let f : fields ≡ length (book_of s).counts = ef ∙ sym (counts_count s (verdict_promise s passed).whole) in
         let t : tables ≡ length (book_of s).tables = et ∙ sym (tables_count s) in
-        let w : different ≡ different_total (book_of s).tables = d ∙ ap (λ (n : ℕ). different_total (tables_at s 0 n)) et in
-        same f t er w ∙ reading_pass s (sym passed)
+        same f t er d ∙ reading_pass s (sym passed)
       where
         same : {f t r w : ℕ} → fields ≡ f → tables ≡ t → rows ≡ r → different ≡ w
             → accepted (fields ∷ tables ∷ rows ∷ different ∷ []) ≡ accepted (f ∷ t ∷ r ∷ w ∷ [])

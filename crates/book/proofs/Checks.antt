@@ -1,15 +1,11 @@
--- What an answer of check says of the bytes: the verdict that refuses them, or that its numbers are those of a view. Assumes nothing.
-use mathlib.Core.Path.{◌≡◌, sym, ap, ap₂, ◌∙◌}
+-- What a refused opening says of the bytes: the verdict that refuses them. Assumes nothing.
+use mathlib.Core.Path.{◌≡◌, ap, ap₂}
 use mathlib.Core.List.{List}
 use Prim.Native.Nat.{ℕ, ◌≤◌}
 use native.Mathlib.Omega.{arith}
 use Rattle.format.specs.Reading.{Outcome, refused, Verdict, pass, fail, verdict, outcome, checking}
-use Rattle.book.specs.Shown.{number_of, shown_check}
-use Rattle.book.specs.View.{Viewed}
-use Rattle.book.specs.declared.Refusal.{Refusal}
-use Rattle.book.specs.declared.Checked.{Checked}
-use Rattle.book.specs.declared.Checked.TheVariants.{Good, Refused}
-use Rattle.book.proofs.Answers.{check_viewed}
+use Rattle.book.specs.Numbers.{number_of}
+use Rattle.book.specs.declared.refusals.Refused.{Refused}
 use Rattle.book.proofs.Injective.{number_some}
 
 -- a refusal's outcome is told by its number and place
@@ -19,12 +15,7 @@ outcome_fail pass counts k number place h e = absurd (omega (arith, ap (λ (o : 
 outcome_fail (fail number' place') counts k number place h e =
     ap₂ fail (ap (λ (o : Outcome). o.number) e) (ap (λ (o : Outcome). o.place) e)
 
-module _ (bytes : List ℕ) (r : Checked) (is : shown_check r ≡ checking bytes) where
-  -- it refuses the book
-  pub checks_bad : (kind : Refusal) (place : ℕ) → r ≡ Refused kind place → fail (number_of kind) place ≡ verdict bytes
-  unfolding checking
-  checks_bad kind place e = outcome_fail (verdict bytes) _ 4 _ place (number_some kind) (sym (ap shown_check e) ∙ is)
-
-  -- it accepts the book: its numbers are those of a view
-  pub checks_viewed : (list fields tables rows : ℕ) → r ≡ Good list fields tables rows → Viewed bytes list fields tables rows
-  checks_viewed list fields tables rows e = check_viewed bytes list fields tables rows (sym (ap shown_check e) ∙ is)
+-- opening refuses the bytes for what refuses the book
+pub opens_bad : (bytes : List ℕ) (r : Refused) → refused 4 (number_of r.kind) r.place ≡ checking bytes → fail (number_of r.kind) r.place ≡ verdict bytes
+unfolding checking
+opens_bad bytes r e = outcome_fail (verdict bytes) _ 4 _ r.place (number_some r.kind) e

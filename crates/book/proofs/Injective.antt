@@ -1,17 +1,18 @@
 -- An answer is told by what is shown of it: no two answers show the same number, place and counts. Assumes nothing.
-use mathlib.Core.Path.{◌≡◌, refl, sym, ap, ◌∙◌}
-use mathlib.Core.List.{[], ◌∷◌}
+use mathlib.Core.Path.{◌≡◌, refl, sym, ap, ap₂, ◌∙◌}
+use mathlib.Core.List.{List, [], ◌∷◌}
 use Prim.Native.Nat.{ℕ, ◌≤◌}
 use native.Mathlib.Omega.{arith}
 use lib.ListN.{get_or}
+use Rattle.std.specs.Prelude.{Result, Ok, Err}
 use Rattle.format.specs.Reading.{Outcome}
-use Rattle.book.specs.Shown.{number_of, shown, shown_check}
-use Rattle.book.specs.declared.Refusal.{Refusal}
-use Rattle.book.specs.declared.Refusal.TheVariants.{Length, Closing, Version, FieldCount, TableCount, ListPlace, CodeCount, Short, Arity, FieldNumber, Code, RowCount, LeftOver}
-use Rattle.book.specs.declared.Reading.{Reading}
-use Rattle.book.specs.declared.Reading.TheVariants.{Accepted, Refused}
-use Rattle.book.specs.declared.Checked.{Checked}
-use Rattle.book.specs.declared.Checked.TheVariants as checked
+use Rattle.book.specs.Numbers.{number_of}
+use Rattle.book.specs.Shown.{shown, shown_open}
+use Rattle.book.specs.declared.refusals.Refusal.{Refusal}
+use Rattle.book.specs.declared.refusals.Refusal.TheVariants.{Length, Closing, Version, FieldCount, TableCount, ListPlace, CodeCount, Short, Arity, FieldNumber, Code, RowCount, LeftOver}
+use Rattle.book.specs.declared.refusals.Refused.{Refused}
+use Rattle.book.specs.declared.view.Book.{Book}
+use Rattle.book.specs.declared.Counts.{Counts}
 
 -- the kind of a number from 1 to 13
 kind_of : ℕ → Refusal
@@ -59,16 +60,30 @@ places e = ap (λ (o : Outcome). o.place) e
 lists : {x y : Outcome} → x ≡ y → x.counts ≡ y.counts
 lists e = ap (λ (o : Outcome). o.counts) e
 
--- two readings that show the same are the same
-pub shown_injective : (x y : Reading) → shown x ≡ shown y → x ≡ y
-shown_injective (Accepted f t r d) (Accepted f' t' r' d') e = cc (lists e)
-shown_injective (Accepted f t r d) (Refused k p) e = absurd (omega (arith, numbers e, number_some k))
-shown_injective (Refused k p) (Accepted f t r d) e = absurd (omega (arith, numbers e, number_some k))
-shown_injective (Refused k p) (Refused k' p') e = cc (number_injective k k' (numbers e), places e)
+-- two refusals of one kind and place
+refused_same : (r r' : Refused) → r.kind ≡ r'.kind → r.place ≡ r'.place → r ≡ r'
+refused_same r r' k p = ap₂ (λ (x : Refusal) (y : ℕ). record { kind = x; place = y }) k p
 
--- and so are two answers of checking
-pub shown_check_injective : (x y : Checked) → shown_check x ≡ shown_check y → x ≡ y
-shown_check_injective (checked.Good l f t r) (checked.Good l' f' t' r') e = cc (lists e)
-shown_check_injective (checked.Good l f t r) (checked.Refused k p) e = absurd (omega (arith, numbers e, number_some k))
-shown_check_injective (checked.Refused k p) (checked.Good l f t r) e = absurd (omega (arith, numbers e, number_some k))
-shown_check_injective (checked.Refused k p) (checked.Refused k' p') e = cc (number_injective k k' (numbers e), places e)
+-- the counts that a list shows
+abbrev counts_of : List ℕ → Counts
+counts_of ns = record { fields = get_or ns 0 0; tables = get_or ns 1 0; rows = get_or ns 2 0; different = get_or ns 3 0 }
+
+-- two readings that show the same are the same
+pub shown_injective : (x y : Result Counts Refused) → shown x ≡ shown y → x ≡ y
+shown_injective (Ok c) (Ok c') e = ap (λ (ns : List ℕ). Ok (counts_of ns)) (lists e)
+shown_injective (Ok c) (Err r) e = absurd (omega (arith, numbers e, number_some r.kind))
+shown_injective (Err r) (Ok c) e = absurd (omega (arith, numbers e, number_some r.kind))
+shown_injective (Err r) (Err r') e = ap Err (refused_same r r' (number_injective r.kind r'.kind (numbers e)) (places e))
+
+-- what opening answers, but for the bytes, which are the caller's
+pub numbers_of : Result Book Refused → Result (List ℕ) Refused
+numbers_of (Ok b) = Ok (b.list ∷ b.fields ∷ b.tables ∷ b.rows ∷ [])
+numbers_of (Err r) = Err r
+
+-- and two openings that show the same have the same numbers
+pub shown_open_injective : (x y : Result Book Refused) → shown_open x ≡ shown_open y → numbers_of x ≡ numbers_of y
+unfolding numbers_of
+shown_open_injective (Ok b) (Ok b') e = ap Ok (lists e)
+shown_open_injective (Ok b) (Err r) e = absurd (omega (arith, numbers e, number_some r.kind))
+shown_open_injective (Err r) (Ok b) e = absurd (omega (arith, numbers e, number_some r.kind))
+shown_open_injective (Err r) (Err r') e = ap Err (refused_same r r' (number_injective r.kind r'.kind (numbers e)) (places e))

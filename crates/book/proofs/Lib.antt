@@ -2,9 +2,10 @@ pub mod Turns
 pub mod Gathered
 pub mod Pairs
 pub mod Following
-pub mod Rows
-pub mod TablesFit
+pub mod TableRows
 pub mod Answers
 pub mod Injective
 pub mod Checks
-pub mod Smaller
+pub mod Walks
+pub mod WalkSteps
+pub mod Refusing

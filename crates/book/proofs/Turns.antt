@@ -3,13 +3,29 @@ use mathlib.Core.Path.{◌≡◌, refl, sym, ap, ◌∙◌}
 use mathlib.Core.Bool.{Bool, true, false, ◌||◌}
 use mathlib.Core.List.{List}
 use Prim.Native.Nat.{ℕ, ◌+◌, ◌-◌, ◌%◌, ◌≤◌, ◌<◌}
-use native.Mathlib.Nat.{mod-add-mod, mod-eq_of_lt, mod_self, zero-mod}
+use native.Mathlib.Nat.{mod-add-mod, mod-eq_of_lt, mod_self}
 use native.Mathlib.Omega.{arith}
 use lib.Dec.{ltb, leb}
 use borrow.Author.Tests.{le-leb, lt-leb, lt-ltb, le-ltb}
-use Rattle.format.specs.Basics.{pick}
+use Rattle.format.specs.Basics.{pick, first_bad}
 use Rattle.format.specs.Format.{byte, code_limit}
 use Rattle.format.specs.Reading.{count_ok, field_ok, code_ok}
+use Rattle.format.proofs.Scans.{bad_on, bad_here, bad_none}
+
+-- ---- a scan from start on: at i the answer is still to be found
+
+module _ (ok : ℕ → Bool) (start i e : ℕ) (w : first_bad ok i e ≡ first_bad ok start e) where
+  -- it is i
+  pub found_here : i < e → ok i ≡ false → (i < e) × (i ≡ first_bad ok start e)
+  found_here h t = (h, bad_here ok i e h t ∙ w)
+
+  -- it stands behind i
+  pub found_later : i < e → ok i ≡ true → first_bad ok (i + 1) e ≡ first_bad ok start e
+  found_later h t = bad_on ok i e h t ∙ w
+
+  -- there is none
+  pub found_none : e ≤ i → e ≤ first_bad ok start e
+  found_none h = omega (arith, bad_none ok i e h, w)
 
 -- ---- the number of codes at i
 
@@ -29,10 +45,6 @@ module _ (s : List ℕ) (i : ℕ) where
 -- the least number that rises at i: one above the number before it, 0 at first
 abbrev pub least_at : List ℕ → ℕ → ℕ → ℕ
 least_at s first i = pick (leb i first) 0 (byte s (i - 1) + 1)
-
--- at first any number is right
-pub least_first : (s : List ℕ) (first : ℕ) → 0 ≡ least_at s first first
-least_first s first = simp (le-leb first first (omega arith))
 
 -- behind the number f, one above it
 pub least_next : (s : List ℕ) (first i f : ℕ) → first ≤ i → f ≡ byte s i → f + 1 ≡ least_at s first (i + 1)
@@ -77,12 +89,6 @@ module _ (s : List ℕ) (list first a start i column f : ℕ) (l : column ≡ (i
 
   pub code_good : byte s i < byte s (list + f) → code_ok s list first a start i ≡ true
   code_good h = sym code_tested ∙ lt-ltb _ _ h
-
--- the first code stands in column 0
-pub column_start : (a start : ℕ) → 0 ≡ (start - start) % a
-column_start a start =
-    let d : start - start ≡ 0 = omega arith in
-    rw (d, zero-mod)
 
 module _ (a start i column : ℕ) (h : start ≤ i) (l : column ≡ (i - start) % a) where
   -- one place on is one column on, or back at the first

@@ -1,7 +1,6 @@
 -- Where the reader's inner functions may look: bounds of places in the bytes. Assumes nothing.
 use Rattle.std.specs.Prelude.{ℕ, ◌+◌, ◌*◌, ◌≤◌, ◌<◌, List, length, ◌≡◌}
-use Rattle.format.specs.Format.{byte, list_place, field_count, arity_at, rows_of, first_row, arity_limit, table_limit, row_limit, length_limit}
-use Rattle.format.specs.Promise.{place}
+use Rattle.format.specs.Format.{byte, list_place, field_count, arity_at, first_row, arity_limit, row_limit, length_limit}
 
 -- the trailer's place of the field list and number of fields, which lie within the bytes, and few bytes
 pub record BodyFits (s : List ℕ) (list fields : ℕ) : Type 0 where
@@ -40,10 +39,3 @@ pub record RowsFit (s : List ℕ) (a p n : ℕ) : Type 0 where
   pub few : a ≤ arity_limit
   pub within : p + n * a + arity_limit ≤ length s
   pub codes : (r j : ℕ) → r < n → j < a → byte s (p + r * a + j) < 256
-
--- few tables, which end within the bytes; the rows of each lie there, and are few
-pub record TablesFit (s : List ℕ) (tables : ℕ) : Type 0 where
-  pub few : tables ≤ table_limit
-  pub within : place s tables ≤ length s
-  pub rows : (i : ℕ) → i < tables → RowsFit s (arity_at s (place s i)) (first_row s (place s i)) (rows_of s (place s i))
-  pub rows_few : (i : ℕ) → i < tables → rows_of s (place s i) ≤ row_limit

@@ -1,215 +1,139 @@
 // How many different rows a book has, each counted within its table. Rows are compared as words, a word at a time.
-ghost use Rattle.std.specs.Prelude.{◌≡◌, ◌+◌, ◌≤◌, length};
-ghost use Rattle.format.specs.Format.{arity_limit, row_limit, different, different_total, part, rows_at, tables_at};
-ghost use Rattle.words.specs.Sorting.{is_among};
-ghost use Rattle.words.specs.RowWord.{row_word, words_at, mask};
-ghost use Rattle.book.specs.Bounds.{RowFits, RowsFit, TablesFit};
-ghost use Rattle.book.specs.Ordering.{OrderOf};
+ghost use Rattle.std.specs.Prelude.{◌≡◌, ◌≤◌, length};
+ghost use Rattle.format.specs.Format.{row_limit, different_total, book_of};
+ghost use Rattle.words.specs.Sorting.{distinct};
 
-use super::bytes::{byte, pair};
+use super::row_words::{gather, row_word};
+use super::view::{Book, Table};
 
 // The words of up to so many rows are held against each other: sorting them takes longer. Measured.
 const FEW: usize = 64;
 
+// As many rows as a book may have.
+const MANY: usize = words::MOST;
+
 // Up to so many rows are compared where they stand: gathering them takes longer. Measured.
 const SMALL: usize = 16;
 
-// The bits of a row's word, a byte for each code that a row may have.
-const WORD_BITS: usize = 32;
+impl Table<'_> {
+    ghost use Rattle.std.specs.Prelude.{◌+◌, ◌/◌, ◌<◌, get_or, drop};
+    ghost use Rattle.std.specs.Fn.{FnOnceReturnsAtMut};
+    ghost use Rattle.format.specs.Format.{different};
+    ghost use Rattle.words.specs.Sorting.{is_among};
+    ghost use Rattle.book.specs.Ordering.{OrderOf, CountsDistinct};
+    ghost use Rattle.book.specs.Listed.{rows_in, words_in};
 
-// The bits of a word that arity codes take. By a difference and not case by case, so that a loop has nothing to decide.
-fn row_mask(arity: usize) -> usize
-    requires { arity ≤ arity_limit }
-    ensures { result ≡ mask arity }
-{
-    4294967296 - (1 << (WORD_BITS - 8 * arity))
-}
+    // The word of row k.
+    fn word(&self, k: usize) -> u32
+        requires { k < self.now.rows }
+        ensures { result ≡ get_or (words_in self.now) k 0 }
+    {
+        row_word(self.bytes, self.first + k * self.arity, self.arity)
+    }
 
-// The row of arity codes at p as a word: the first code in the highest byte, zeros behind the last. Four bytes are read in any case,
-// at once, and those behind the row cleared: a book goes on behind its tables.
-pub fn row_word(book: &[u8], p: usize, arity: usize) -> u32
-    requires { RowFits book.now arity p }
-    ensures { result ≡ row_word (part book.now p arity) }
-{
-    let word = byte(book, p) * 16777216
-        + byte(book, p + 1) * 65536
-        + byte(book, p + 2) * 256
-        + byte(book, p + 3);
-    (word & row_mask(arity)) as u32
-}
+    // The first code of row k, which is the highest byte of its word.
+    fn first_code(&self, k: usize) -> u8
+        requires { k < self.now.rows }
+        ensures { result ≡ get_or (words_in self.now) k 0 / 16777216 }
+    {
+        self.bytes[self.first + k * self.arity]
+    }
 
-// Whether the row of arity codes at row stands again among the count rows behind it. Rows that begin with different codes have
-// different words, and most do: the words are compared where the first codes are the same.
-fn stands_again(book: &[u8], row: usize, arity: usize, count: usize) -> bool
-    requires { RowsFit book.now arity row (count + 1) }
-    ensures { result ≡ is_among (row_word (part book.now row arity))
-        (words_at book.now arity (row + arity) count) }
-{
-    let mut at = row + arity;
-    let mut left = count;
-    while 0 < left {
-        if book[row] == book[at] {
-            if row_word(book, row, arity) == row_word(book, at, arity) {
+    // Whether row k stands again behind it. Rows that begin with different codes have different words, and most do: the words are
+    // compared where the first codes are the same.
+    fn stands_again(&self, k: usize) -> bool
+        requires { k < self.now.rows }
+        ensures { result ≡ is_among (get_or (words_in self.now) k 0) (drop (k + 1) (words_in self.now)) }
+    {
+        let first = self.first_code(k);
+        for j in k + 1..self.rows {
+            if first == self.first_code(j) && self.word(k) == self.word(j) {
                 return true;
             }
-            at += arity;
-            left -= 1;
-        } else {
-            at += arity;
-            left -= 1;
         }
+        false
     }
-    false
-}
 
-// The number of different rows among the count rows of arity codes from start on. A repeated row counts where it stands last, so
-// that each row is held against the later ones alone.
-fn different_pairs(book: &[u8], start: usize, arity: usize, count: usize) -> usize
-    requires { RowsFit book.now arity start count }
-    ensures { (result ≡ different (rows_at book.now arity start count)) × (result ≤ count) }
-{
-    let mut found = 0;
-    let mut row = start;
-    let mut left = count;
-    while 0 < left {
-        left -= 1;
-        if stands_again(book, row, arity, left) {
-            row += arity;
-        } else {
-            found += 1;
-            row += arity;
+    // The number of different rows, compared where they stand. A repeated row counts where it stands last, so that each row is held
+    // against the later ones alone.
+    fn count_pairs(&self) -> usize
+        ensures { (result ≡ different (rows_in self.now)) × (result ≤ self.now.rows) }
+    {
+        let mut found = 0;
+        for k in 0..self.rows {
+            if !self.stands_again(k) {
+                found += 1;
+            }
         }
+        found
     }
-    found
-}
 
-// Fills the list with the words of the rows of arity codes from start on.
-pub fn gather(book: &[u8], start: usize, arity: usize, list: &mut [u32])
-    requires { RowsFit book.now arity start (length list.old) }
-    ensures { list.new ≡ words_at book.now arity start (length list.old) }
-{
-    let mut at = start;
-    let mut i = 0;
-    while i < list.len() {
-        list[i] = row_word(book, at, arity);
-        at += arity;
-        i += 1;
-    }
-}
-
-// How the rows of a table stand: no word is less than the one before it, and so many are different; or one is less.
-#[derive(Clone, Copy)]
-pub(crate) enum Order {
-    Rises(usize),
-    Falls,
-}
-
-// How the count rows of arity codes from start on stand. Rows that were written in order are counted on the way, without an array.
-fn in_order(book: &[u8], start: usize, arity: usize, count: usize) -> Order
-    requires { RowsFit book.now arity start count }
-    ensures { OrderOf result (words_at book.now arity start count) }
-{
-    if count < 1 {
-        return Order::Rises(0);
-    }
-    let mut before = row_word(book, start, arity);
-    let mut at = start + arity;
-    let mut found = 1;
-    let mut i = 1;
-    while i < count {
-        let word = row_word(book, at, arity);
-        if word < before {
-            return Order::Falls;
-        }
-        if before < word {
-            found += 1;
+    // How many different rows there are where no word is less than the one before it, or None where one is. Rows that were written in
+    // order are counted on the way, without an array.
+    fn count_risen(&self) -> Option<usize>
+        requires { 1 ≤ self.now.rows }
+        ensures { OrderOf result (words_in self.now) }
+    {
+        let mut before = self.word(0);
+        let mut found = 1;
+        for k in 1..self.rows {
+            let word = self.word(k);
+            if word < before {
+                return None;
+            }
+            if before < word {
+                found += 1;
+            }
             before = word;
-            at += arity;
-            i += 1;
-        } else {
-            at += arity;
-            i += 1;
+        }
+        Some(found)
+    }
+
+    // The number of different rows: their words are gathered in an array of N, and counted there. A small array is soon cleared.
+    fn count_in<const N: usize, F: FnOnce(&mut [u32]) -> usize>(&self, counted: F) -> usize
+        requires room { (self.now.rows ≤ N) × (N ≤ row_limit) }
+        requires callable { F.IsAlwaysCallable counted }
+        requires counts { CountsDistinct (FnOnceReturnsAtMut F.FnOnce counted) (words_in self.now) }
+        ensures { (result ≡ different (rows_in self.now)) × (result ≤ self.now.rows) }
+    {
+        let mut list = [0u32; N];
+        let list = &mut list[..self.rows];
+        gather(self.bytes, self.first, self.arity, list);
+        counted(list)
+    }
+
+    // The number of different rows, by what is fastest for so many.
+    fn count_different(&self) -> usize
+        ensures { (result ≡ different (rows_in self.now)) × (result ≤ self.now.rows) }
+    {
+        if self.rows <= SMALL {
+            return self.count_pairs();
+        }
+        match self.count_risen() {
+            Some(found) => found,
+            None if self.rows <= FEW => {
+                self.count_in::<FEW, _>(|list| words::count_distinct(list))
+            }
+            None => self.count_in::<MANY, _>(count_sorted),
         }
     }
-    Order::Rises(found)
 }
 
-// The number of different rows of arity codes from start on, as many as the list is long: it is lent for their words, which are held
-// against each other.
-fn compared(book: &[u8], start: usize, arity: usize, list: &mut [u32]) -> usize
-    requires { RowsFit book.now arity start (length list.old) }
-    ensures { (result ≡ different (rows_at book.now arity start (length list.old)))
-        × (result ≤ length list.old) }
+// How many different words there are, by sorting them: equal words then stand side by side.
+fn count_sorted(list: &mut [u32]) -> usize
+    ensures { length list.old ≤ row_limit → (result ≡ distinct list.old) × (result ≤ length list.old) }
 {
-    gather(book, start, arity, list);
-    words::count_distinct(list)
-}
-
-// The same, by sorting: equal words then stand side by side.
-fn sorted(book: &[u8], start: usize, arity: usize, list: &mut [u32]) -> usize
-    requires { RowsFit book.now arity start (length list.old) × (length list.old ≤ row_limit) }
-    ensures { (result ≡ different (rows_at book.now arity start (length list.old)))
-        × (result ≤ length list.old) }
-{
-    gather(book, start, arity, list);
     words::sort(list);
     words::count_runs(list)
 }
 
-// The number of different rows among the count rows of arity codes from start on, at most FEW. Its array is small, and soon cleared.
-fn different_few(book: &[u8], start: usize, arity: usize, count: usize) -> usize
-    requires { RowsFit book.now arity start count × (count ≤ 64) }
-    ensures { (result ≡ different (rows_at book.now arity start count)) × (result ≤ count) }
-{
-    let mut list = [0u32; FEW];
-    compared(book, start, arity, &mut list[..count])
-}
-
-// The same for as many rows as a book may have, by sorting.
-fn different_many(book: &[u8], start: usize, arity: usize, count: usize) -> usize
-    requires { RowsFit book.now arity start count × (count ≤ row_limit) }
-    ensures { (result ≡ different (rows_at book.now arity start count)) × (result ≤ count) }
-{
-    let mut list = [0u32; words::MOST];
-    sorted(book, start, arity, &mut list[..count])
-}
-
-// The same, by what is fastest for such rows.
-fn different_rows(book: &[u8], start: usize, arity: usize, count: usize) -> usize
-    requires { RowsFit book.now arity start count × (count ≤ row_limit) }
-    ensures { (result ≡ different (rows_at book.now arity start count)) × (result ≤ count) }
-{
-    if count <= SMALL {
-        return different_pairs(book, start, arity, count);
-    }
-    let order = in_order(book, start, arity, count);
-    match order {
-        Order::Rises(found) => found,
-        Order::Falls => {
-            if count <= FEW {
-                different_few(book, start, arity, count)
-            } else {
-                different_many(book, start, arity, count)
-            }
-        }
-    }
-}
-
 // The number of different rows of all tables.
-pub(crate) fn different_total(book: &[u8], tables: usize) -> usize
-    requires { TablesFit book.now tables }
-    ensures { result ≡ different_total (tables_at book.now 0 tables) }
+pub(crate) fn different_total<'a>(book: Book<'a>) -> usize
+    ensures { result ≡ different_total (book_of book.entry.bytes.now).tables }
 {
-    let mut at = 0;
     let mut total = 0;
-    let mut i = 0;
-    while i < tables {
-        let arity = byte(book, at);
-        let count = pair(book, at + 1 + arity);
-        let start = at + 3 + arity;
-        total += different_rows(book, start, arity, count);
-        at = start + count * arity;
-        i += 1;
+    for table in book.tables() {
+        total += table.count_different();
     }
     total
 }

@@ -1,14 +1,9 @@
--- `book::different::different_total` meets its contract. The loop's invariant: this is the place of table i, and the total and the different rows of
--- the tables left make the whole. Assumes nothing.
-use Prim.Native.Nat.{◌+◌, ◌*◌, ◌-◌, ◌≤◌}
-use mathlib.Core.Path.{◌≡◌}
-use Rattle.format.specs.Format.{different_total, tables_at}
-use Rattle.format.specs.Promise.{place}
+-- `book::different::different_total` meets its contract. The loop's invariant: the total and the different rows of the tables left make the whole. Assumes
+-- nothing.
+use Rattle.std.proofs.Common.{◌≡◌, ◌+◌, ◌*◌, ◌≤◌, drop}
+use Rattle.format.specs.Format.{row_limit, different_total, book_of}
 use Rattle.book.proofs.different.different_total.Given as goal
 
-abbrev pub invariant-loop-i : goal.invariant-loop-i
-invariant-loop-i l = (l.i ≤ l.tables) × (l.at ≡ place l.book l.i) × (l.total ≤ l.i * 65536)
-    × (l.total + different_total (tables_at l.book l.at (l.tables - l.i)) ≡ different_total (tables_at l.book 0 l.tables))
-
-abbrev pub decreases-loop-i : goal.decreases-loop-i
-decreases-loop-i l = l.tables - l.i
+abbrev pub invariant-loop-table : goal.invariant-loop-table
+invariant-loop-table l = (l.table-iterator.book ≡ l.book) × (l.total ≤ l.table-iterator.index * row_limit)
+    × (l.total + different_total (drop l.table-iterator.index (book_of l.book.bytes.now).tables) ≡ different_total (book_of l.book.bytes.now).tables)

@@ -1,15 +1,10 @@
 -- `book::scans::bad_field` meets its contract. The loop's invariant: the least number that rises here, and the answer from here is the answer from
 -- the start. Assumes nothing.
-use Prim.Native.Nat.{◌≤◌, ◌-◌}
-use mathlib.Core.Path.{◌≡◌}
+use Rattle.std.proofs.Common.{◌≡◌}
 use Rattle.format.specs.Basics.{first_bad}
 use Rattle.format.specs.Reading.{field_ok}
 use Rattle.book.proofs.Turns.{least_at}
 use Rattle.book.proofs.scans.bad_field.Given as goal
 
 abbrev pub invariant-loop-i : goal.invariant-loop-i
-invariant-loop-i l = (l.first ≤ l.i) × (l.i ≤ l.end) × (l.least ≡ least_at l.book l.first l.i)
-    × (first_bad (field_ok l.book l.fields l.first) l.i l.end ≡ first_bad (field_ok l.book l.fields l.first) l.first l.end)
-
-abbrev pub decreases-loop-i : goal.decreases-loop-i
-decreases-loop-i l = l.end - l.i
+invariant-loop-i l = (l.least ≡ least_at l.book l.first l.i) × (first_bad (field_ok l.book l.fields l.first) l.i l.end ≡ first_bad (field_ok l.book l.fields l.first) l.first l.end)

@@ -1,0 +1,141 @@
+// A book and its tables as views on the bytes that are lent: an accepted book's numbers and a table's are the bytes' own, which the
+// types say.
+ghost use Rattle.std.specs.Prelude.{◌≡◌};
+ghost use Rattle.format.specs.Promise.{place};
+ghost use Rattle.book.specs.View.{Viewed, IsTable, TableIn};
+
+use super::bytes::{byte, pair};
+use super::refusals::{Refusal, Refused};
+use super::tests::{Body, Trailer};
+
+// A book: its bytes, the place of its field list, and its numbers of fields, tables and rows.
+#[derive(Clone, Copy)]
+pub struct Book<'a> {
+    pub bytes: &'a [u8],
+    pub list: usize,
+    pub fields: usize,
+    pub tables: usize,
+    pub rows: usize,
+    pub ghost viewed: { Viewed bytes.now list fields tables rows },
+}
+
+// A table: its number and place in the book, its number of fields, the place of its first row, and its number of rows.
+#[derive(Clone, Copy)]
+pub struct Table<'a> {
+    pub bytes: &'a [u8],
+    pub index: usize,
+    pub at: usize,
+    pub arity: usize,
+    pub first: usize,
+    pub rows: usize,
+    pub ghost stands: { TableIn bytes.now index at arity first rows },
+}
+
+// The tables of a book from one on, in their order: its number, and its place.
+#[derive(Clone, Copy)]
+pub struct Tables<'a> {
+    pub book: Book<'a>,
+    pub index: usize,
+    pub at: usize,
+    pub ghost stand: { at ≡ place book.bytes.now index },
+}
+
+impl<'a> Book<'a> {
+    ghost use Rattle.std.specs.Prelude.{IfOk};
+    ghost use Rattle.format.specs.Reading.{checking};
+    ghost use Rattle.book.specs.Shown.{shown_open};
+
+    // Makes every test. Different rows are counted apart, since only `read` answers their number.
+    pub fn open(bytes: &'a [u8]) -> Result<Book<'a>, Refused>
+        ensures answer { shown_open result ≡ checking bytes.entry.now }
+        ensures bytes { IfOk result (λ book. book.bytes ≡ bytes.entry) }
+    {
+        let Trailer {
+            list,
+            fields,
+            tables,
+        } = Trailer::of(bytes)?;
+        let body = Body {
+            bytes,
+            list,
+            fields,
+        };
+        body.field_list()?;
+        let passed = body.tables(tables)?;
+        if passed.at < list {
+            return Err(Refusal::LeftOver.at(passed.at));
+        }
+        Ok(Book {
+            bytes,
+            list,
+            fields,
+            tables,
+            rows: passed.rows,
+        })
+    }
+
+    // The table of this number at this place.
+    pub fn table(self, index: usize, at: usize) -> Table<'a>
+        requires { IsTable self.bytes.now index at }
+        ensures bytes { result.bytes ≡ self.entry.bytes }
+        ensures index { result.index ≡ index }
+        ensures at { result.at ≡ at }
+    {
+        let arity = byte(self.bytes, at);
+        let rows = pair(self.bytes, at + 1 + arity);
+        Table {
+            bytes: self.bytes,
+            index,
+            at,
+            arity,
+            first: at + 3 + arity,
+            rows,
+        }
+    }
+
+    // All tables, from the first on.
+    pub fn tables(self) -> Tables<'a>
+        ensures book { result.book ≡ self.entry }
+        ensures index { result.index ≡ 0 }
+    {
+        Tables {
+            book: self,
+            index: 0,
+            at: 0,
+        }
+    }
+}
+
+impl<'a> Table<'a> {
+    ghost use Rattle.format.specs.Format.{table_end};
+
+    // The place behind its last row.
+    pub fn end(self) -> usize
+        ensures { result ≡ table_end self.entry.bytes.now self.entry.at }
+    {
+        self.first + self.rows * self.arity
+    }
+}
+
+impl<'a> Iterator for Tables<'a> {
+    ghost use Rattle.book.specs.Walk.{GivesTable, tables_left};
+
+    type Item = Table<'a>;
+
+    ghost next_gives = { GivesTable };
+
+    ghost remaining = { tables_left };
+
+    fn next(&mut self) -> Option<Table<'a>> {
+        if self.book.tables <= self.index {
+            return None;
+        }
+        let table = self.book.table(self.index, self.at);
+        *self = Tables {
+            book: self.book,
+            index: self.index + 1,
+            at: table.end(),
+        };
+        Some(table)
+    }
+}
