@@ -139,15 +139,15 @@ pub record CasesBelow (s : Sheet) (own : List ℕ) (all f : ℕ) : Type 0 where
   pub are : CasesAre s.answers own all (cases_below f s)
 
 -- no field yet
-pub cases_none : (s : Sheet) (own : List ℕ) → length s.answers ≡ places → length own ≡ places → ((f : ℕ) → get_or own f 0 ≡ 0)
+pub cases_none : {s : Sheet} {own : List ℕ} → length s.answers ≡ places → length own ≡ places → ((f : ℕ) → get_or own f 0 ≡ 0)
     → CasesBelow s own 1 0
-cases_none s own l m z = record { sheet = l; size = m; later = λ g h. z g; few = omega arith; are = one_case s.answers own z }
+cases_none {s} {own} l m z = record { sheet = l; size = m; later = λ g h. z g; few = omega arith; are = one_case s.answers own z }
 
 -- by other names
 pub cases_same : {s : Sheet} {own own' : List ℕ} {all all' f : ℕ} → own' ≡ own → all' ≡ all → CasesBelow s own all f → CasesBelow s own' all' f
 cases_same {s} {f = f} e d x = subst₂ (λ (o : List ℕ) (n : ℕ). CasesBelow s o n f) (sym e) (sym d) x
 
-module _ (s : Sheet) (own : List ℕ) (all f : ℕ) (x : CasesBelow s own all f) (l : f < places) where
+module _ {s : Sheet} {own : List ℕ} {all f : ℕ} (x : CasesBelow s own all f) (l : f < places) where
   -- the cases' words have room for one more
   pub own_fits : all + (all + 1) < 2 ^ 64
   own_fits =
@@ -199,8 +199,3 @@ module _ (s : Sheet) (own : List ℕ) (all f : ℕ) (x : CasesBelow s own all f)
 
   pub cases_backed : not (backed s f) ≡ false → CasesBelow s own all (f + 1)
   cases_backed u = cases_still (ap (answered s.answers f &&◌) u ∙ and-false (answered s.answers f))
-
--- all fields
-pub cases_done : (s : Sheet) (own : List ℕ) (all f fields : ℕ) → CasesBelow s own all f → f ≡ fields
-    → CasesAre s.answers own all (cases_below fields s)
-cases_done s own all f fields x e = subst (λ (n : ℕ). CasesAre s.answers own all (cases_below n s)) e x.are

@@ -6,7 +6,7 @@ use Prim.Native.Nat.{ℕ, ◌+◌, ◌≤◌, ◌<◌}
 use native.Mathlib.Nat.{le_trans}
 use native.Mathlib.Numerals.{add-one}
 use native.Mathlib.Omega.{arith}
-use borrow.Author.Tests.{lt-ltb, le-ltb}
+use borrow.Author.Tests.{lt-ltb}
 use lib.ListN.{length, get_or}
 use lib.Bits.{bit_and, bit_or, bit_xor}
 use lib.Dec.{T, ltb}
@@ -20,7 +20,7 @@ use Rattle.consistency.specs.Largest.{largest}
 use Rattle.consistency.specs.Emptiness.{some_empty}
 use Rattle.consistency.specs.Counts.{bit, in_doubt, mask}
 use Rattle.consistency.proofs.Booleans.{any_in, any_out, any_not, any_ext}
-use Rattle.consistency.proofs.Masks.{mask_bit, zero_bit}
+use Rattle.consistency.proofs.Masks.{mask_bit}
 use Rattle.consistency.proofs.Largest.{largest_is}
 use Rattle.filter.specs.Words.{word_at, domain_of}
 use Rattle.filter.specs.Cases.{cases_of, own_case, marks_of}
@@ -37,9 +37,6 @@ module _ (M : List ℕ) (f : ℕ) where
   abbrev pub MarkedBelow : ℕ → ℕ → Type 0
   MarkedBelow c w = (k : ℕ) → bit w k ≡ any_below c (domain_of M k f)
 
-  pub marked_none : MarkedBelow 0 0
-  marked_none k = zero_bit k
-
   pub marked_more : (w c : ℕ) → c < code_limit → MarkedBelow c w → MarkedBelow (c + 1) (bit_or w (word_at M f c))
   marked_more w c l h k =
       bit_or_lem w (word_at M f c) k ∙ ap₂ ◌||◌ (h k) (sym (domain_bit M k f c l)) ∙ ap (λ (n : ℕ). any_below n (domain_of M k f)) (sym (add-one c))
@@ -47,10 +44,6 @@ module _ (M : List ℕ) (f : ℕ) where
   pub marked_all : (w c : ℕ) → f < places → MarkedBelow c w → c ≡ code_limit → (k : ℕ) → bit w k ≡ marked M f k
   marked_all w c l h e k =
       h k ∙ ap (λ (n : ℕ). any_below n (domain_of M k f)) e ∙ sym (ap (◌&& any_below code_limit (domain_of M k f)) (lt-ltb f places l))
-
-  -- a field without a place
-  pub marked_nowhere : places ≤ f → (k : ℕ) → bit 0 k ≡ marked M f k
-  marked_nowhere l k = zero_bit k ∙ sym (ap (◌&& any_below code_limit (domain_of M k f)) (le-ltb f places l))
 
 -- ---- the and of these over the fields
 

@@ -22,13 +22,13 @@ use Rattle.consistency.proofs.Supports.{row_there}
 use Rattle.consistency.proofs.Masks.{zero_bit}
 use Rattle.consistency.proofs.FirstRows.{IsFirstBelow, first_below, first_only}
 use Rattle.filter.specs.Words.{domain_of}
-use Rattle.filter.specs.declared.support.Shape.{Shape}
+use Rattle.std.specs.Prelude.{Option, Some, None}
+use Rattle.book.specs.View.{TableIn}
 use Rattle.filter.specs.declared.support.Found.{Found}
-use Rattle.filter.specs.declared.support.Found.TheVariants.{Row, Nothing}
-use Rattle.filter.specs.Support.{InTable, row_cases, first_from}
+use Rattle.filter.specs.Support.{row_cases, first_from}
 use Rattle.filter.proofs.Bits.{one_bit, same_bits}
 use Rattle.filter.proofs.Firsts.{FirstIs}
-use Rattle.filter.proofs.Shapes.{codes_small}
+use Rattle.filter.proofs.Tables.{codes_small}
 use Rattle.filter.proofs.Narrowing.{cases_bit}
 use Rattle.filter.proofs.RowSearch.{search_is}
 
@@ -38,9 +38,9 @@ pub record OneMark (need : List ℕ) (c k : ℕ) : Type 0 where
   pub elsewhere : (d : ℕ) → d ≢ c → get_or need d 0 ≡ 0
 
 -- the number of the row that the search answers, or none
-abbrev pub row_number : Found → RowFound
-row_number (Row r v) = at_row r
-row_number Nothing = no_row
+abbrev pub row_number : Option Found → RowFound
+row_number (Some x) = at_row x.row
+row_number None = no_row
 
 -- what is asked for, and that it is
 asked : (need : List ℕ) (c k : ℕ) → OneMark need c k → (d i : ℕ) → T (bit (get_or need d 0) i) → (d ≡ c) × (i ≡ k)
@@ -104,21 +104,21 @@ module _ (M : List ℕ) (t : Table) (j c k : ℕ) (need : List ℕ) (one : OneMa
     none : (r : ℕ) → r < length t.rows → row_cases M need t j r ≡ 0 → T (supports r) → ⊥
     none r l z = alone_none (supports r) k (sym (one_case r l) ∙ z)
 
-    answer : (x : Found) → FirstIs (length t.rows) 0 (row_cases M need t j) x → IsFirstBelow supports (length t.rows) (row_number x)
-    answer (Row r v) h = (
+    answer : (x : Option Found) → FirstIs (length t.rows) 0 (row_cases M need t j) x → IsFirstBelow supports (length t.rows) (row_number x)
+    answer (Some x) h = (
       h.below,
-      alone_some (supports r) k (λ z. h.some (sym h.value ∙ one_case r h.below ∙ z)),
-      λ q l. none q (le_trans l (le_trans (le-suc r) h.below)) (h.none q zero-le l),
+      alone_some (supports x.row) k (λ z. h.some (sym h.value ∙ one_case x.row h.below ∙ z)),
+      λ q l. none q (le_trans l (le_trans (le-suc x.row) h.below)) (h.none q zero-le l),
     )
-    answer Nothing h = λ q l. none q l (h q zero-le l)
+    answer None h = λ q l. none q l (h q zero-le l)
 
 -- Document 01's question, of a table of an accepted book: need asks for one code in one case, and the search begins at row 0
-module _ (s : List ℕ) (t : Shape) (q : InTable s t) (M : List ℕ) (j c k : ℕ) (need : List ℕ) (one : OneMark need c k) where
+module _ {s : List ℕ} {index at arity first rows : ℕ} (q : TableIn s index at arity first rows) (M : List ℕ) (j c k : ℕ) (need : List ℕ) (one : OneMark need c k) where
   -- the answer is the first supporting row of the table, or none where it has none
-  pub first_row_lem : (x : Found) → x ≡ first_from (t.rows - 0) 0 (row_cases M need (table_at s t.at) j)
-      → row_number x ≡ first_support_in (domain_of M k) (table_at s t.at) j c
+  pub first_row_lem : (x : Option Found) → x ≡ first_from (rows - 0) 0 (row_cases M need (table_at s at) j)
+      → row_number x ≡ first_support_in (domain_of M k) (table_at s at) j c
   first_row_lem x e =
-      let u : Table = table_at s t.at in
+      let u : Table = table_at s at in
       first_only (row_supports (domain_of M k) u j c) (length u.rows) (row_number x) (first_support_in (domain_of M k) u j c)
-      (answer M u j c k need one (codes_small s t q) x (search_is s t q 0 (row_cases M need u j) x zero-le e))
+      (answer M u j c k need one (codes_small q) x (search_is q 0 (row_cases M need u j) x zero-le e))
       (first_below (row_supports (domain_of M k) u j c) (length u.rows))

@@ -10,7 +10,7 @@ pub mod StartFields
 pub mod CaseWords
 pub mod Surveys
 pub mod Firsts
-pub mod Shapes
+pub mod Tables
 pub mod Narrowing
 pub mod RowSearch
 pub mod FirstRow

@@ -1,11 +1,13 @@
 -- Elements of lists: of an array of zeros, also filled one by one, and of a list of values. Assumes nothing.
 use mathlib.Core.Path.{◌≡◌, refl, sym, ap, ◌∙◌, subst}
-use mathlib.Core.List.{List}
-use Prim.Native.Nat.{ℕ, zero, suc, ◌+◌, ◌≤◌, ◌<◌}
+use mathlib.Core.List.{List, ◌++◌}
+use Prim.Native.Nat.{ℕ, zero, suc, ◌+◌, ◌-◌, ◌≤◌, ◌<◌}
 use native.Mathlib.Nat.{zero-add}
 use native.Mathlib.Decide.{dec_lt}
 use native.Mathlib.Omega.{arith}
-use lib.ListN.{length, get_or, set, replicate, length-set, length-replicate}
+use lib.ListN.{length, get_or, set, take, drop, replicate, length-set, length-replicate, get_or-append}
+use Rattle.std.proofs.lemmas.List.{length-take, length-take-le, length-drop, get_or-take, get_or-drop, get_or-append-add, set-append_left, set-append_right}
+use borrow.Rule.Slice.PartMut.{mid_of, post_of, put_mid, put_same}
 use lib.Seq.{ext_get_or, get_or-set_same, get_or-set_other}
 use borrow.Author.Count.{below_more}
 use Rattle.consistency.specs.Counting.{tabulate}
@@ -27,6 +29,37 @@ tabulate_ext g h n e =
   where
     at : (f : ℕ → ℕ) {k : ℕ} → k < n → get_or (tabulate f n 0) k 0 ≡ f k
     at f {k} m = tabulate_at f n 0 k 0 m ∙ ap f (zero-add k)
+
+-- ---- the part of a list from a on and below e
+
+pub part_all : (a e : ℕ) (M : List ℕ) → e ≤ length M → length (take (e - a) (drop a M)) ≡ e - a
+part_all a e M l = omega (arith, length-take (e - a) (drop a M), length-drop a M)
+
+module _ (a e i : ℕ) (M : List ℕ) (l : i < length (take (e - a) (drop a M))) where
+  pub part_in : a + i < e
+  part_in = omega (arith, length-take (e - a) (drop a M))
+
+  pub part_at : get_or (take (e - a) (drop a M)) i 0 ≡ get_or M (a + i) 0
+  part_at = get_or-take (e - a) (drop a M) i 0 (omega (arith, part_in)) ∙ get_or-drop a M i 0
+
+-- the part put back in its place: unchanged, and with one element set
+pub put_none : (a k : ℕ) (M : List ℕ) → put_mid a k M (mid_of a (a + k - a) M) ≡ M
+put_none a k M = ap (λ (n : ℕ). put_mid a k M (mid_of a n M)) (let e : a + k - a ≡ k = omega arith in e) ∙ put_same a k M
+
+module _ (a k : ℕ) (M N : List ℕ) (i : ℕ) (al : a ≤ length M) (l : i < length N) where
+  front : length (take a M) ≡ a
+  front = length-take-le a M al
+
+  pub put_at : get_or (put_mid a k M N) (a + i) 0 ≡ get_or N i 0
+  put_at =
+      ap (λ (n : ℕ). get_or (put_mid a k M N) (n + i) 0) (sym front) ∙ get_or-append-add (take a M) (N ++ post_of a k M) i 0
+      ∙ get_or-append N (post_of a k M) 0 i l
+
+  pub put_next : (v : ℕ) → put_mid a k M (set N i v) ≡ set (put_mid a k M N) (a + i) v
+  put_next v =
+      sym (set-append_right (take a M) (N ++ post_of a k M) a (a + i) v front (omega arith)
+      ∙ ap (λ (n : ℕ). take a M ++ set (N ++ post_of a k M) n v) (let e : a + i - a ≡ i = omega arith in e)
+      ∙ ap (λ (x : List ℕ). take a M ++ x) (set-append_left N (post_of a k M) i v l))
 
 -- ---- n zeros, filled from the front
 

@@ -1,11 +1,11 @@
 -- The cases that each code looks for: filled code by code, and how many codes have one. Assumes nothing.
-use mathlib.Core.Path.{◌≡◌, refl, sym, ap, subst, ◌∙◌}
+use mathlib.Core.Path.{◌≡◌, refl, sym, ap, ◌∙◌}
 use mathlib.Core.Logic.{◌⊎◌, inl, inr}
 use mathlib.Core.Bool.{Bool, true, false, not}
 use mathlib.Core.List.{List}
 use Prim.Native.Nat.{ℕ, suc, ◌+◌, ◌-◌, ◌≤◌, ◌<◌}
 use native.Mathlib.Nat.{not-suc-le-zero}
-use native.Mathlib.Decide.{dec_lt}
+use native.Mathlib.Decide.{ℕ_discrete, dec_lt}
 use native.Mathlib.Omega.{arith}
 use borrow.Author.Tests.{eq-eqb, ne_eqb, eqb-true, not-false}
 use lib.Dec.{eqb}
@@ -49,6 +49,14 @@ module _ (need : List ℕ) (full : length need ≡ code_limit) where
         ∙ many_change code_limit (λ d. some (get_or need d 0)) (λ d. some (get_or (set need c w) d 0)) c l
         (λ d h n. ap some (get_or-set_other need c d w 0 n))
         ∙ ap (λ (z : Bool). needing need + pick z 1 0) (ap some (get_or-set_same need c w 0 (omega arith)) ∙ d)
+
+-- where a code has a case, some code does
+pub waits : {need : List ℕ} {waiting : ℕ} → Counted need waiting → (c : ℕ) → (get_or need c 0 ≡ 0 → ⊥) → 1 ≤ waiting
+waits {need} {waiting} k c n = go (ℕ_discrete waiting 0)
+  where
+    go : Dec (waiting ≡ 0) → 1 ≤ waiting
+    go (yes e) = absurd (n (needing_none need k.full (sym k.are ∙ e) c))
+    go (no m) = omega arith
 
 -- the count of the codes with a case, where the word of code c becomes w
 module _ {need : List ℕ} {waiting : ℕ} (k : Counted need waiting) (c w : ℕ) (l : c < code_limit) where
@@ -98,7 +106,3 @@ looks_next M f k need full l h w e =
     at : (c : ℕ) → (c ≡ k) ⊎ (c < k) → get_or (set need k w) c 0 ≡ word_at M f c
     at c (inl d) = ap (λ (x : ℕ). get_or (set need k w) x 0) d ∙ get_or-set_same need k w 0 (omega arith) ∙ e ∙ ap (word_at M f) (sym d)
     at c (inr m) = get_or-set_other need k c w 0 (λ (x : c ≡ k). omega arith) ∙ h.words c m
-
--- all k codes
-pub looks_all : {M need : List ℕ} {f c : ℕ} (k : ℕ) → Looks M f c need → c ≤ k → k ≤ c → Looks M f k need
-looks_all {M} {need} {f} {c} k h l m = subst (λ (x : ℕ). Looks M f x need) (let e : c ≡ k = omega arith in e) h

@@ -23,12 +23,11 @@ use Rattle.consistency.proofs.Loops.{loop_ends}
 use Rattle.consistency.proofs.Masks.{zero_bit}
 use Rattle.filter.specs.Words.{word_at, domain_of, standing}
 use Rattle.filter.specs.Revise.{Removal, TableSupported, Watches, Swept}
-use Rattle.filter.specs.Asks.{SweepAsks}
 use Rattle.filter.specs.Queue.{PropagateGiven, Propagated}
 use Rattle.filter.proofs.Tallies.{many_le}
 use Rattle.filter.proofs.Bits.{Within, bit_without, many_without, ones_many, ones_pos, one_bit, shl_one, lowest, bit_small, later_bit}
 use Rattle.filter.proofs.Words.{domain_small}
-use Rattle.filter.proofs.Removals.{removal_none, removal_then, removal_marks}
+use Rattle.filter.proofs.Removals.{removal_then, removal_marks}
 
 -- ---- the table taken next
 
@@ -112,34 +111,9 @@ pub record PropagatedTo (s M N : List ℕ) (n m d : ℕ) : Type 0 where
 unfoldable pub size : Book → List ℕ → ℕ → ℕ
 size b M d = standing b M * 65 + how_many 64 (bit d)
 
-module _ {s M W P : List ℕ} {list n d₀ : ℕ} (q : PropagateGiven s M W P list n d₀) where
-  -- each table is queued
-  pub propagated_none : d₀ < 2 ^ 64 → PropagatedTo s M M n n d₀
-  propagated_none l =
-      record {
-        removal = removal_none (book_of s) M n;
-        small = l;
-        tables = q.only;
-        supported = λ h hl e. absurd (false_T e (q.all h hl));
-      }
-
-  module _ (N : List ℕ) (m d z : ℕ) (x : PropagatedTo s M N n m d) (there : T (bit d z)) where
-    table_in_lem : z < table_count s
-    table_in_lem = x.tables z there
-
-    -- what sweeping table z asks
-    pub sweep_asks : SweepAsks s W N z (get_or P z 0) list m
-    sweep_asks =
-        record {
-          promise = q.promise;
-          index_in = table_in_lem;
-          at_is = q.placed z table_in_lem;
-          list_is = q.list_is;
-          watches = q.watches;
-          marks = removal_marks x.removal q.marks;
-        }
-
-    module _ (L : List ℕ) (u e : ℕ) (sweep : Swept s W N L z m u (bit_xor d (1 * 2 ^ z % 2 ^ 64)) e) where
+module _ {s M : List ℕ} {n d₀ : ℕ} (q : PropagateGiven s M n d₀) where
+  module _ {N : List ℕ} {m d z : ℕ} (x : PropagatedTo s M N n m d) (there : T (bit d z)) where
+    module _ {W : List ℕ} (p : Promise s) (w : Watches s W) {L : List ℕ} {u e : ℕ} (sweep : Swept s W N L z m u (bit_xor d (1 * 2 ^ z % 2 ^ 64)) e) where
       y : Swept s W N L z m u (less d z x.small there) e
       y = subst (λ (v : ℕ). Swept s W N L z m u (bit_xor d v) e) (shl_one z (index_small d z x.small there)) sweep
 
@@ -151,7 +125,7 @@ module _ {s M W P : List ℕ} {list n d₀ : ℕ} (q : PropagateGiven s M W P li
       supported_now h hl v (yes o) = subst (λ (i : ℕ). TableSupported L (nth (book_of s) i)) (sym o) y.supported
       supported_now h hl v (no o) =
           supported_same N L (nth (book_of s) h)
-          (λ j c jl cl. y.queued.same h o v (field_of (nth (book_of s) h) j) c (watched q.promise q.watches h j hl jl) cl)
+          (λ j c jl cl. y.queued.same h o v (field_of (nth (book_of s) h) j) c (watched p w h j hl jl) cl)
           (x.supported h hl (before h o v))
 
       -- a turn
@@ -186,7 +160,7 @@ module _ {s M W P : List ℕ} {list n d₀ : ℕ} (q : PropagateGiven s M W P li
 
   -- ---- the end
 
-  module _ (N : List ℕ) (m d : ℕ) (x : PropagatedTo s M N n m d) (empty : d ≡ 0) where
+  module _ {N : List ℕ} {m d : ℕ} (x : PropagatedTo s M N n m d) (empty : d ≡ 0) where
     consistent : (k : ℕ) → ArcConsistent (book_of s) (domain_of N k)
     consistent k f c t i il j jl e =
         x.supported i (subst (λ (v : ℕ). i < v) (tables_count s) il) (ap (λ (v : ℕ). bit v i) empty ∙ zero_bit i) j jl k c

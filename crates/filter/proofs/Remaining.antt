@@ -20,7 +20,7 @@ use Rattle.consistency.proofs.Booleans.{below_suc}
 use Rattle.consistency.proofs.Supports.{row_in, row_there, row_others}
 use Rattle.consistency.proofs.Masks.{zero_bit}
 use Rattle.filter.specs.Words.{domain_of}
-use Rattle.filter.specs.declared.support.Found.TheVariants.{Nothing}
+use Rattle.std.specs.Prelude.{None}
 use Rattle.filter.specs.Support.{row_cases}
 use Rattle.filter.specs.Revise.{Unsupported}
 use Rattle.filter.proofs.Bits.{Within, bit_without, same_bits}
@@ -81,7 +81,7 @@ module _ (M : List ℕ) (t : Table) (j : ℕ) where
         go (no d) = passed c k r (omega arith) (z r (omega arith) l) b
 
     -- no row is left
-    pub remaining_end : FirstIs (length t.rows) from (row_cases M left t j) Nothing → Unsupported M t j need left
+    pub remaining_end : FirstIs (length t.rows) from (row_cases M left t j) None → Unsupported M t j need left
     remaining_end z =
         record {
           within = h.within;

@@ -3,7 +3,7 @@ use mathlib.Core.Path.{◌≡◌, sym, ap, ◌∙◌, subst}
 use mathlib.Core.Logic.{◌⊎◌, inl, inr}
 use mathlib.Core.Bool.{not}
 use mathlib.Core.List.{List}
-use Prim.Native.Nat.{ℕ, ◌+◌, ◌≤◌, ◌<◌}
+use Prim.Native.Nat.{ℕ, ◌≤◌, ◌<◌}
 use native.Mathlib.Decide.{ℕ_discrete, dec_lt}
 use native.Mathlib.Omega.{arith}
 use lib.Dec.{T, T_not}
@@ -11,47 +11,35 @@ use lib.ListN.{length, get_or}
 use Rattle.format.specs.Format.{Table, code_limit, field_count, book_of, table_at}
 use Rattle.format.proofs.Views.{counts_count, counts_view}
 use Rattle.format.proofs.Booleans.{T_false, false_T, T-or-not}
-use Rattle.consistency.specs.Consistency.{Support, HoldsAll, places, field_of, codes}
+use Rattle.consistency.specs.Consistency.{Support, HoldsAll, field_of, codes}
 use Rattle.consistency.specs.Counts.{bit}
 use Rattle.consistency.proofs.Supports.{support_grows}
 use Rattle.consistency.proofs.Masks.{zero_bit}
-use Rattle.filter.specs.Words.{word_at, domain_of, standing}
-use Rattle.filter.specs.declared.support.Shape.{Shape}
+use Rattle.filter.specs.Words.{word_at, domain_of}
+use Rattle.format.specs.Promise.{field_at, count_at}
+use Rattle.book.specs.View.{TableIn}
 use Rattle.filter.specs.Revise.{Unsupported, Revised}
-use Rattle.filter.specs.Asks.{Looks, Struck, ReviseAsks}
+use Rattle.filter.specs.Asks.{Looks, Struck, Marks}
 use Rattle.filter.proofs.StruckWords.{LeftOf, others, stood, stays, elsewhere, inside, still, counts}
 use Rattle.filter.proofs.Bits.{Within}
 use Rattle.filter.proofs.Words.{domain_bit, domain_small}
-use Rattle.filter.proofs.Limits.{fields_few, codes_few}
-use Rattle.filter.proofs.Shapes.{arity_of, field_is, field_known, index_below, nth_is}
+use Rattle.filter.proofs.Limits.{codes_few}
+use Rattle.filter.proofs.Tables.{arity_of, field_is, field_known, index_below, nth_is}
 
-module _ {s M : List ℕ} {t : Shape} {j f k n : ℕ} (a : ReviseAsks s M t j f k n) where
+module _ {s : List ℕ} {index at arity first rows : ℕ} (q : TableIn s index at arity first rows) {j f : ℕ} (jl : j < arity) (fe : f ≡ field_at s at j) where
   -- f is column j's field, one of the book's, and k the number of its codes
-  field_of_lem : field_of (table_at s t.at) j ≡ f
-  field_of_lem = sym (field_is s t a.table j a.column) ∙ sym a.field
+  field_of_lem : field_of (table_at s at) j ≡ f
+  field_of_lem = sym (field_is q j jl) ∙ sym fe
 
   known : f < field_count s
-  known = subst (λ (y : ℕ). y < field_count s) field_of_lem (field_known s t a.table j a.column)
+  known = subst (λ (y : ℕ). y < field_count s) field_of_lem (field_known q j jl)
 
-  codes_of : codes (book_of s) f ≡ k
-  codes_of = counts_view s f known ∙ sym a.codes_are
+  codes_of : {k : ℕ} → k ≡ count_at s f → codes (book_of s) f ≡ k
+  codes_of e = counts_view s f known ∙ sym e
 
-  -- f and its codes have words among the marks
-  pub few : k ≤ code_limit
-  few = omega (arith, codes_of, codes_few s a.table.promise f)
-
-  pub field_in : f < places
-  field_in = omega (arith, known, fields_few s a.table.promise)
-
-  -- the count is within its room
-  pub count_in : n ≤ 1000000
-  count_in = go (standing (book_of s) M) a.marks.room
-    where
-      go : (x : ℕ) → x + n ≤ 1000000 → n ≤ 1000000
-      go x h = omega arith
-
-module _ {s M N need left : List ℕ} {t : Shape} {j f k n u : ℕ} (a : ReviseAsks s M t j f k n) (l : Looks M f k need)
-    (x : Unsupported M (table_at s t.at) j need left) (h : Struck M N left f k n u) where
+module _ {s : List ℕ} {index at arity first rows : ℕ} (q : TableIn s index at arity first rows) {j f k n u : ℕ} (jl : j < arity)
+    (fe : f ≡ field_at s at j) (ke : k ≡ count_at s f) (few : k ≤ code_limit) {M N need left : List ℕ} (marks : Marks s M n) (l : Looks M f k need)
+    (x : Unsupported M (table_at s at) j need left) (h : Struck M N left f k n u) where
   -- what is left of a code are cases in which it stands, and it is one of the field's codes
   left_code : (c i : ℕ) → T (bit (get_or left c 0) i) → c < k
   left_code c i b = go (dec_lt c k)
@@ -67,53 +55,53 @@ module _ {s M N need left : List ℕ} {t : Shape} {j f k n u : ℕ} (a : ReviseA
   lefts = record { code = left_code; word = left_word }
 
   -- a mark that stands has support
-  stands : (i c : ℕ) → T (domain_of N i f c) → Support (domain_of M i) (table_at s t.at) j c
+  stands : (i c : ℕ) → T (domain_of N i f c) → Support (domain_of M i) (table_at s at) j c
   stands i c b =
-      let w = stood (few a) lefts h i c b in
+      let w = stood few lefts h i c b in
       let cl = domain_small N i f c b in
-      let m : c < k = omega (arith, a.marks.of_book i f c w.0, codes_of a) in
+      let m : c < k = omega (arith, marks.of_book i f c w.0, codes_of q jl fe ke) in
       x.rest c i (subst (λ (y : ℕ). T (bit y i)) (sym (l.words c m)) (subst T (domain_bit M i f c cl) w.0)) (T_false w.1)
 
   -- a mark that is struck had none
-  struck : (i c : ℕ) → T (domain_of M i f c) → (T (domain_of N i f c) → ⊥) → Support (domain_of M i) (table_at s t.at) j c → ⊥
+  struck : (i c : ℕ) → T (domain_of M i f c) → (T (domain_of N i f c) → ⊥) → Support (domain_of M i) (table_at s at) j c → ⊥
   struck i c b n = go (T-or-not (bit (get_or left c 0) i))
     where
-      go : T (bit (get_or left c 0) i) ⊎ T (not (bit (get_or left c 0) i)) → Support (domain_of M i) (table_at s t.at) j c → ⊥
+      go : T (bit (get_or left c 0) i) ⊎ T (not (bit (get_or left c 0) i)) → Support (domain_of M i) (table_at s at) j c → ⊥
       go (inl w) = x.none c i w
-      go (inr w) = absurd (n (stays (few a) lefts h i c b (T_not (bit (get_or left c 0) i) w)))
+      go (inr w) = absurd (n (stays few lefts h i c b (T_not (bit (get_or left c 0) i) w)))
 
   -- a subdomain that fits has no mark that is struck
   holds : (i : ℕ) (y : List ℕ) → HoldsAll (book_of s) y (domain_of M i) → HoldsAll (book_of s) y (domain_of N i)
   holds i y w R r g d b = go (ℕ_discrete g f)
     where
-      supported : T (R f d) → Support R (table_at s t.at) j d
+      supported : T (R f d) → Support R (table_at s at) j d
       supported v =
-          subst (λ (z : Table). Support R z j d) (nth_is s t a.table)
-          (r.consistent f d v a.table.index (index_below s t a.table) j
-          (subst (λ (z : Table). j < length z.fields) (sym (nth_is s t a.table)) (subst (j <◌) (sym (arity_of s t a.table)) a.column))
-          (ap (λ (z : Table). field_of z j) (nth_is s t a.table) ∙ field_of_lem a))
+          subst (λ (z : Table). Support R z j d) (nth_is q)
+          (r.consistent f d v index (index_below q) j
+          (subst (λ (z : Table). j < length z.fields) (sym (nth_is q)) (subst (j <◌) (sym (arity_of q)) jl))
+          (ap (λ (z : Table). field_of z j) (nth_is q) ∙ field_of_lem q jl fe))
 
       go : Dec (g ≡ f) → T (domain_of N i g d)
       go (yes e) =
           let v : T (R f d) = subst (λ (z : ℕ). T (R z d)) e b in
           subst (λ (z : ℕ). T (domain_of N i z d)) (sym e)
-          (stays (few a) lefts h i d (w R r f d v) (λ q. x.none d i q (support_grows (w R r) (table_at s t.at) j d (supported v))))
-      go (no e) = subst T (sym (elsewhere (few a) lefts h i g d e (domain_small M i g d (w R r g d b)))) (w R r g d b)
+          (stays few lefts h i d (w R r f d v) (λ q. x.none d i q (support_grows (w R r) (table_at s at) j d (supported v))))
+      go (no e) = subst T (sym (elsewhere few lefts h i g d e (domain_small M i g d (w R r g d b)))) (w R r g d b)
 
   -- column j is revised
-  pub revised : Revised (book_of s) M N (table_at s t.at) j f n u
+  pub revised : Revised (book_of s) M N (table_at s at) j f n u
   revised =
       record {
         removal = record {
           same_length = h.same_length;
           grows = omega (arith, h.counted);
           holds = holds;
-          inside = inside (few a) lefts h;
-          counts = counts (few a) lefts h (book_of s) (omega (arith, known a, counts_count s a.table.promise.whole)) (codes_of a)
-              (codes_few s a.table.promise);
-          still = still (few a) lefts h;
+          inside = inside few lefts h;
+          counts = counts few lefts h (book_of s) (omega (arith, known q jl fe, counts_count s q.table.promise.whole)) (codes_of q jl fe ke)
+              (codes_few s q.table.promise);
+          still = still few lefts h;
         };
-        only = others (few a) lefts h;
+        only = others few lefts h;
         stands = stands;
         struck = struck;
       }

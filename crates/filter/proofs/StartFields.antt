@@ -20,7 +20,8 @@ use Rattle.consistency.specs.Consistency.{places, codes, answer}
 use Rattle.consistency.specs.Counts.{bit}
 use Rattle.consistency.proofs.CodeCounts.{field_in}
 use Rattle.filter.specs.Words.{word_at, standing}
-use Rattle.filter.specs.Start.{start_word, StartsField, FieldStarted, Starts, Started}
+use Rattle.book.specs.View.{Numbered}
+use Rattle.filter.specs.Start.{start_word, FieldStarted, Started}
 use Rattle.consistency.proofs.Sums.{sum_ext}
 use Rattle.consistency.proofs.Elements.{answer_at}
 use Rattle.filter.proofs.Lists.{zeros}
@@ -41,9 +42,9 @@ pub record StartedBelow (b : Book) (a own : List ℕ) (all : ℕ) (N : List ℕ)
   pub few : r ≤ 64 * code_limit * m
 
 -- no field yet
-pub started_none : (b : Book) (a own : List ℕ) (all : ℕ) (N : List ℕ) → length a ≡ places → N ≡ replicate (places * code_limit) 0
+pub started_none : {b : Book} {a own : List ℕ} {all : ℕ} {N : List ℕ} → length a ≡ places → N ≡ replicate (places * code_limit) 0
     → StartedBelow b a own all N 0 0
-started_none b a own all N l e =
+started_none {b} {a} {own} {all} {N} l e =
     record {
       sheet = l;
       size = ap length e ∙ length-replicate {A = ℕ} (places * code_limit) 0;
@@ -53,9 +54,9 @@ started_none b a own all N l e =
       few = omega arith;
     }
 
-module _ (s a own : List ℕ) (all list fields : ℕ) (q : Starts s own all list fields) where
+module _ {s : List ℕ} {list fields tables : ℕ} (q : Numbered s list fields tables) where
   -- one field more
-  module _ (N : List ℕ) (f t : ℕ) (y : StartedBelow (book_of s) a own all N f t) (l : f < fields) where
+  module _ {f : ℕ} (l : f < fields) where
     -- f is a field of the book
     fl : f < field_count s
     fl = omega (arith, q.fields_is)
@@ -67,24 +68,14 @@ module _ (s a own : List ℕ) (all list fields : ℕ) (q : Starts s own all list
     pub field_place : f < places
     field_place = omega (arith, fl, fields_few s q.promise)
 
-    module _ (k : ℕ) (ke : k ≡ byte s (list + f)) where
+    module _ {k : ℕ} (ke : k ≡ byte s (list + f)) where
       k_codes : k ≡ codes (book_of s) f
       k_codes = ke ∙ ap (λ (z : ℕ). byte s (z + f)) q.list_is ∙ sym (counts_view s f fl)
 
       k_few : k ≤ code_limit
       k_few = subst (λ (z : ℕ). z ≤ code_limit) (sym k_codes) (codes_few s q.promise f)
 
-      pub starts_field : StartsField N f k all (get_or own f 0) t
-      starts_field =
-          record {
-            size = y.size;
-            field_in = field_place;
-            codes_in = k_few;
-            within = q.within f;
-            small = omega (arith, y.few, field_place);
-          }
-
-      module _ (P : List ℕ) (u : ℕ) (x : FieldStarted N P f k (get_or a f 0) all (get_or own f 0) t u) where
+      module _ {a own N P : List ℕ} {all t u : ℕ} (y : StartedBelow (book_of s) a own all N f t) (x : FieldStarted N P f k (get_or a f 0) all (get_or own f 0) t u) where
         same : (g c : ℕ) → g < f → c < codes (book_of s) g → word_at P g c ≡ word_at N g c
         same g c gl cl = x.rest g c (le_trans cl (codes_few s q.promise g)) (λ (e : g ≡ f) m. omega arith)
 
@@ -126,9 +117,9 @@ module _ (s a own : List ℕ) (all list fields : ℕ) (q : Starts s own all list
             }
 
   -- the whole start
-  pub started : (N : List ℕ) (f r : ℕ) → StartedBelow (book_of s) a own all N f r → f ≡ fields → Started (book_of s) a own all N r
+  pub started : {a own N : List ℕ} {all f r : ℕ} → StartedBelow (book_of s) a own all N f r → f ≡ fields → Started (book_of s) a own all N r
   unfolding standing
-  started N f r y e =
+  started {a} {own} {N} {all} {f} {r} y e =
       let fe : f ≡ length (book_of s).counts = e ∙ q.fields_is ∙ sym (counts_count s q.promise.whole) in
       record {
         size = y.size;

@@ -1,5 +1,5 @@
 -- The start of the marks, code by code and field by field, with the count of the marks that the answers forbid. Assumes nothing.
-use mathlib.Core.Path.{◌≡◌, refl, sym, ap, ap₂, ◌∙◌, subst}
+use mathlib.Core.Path.{◌≡◌, refl, sym, ap, ◌∙◌, subst}
 use mathlib.Core.Bool.{Bool, true, false, ◌||◌}
 use mathlib.Core.List.{List}
 use Prim.Native.Nat.{ℕ, ◌+◌, ◌*◌, ◌^◌, ◌≤◌, ◌<◌}
@@ -7,8 +7,7 @@ use native.Mathlib.Nat.{le_trans, mul-add}
 use native.Mathlib.Numerals.{add-one}
 use native.Mathlib.Omega.{arith}
 use borrow.Author.Count.{below_more}
-use borrow.Author.Tests.{eq-eqb, ne_eqb}
-use lib.ListN.{set, length-set}
+use lib.ListN.{length, set, length-set}
 use lib.Bits.{bit_xor, xor_lt}
 use lib.Count.{ones, ones-le}
 use lib.Dec.{eqb}
@@ -18,7 +17,7 @@ use Rattle.consistency.specs.Counting.{how_many, sum_below}
 use Rattle.consistency.specs.Consistency.{places}
 use Rattle.consistency.specs.Counts.{bit}
 use Rattle.filter.specs.Words.{word_at}
-use Rattle.filter.specs.Start.{start_word, StartsField, FieldStarted}
+use Rattle.filter.specs.Start.{start_word, FieldStarted}
 use Rattle.filter.proofs.Bits.{Within, ones_many, many_without}
 use Rattle.consistency.proofs.Sums.{sum_ext}
 use Rattle.filter.proofs.Stores.{word_in, stored_here, stored_elsewhere}
@@ -31,16 +30,6 @@ or-true true = refl
 or-true false = refl
 
 module _ (x c all own : ℕ) where
-  -- no answer, the answered code, another code
-  pub word_open : x ≡ 255 → all ≡ start_word x c all own
-  word_open e = ap (λ (z : Bool). pick (z || eqb c x) all own) (sym (eq-eqb x 255 e))
-
-  pub word_held : c ≡ x → all ≡ start_word x c all own
-  word_held e = ap (λ (z : Bool). pick z all own) (sym (ap (λ (z : Bool). eqb x 255 || z) (eq-eqb c x e) ∙ or-true (eqb x 255)))
-
-  pub word_forbidden : (x ≡ 255 → ⊥) → (c ≡ x → ⊥) → own ≡ start_word x c all own
-  word_forbidden n m = ap₂ (λ (y z : Bool). pick (y || z) all own) (sym (ne_eqb x 255 n)) (sym (ne_eqb c x m))
-
   -- a start is all cases or the field's own
   start_either : (P : ℕ → Type 0) → P all → P own → P (start_word x c all own)
   start_either P p q = choose (eqb x 255 || eqb c x)
@@ -64,23 +53,18 @@ start_count all w l m h =
 abbrev pub cases_at : List ℕ → ℕ → ℕ → ℕ
 cases_at N f c = how_many 64 (bit (word_at N f c))
 
--- no code yet
-pub field_none : (M : List ℕ) (f x all own s : ℕ) → FieldStarted M M f 0 x all own s s
-field_none M f x all own s =
-    record { same_length = refl; words = λ c l. absurd (omega arith); rest = λ g d l n. refl; counts = omega arith; few = omega arith }
-
 -- one code more
-module _ (M N : List ℕ) (f k x all own s t c : ℕ) (q : StartsField M f k all own s) (y : FieldStarted M N f c x all own s t) (l : c < k)
-    (al : all < 2 ^ 64) (ol : own < 2 ^ 64) where
+module _ {M N : List ℕ} {f k x all own s t c : ℕ} (size : length M ≡ places * code_limit) (fl : f < places) (kl : k ≤ code_limit) (within : Within own all)
+    (y : FieldStarted M N f c x all own s t) (l : c < k) (al : all < 2 ^ 64) (ol : own < 2 ^ 64) where
   -- c is a code that a field can have
   code_in : c < code_limit
-  code_in = le_trans l q.codes_in
+  code_in = le_trans l kl
 
   -- the word's place
   pub start_in : f * code_limit + c < places * code_limit
-  start_in = word_in f c q.field_in code_in
+  start_in = word_in f c fl code_in
 
-  module _ (w : ℕ) (e : w ≡ start_word x c all own) where
+  module _ {w : ℕ} (e : w ≡ start_word x c all own) where
     -- the word fits
     w_small : w < 2 ^ 64
     w_small = subst (λ (z : ℕ). z < 2 ^ 64) (sym e) (start_either x c all own (λ z. z < 2 ^ 64) al ol)
@@ -90,14 +74,14 @@ module _ (M N : List ℕ) (f k x all own s t c : ℕ) (q : StartsField M f k all
     few_struck = ones-le 64 (bit_xor all w) (xor_lt 64 all w al w_small)
 
     w_count : ones (bit_xor all w) + how_many 64 (bit w) ≡ ones all
-    w_count = start_count all w al w_small (subst (λ (z : ℕ). Within z all) (sym e) (word_within x c all own q.within))
+    w_count = start_count all w al w_small (subst (λ (z : ℕ). Within z all) (sym e) (word_within x c all own within))
 
     -- the words with it
     abbrev P : List ℕ
     P = set N (f * code_limit + c) w
 
     here : word_at P f c ≡ w
-    here = stored_here N f c w (omega (arith, y.same_length, q.size, start_in))
+    here = stored_here N f c w (omega (arith, y.same_length, size, start_in))
 
     below : (i : ℕ) → i < c → word_at P f i ≡ word_at N f i
     below i il = stored_elsewhere N f c w f i code_in (omega (arith, code_in)) (λ z. let d : i ≡ c = z.1 in omega arith)
@@ -111,10 +95,9 @@ module _ (M N : List ℕ) (f k x all own s t c : ℕ) (q : StartsField M f k all
     sums : (S S' o m n : ℕ) → t + S ≡ s + n * c → S' ≡ S → o + m ≡ n → (t + o) + (S' + m) ≡ s + n * (c + 1)
     sums S S' o m n h i j = omega (arith, mul-add n c 1)
 
-    pub field_more : (d : ℕ) → d ≡ c → FieldStarted M (set N (f * code_limit + d) w) f (c + 1) x all own s (t + ones (bit_xor all w))
-    field_more d de =
-        subst (λ (z : ℕ). FieldStarted M (set N (f * code_limit + z) w) f (c + 1) x all own s (t + ones (bit_xor all w))) (sym de)
-        (record {
+    pub field_more : FieldStarted M P f (c + 1) x all own s (t + ones (bit_xor all w))
+    field_more =
+        record {
           same_length = length-set N (f * code_limit + c) w ∙ y.same_length;
           words = below_more (λ (i : ℕ). word_at P f i ≡ start_word x i all own) c (λ i il. below i il ∙ y.words i il) (here ∙ e);
           rest = λ g i il n.
@@ -124,8 +107,4 @@ module _ (M N : List ℕ) (f k x all own s t c : ℕ) (q : StartsField M f k all
               subst (λ (z : ℕ). (t + ones (bit_xor all w)) + sum_below z (cases_at P f) ≡ s + ones all * (c + 1)) (sym (add-one c))
               (sums (sum_below c (cases_at N f)) (sum_below c (cases_at P f)) (ones (bit_xor all w)) (cases_at P f c) (ones all) y.counts below_counts here_counts);
           few = omega (arith, y.few, few_struck);
-        })
-
--- all codes
-pub field_done : (M N : List ℕ) (f k x all own s t c : ℕ) → FieldStarted M N f c x all own s t → c ≡ k → FieldStarted M N f k x all own s t
-field_done M N f k x all own s t c y e = subst (λ (z : ℕ). FieldStarted M N f z x all own s t) e y
+        }

@@ -1,9 +1,8 @@
 -- Cases struck from the words of a field's codes, code by code. Assumes nothing.
-use mathlib.Core.Path.{◌≡◌, refl, sym, ap, ◌∙◌, subst}
+use mathlib.Core.Path.{◌≡◌, sym, ap, ◌∙◌, subst}
 use mathlib.Core.Logic.{◌⊎◌, inl, inr}
 use mathlib.Core.List.{List}
 use Prim.Native.Nat.{ℕ, suc, ◌+◌, ◌*◌, ◌^◌, ◌≤◌, ◌<◌}
-use native.Mathlib.Nat.{not-suc-le-zero}
 use native.Mathlib.Numerals.{add-one}
 use native.Mathlib.Omega.{arith}
 use lib.Bits.{bit_xor}
@@ -17,17 +16,6 @@ use Rattle.consistency.proofs.Booleans.{below_suc}
 use Rattle.filter.specs.Words.{word_at}
 use Rattle.filter.specs.Asks.{Struck}
 use Rattle.filter.proofs.Tallies.{many_le}
-
--- no code yet
-pub struck_none : {M left : List ℕ} {f s : ℕ} → Struck M M left f 0 s s
-struck_none =
-    record {
-      same_length = refl;
-      gone = λ c l. absurd (not-suc-le-zero l);
-      rest = λ i w. refl;
-      small = λ c l. absurd (not-suc-le-zero l);
-      counted = omega arith;
-    }
 
 -- one code more
 module _ {M N left : List ℕ} {f s : ℕ} (c : ℕ) {u : ℕ} (words : length M ≡ places * code_limit) (fl : f < places) (cl : c < code_limit)
@@ -83,7 +71,3 @@ count_next c u w r l e = go (subst (λ (x : ℕ). x ≤ 64) (sym e) (many_le 64 
   where
     go : r ≤ 64 → u + r ≤ 1000000 + 64 * (c + 1)
     go h = omega arith
-
--- all k codes
-pub struck_all : {M N left : List ℕ} {f c s u : ℕ} (k : ℕ) → Struck M N left f c s u → c ≤ k → k ≤ c → Struck M N left f k s u
-struck_all {M} {N} {left} {f} {c} {s} {u} k h l m = subst (λ (x : ℕ). Struck M N left f x s u) (let e : c ≡ k = omega arith in e) h

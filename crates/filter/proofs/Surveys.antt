@@ -1,5 +1,5 @@
 -- The tables' places, and the words of the tables that each field has: a turn of each loop, and the end. Assumes nothing.
-use mathlib.Core.Path.{◌≡◌, refl, sym, ap, ◌∙◌, subst}
+use mathlib.Core.Path.{◌≡◌, sym, ap, ◌∙◌, subst}
 use mathlib.Core.Logic.{◌⊎◌, inl, inr, ⊎_elim}
 use mathlib.Core.Bool.{Bool, ◌||◌}
 use mathlib.Core.List.{List}
@@ -19,11 +19,10 @@ use Rattle.format.proofs.Booleans.{or_left, or_right, or_out, false_T}
 use Rattle.consistency.specs.Consistency.{places}
 use Rattle.consistency.specs.Counts.{bit}
 use Rattle.consistency.proofs.Masks.{zero_bit}
-use Rattle.filter.specs.Support.{InTable, shape_at}
-use Rattle.filter.specs.Queue.{WatchGiven, Watched, SurveyGiven, Surveyed}
+use Rattle.book.specs.View.{TableIn}
+use Rattle.filter.specs.Queue.{Watched, Surveyed}
 use Rattle.filter.proofs.Bits.{bit_or_lem, one_bit, shl_one}
-use Rattle.filter.proofs.Limits.{fields_few}
-use Rattle.filter.proofs.Shapes.{table_at_lem}
+use Rattle.filter.proofs.Tables as tables
 
 -- all of the first k bits, as the code has them
 pub all_ones : (k : ℕ) → k ≤ 64 → 18446744073709551615 / 2 ^ (64 - k) ≡ 2 ^ k - 1
@@ -33,29 +32,17 @@ all_ones k l =
 
 -- ---- a table's fields, one after another
 
--- no field yet
-pub watched_none : (s W : List ℕ) (at i : ℕ) → Watched s W W at i 0
-watched_none s W at i = record { same_length = refl; there = λ k l. absurd (not-suc-le-zero l); more = λ f h t. t; only = λ f h t. inl t }
+-- a table's number is a bit of a word
+pub index_small : {s : List ℕ} {i at arity first rows : ℕ} → TableIn s i at arity first rows → i < 64
+index_small q = le_trans q.table.within q.table.promise.tables_few
 
-module _ {s U : List ℕ} {at arity i : ℕ} (q : WatchGiven s U at arity i) (j : ℕ) (l : j < arity) where
-  -- the table's numbers, at its place
-  column_in : j < arity_at s (place s i)
-  column_in = subst (λ (p : ℕ). j < arity_at s p) q.at_is (subst (λ (a : ℕ). j < a) q.arity_is l)
+-- the field of a column has a word
+pub field_small : {s : List ℕ} {i at arity first rows : ℕ} → TableIn s i at arity first rows → {j : ℕ} → j < arity → {f : ℕ} → f ≡ field_at s at j → f < places
+field_small q {j} l e = omega (arith, e ∙ tables.field_is q j l, tables.field_small q j l)
 
-  -- the field number is read within the bytes
-  pub field_read : at + 1 + j < length s
-  field_read = omega (arith, (q.promise.tables i q.index_in).ends, q.promise.whole, q.at_is, column_in)
-
-  -- a table's index is a bit of a word
-  pub index_small : i < 64
-  index_small = le_trans q.index_in q.promise.tables_few
-
-  module _ (f : ℕ) (fe : f ≡ field_at s at j) where
-    pub field_small : f < places
-    field_small =
-        omega (arith, fe ∙ ap (λ (p : ℕ). field_at s p j) q.at_is, (q.promise.tables i q.index_in).known j column_in, fields_few s q.promise)
-
-    module _ (W : List ℕ) (x : Watched s U W at i j) where
+module _ {s U : List ℕ} {i at arity first rows : ℕ} (q : TableIn s i at arity first rows) (full : length U ≡ places) {j : ℕ} (l : j < arity) where
+  module _ {f : ℕ} (fe : f ≡ field_at s at j) where
+    module _ {W : List ℕ} (x : Watched s U W at i j) where
       -- the word of f with table i
       abbrev added : ℕ
       added = bit_or (get_or W f 0) (2 ^ i)
@@ -64,7 +51,7 @@ module _ {s U : List ℕ} {at arity i : ℕ} (q : WatchGiven s U at arity i) (j 
       added_bit h = bit_or_lem (get_or W f 0) (2 ^ i) h ∙ ap (λ (b : Bool). bit (get_or W f 0) h || b) (one_bit i h)
 
       at_field : get_or (set W f added) f 0 ≡ added
-      at_field = get_or-set_same W f added 0 (omega (arith, field_small, x.same_length, q.words))
+      at_field = get_or-set_same W f added 0 (omega (arith, field_small q l fe, x.same_length, full))
 
       set_more : (g h : ℕ) → T (bit (get_or W g 0) h) → T (bit (get_or (set W f added) g 0) h)
       set_more g h t = go (ℕ_discrete g f)
@@ -95,7 +82,7 @@ module _ {s U : List ℕ} {at arity i : ℕ} (q : WatchGiven s U at arity i) (j 
       -- a turn, as the code has it
       pub watched_more : Watched s U (set W f (bit_or (get_or W f 0) (1 * 2 ^ i % 2 ^ 64))) at i (j + 1)
       watched_more =
-          subst (λ (v : ℕ). Watched s U (set W f (bit_or (get_or W f 0) v)) at i (j + 1)) (sym (shl_one i index_small))
+          subst (λ (v : ℕ). Watched s U (set W f (bit_or (get_or W f 0) v)) at i (j + 1)) (sym (shl_one i (index_small q)))
           (record {
             same_length = length-set W f added ∙ x.same_length;
             there = below_more (λ (k : ℕ). T (bit (get_or (set W f added) (field_at s at k) 0) i)) j
@@ -103,10 +90,6 @@ module _ {s U : List ℕ} {at arity i : ℕ} (q : WatchGiven s U at arity i) (j 
             more = λ g h t. set_more g h (x.more g h t);
             only = λ g h t. ⊎_elim {C = T (bit (get_or U g 0) h) ⊎ (h ≡ i)} (x.only g h) inr (set_only g h t);
           })
-
--- all of its fields
-pub watched_all : {s U W : List ℕ} {at i j arity : ℕ} → Watched s U W at i j → j ≡ arity → Watched s U W at i arity
-watched_all {s} {U} {W} {at} {i} x e = subst (Watched s U W at i) e x
 
 -- ---- the tables, one after another
 
@@ -119,52 +102,45 @@ pub record SurveyedTo (s W P : List ℕ) (n : ℕ) : Type 0 where
   pub placed : (i : ℕ) → i < n → get_or P i 0 ≡ place s i
 
 -- no table yet
-pub surveyed_none : {s W P : List ℕ} {tables : ℕ} → SurveyGiven s W P tables → SurveyedTo s W P 0
-surveyed_none q =
+pub surveyed_none : {s W P : List ℕ} → length W ≡ places → length P ≡ table_limit → ((f : ℕ) → get_or W f 0 ≡ 0) → SurveyedTo s W P 0
+surveyed_none w p z =
     record {
-      words = q.words;
-      room = q.room;
+      words = w;
+      room = p;
       there = λ i j l. absurd (not-suc-le-zero l);
-      tables = λ f i t. absurd (false_T (ap (λ (w : ℕ). bit w i) (q.empty f) ∙ zero_bit i) t);
+      tables = λ f i t. absurd (false_T (ap (λ (w : ℕ). bit w i) (z f) ∙ zero_bit i) t);
       placed = λ i l. absurd (not-suc-le-zero l);
     }
 
-module _ {s U O : List ℕ} {tables : ℕ} (q : SurveyGiven s U O tables) (i at : ℕ) (l : i < tables) (ae : at ≡ place s i) where
-  index_in : i < table_count s
-  index_in = subst (λ (n : ℕ). i < n) q.tables_is l
+-- one table more
+pub surveyed_more : {s : List ℕ} {i at arity first rows : ℕ} → TableIn s i at arity first rows → {W Z P : List ℕ} → SurveyedTo s W P i
+    → Watched s W Z at i arity → SurveyedTo s Z (set P i at) (i + 1)
+surveyed_more {s} {i} {at} q {W} {Z} {P} x y =
+    record {
+      words = y.same_length ∙ x.words;
+      room = length-set P i at ∙ x.room;
+      there = λ h j hl. below_more (λ (h : ℕ). (j : ℕ) → j < arity_at s (place s h) → T (bit (get_or Z (field_at s (place s h) j) 0) h)) i
+          (λ h hl j jl. y.more (field_at s (place s h) j) h (x.there h j hl jl))
+          (λ j jl. subst (λ (p : ℕ). T (bit (get_or Z (field_at s p j) 0) i)) q.table.at_is
+          (y.there j (subst (λ (a : ℕ). j < a) (sym q.arity_is) (subst (λ (p : ℕ). j < arity_at s p) (sym q.table.at_is) jl)))) h hl j;
+      tables = λ f h t.
+          ⊎_elim {C = h < i + 1} (λ (u : T (bit (get_or W f 0) h)). let m : h < i = x.tables f h u in omega arith) (λ (e : h ≡ i). omega arith) (y.only f h t);
+      placed = below_more (λ (h : ℕ). get_or (set P i at) h 0 ≡ place s h) i
+          (λ h hl. get_or-set_other P i h at 0 (λ (e : h ≡ i). omega arith) ∙ x.placed h hl)
+          (get_or-set_same P i at 0 (omega (arith, index_small q, x.room)) ∙ q.table.at_is);
+    }
 
-  pub place_small : i < 64
-  place_small = le_trans index_in q.promise.tables_few
-
-  -- the table at its place
-  pub table_surveyed : InTable s (shape_at s at)
-  table_surveyed = table_at_lem q.promise i index_in at ae
-
-  module _ (arity : ℕ) (re : arity ≡ arity_at s at) where
-    pub watch_given : {W P : List ℕ} → SurveyedTo s W P i → WatchGiven s W at arity i
-    watch_given x = record { promise = q.promise; index_in = index_in; at_is = ae; arity_is = re; words = x.words }
-
-    -- a turn
-    pub surveyed_more : (W Z P : List ℕ) → SurveyedTo s W P i → Watched s W Z at i arity → SurveyedTo s Z (set P i at) (i + 1)
-    surveyed_more W Z P x y =
-        record {
-          words = y.same_length ∙ x.words;
-          room = length-set P i at ∙ x.room;
-          there = λ h j hl. below_more (λ (h : ℕ). (j : ℕ) → j < arity_at s (place s h) → T (bit (get_or Z (field_at s (place s h) j) 0) h)) i
-              (λ h hl j jl. y.more (field_at s (place s h) j) h (x.there h j hl jl))
-              (λ j jl. subst (λ (p : ℕ). T (bit (get_or Z (field_at s p j) 0) i)) ae
-              (y.there j (subst (λ (a : ℕ). j < a) (sym re) (subst (λ (p : ℕ). j < arity_at s p) (sym ae) jl)))) h hl j;
-          tables = λ f h t.
-              ⊎_elim {C = h < i + 1} (λ (u : T (bit (get_or W f 0) h)). let m : h < i = x.tables f h u in omega arith) (λ (e : h ≡ i). omega arith) (y.only f h t);
-          placed = below_more (λ (h : ℕ). get_or (set P i at) h 0 ≡ place s h) i
-              (λ h hl. get_or-set_other P i h at 0 (λ (e : h ≡ i). omega arith) ∙ x.placed h hl)
-              (get_or-set_same P i at 0 (omega (arith, place_small, x.room)) ∙ ae);
-        }
+-- as the walk over the tables has it
+pub walked_more : {s z : List ℕ} {i at arity first rows k n : ℕ} → TableIn z i at arity first rows → z ≡ s → i ≡ k → n ≡ k + 1
+    → {W Z P : List ℕ} → SurveyedTo s W P k → Watched z W Z at i arity → SurveyedTo s Z (set P i at) n
+walked_more {s} {z} {i} {at} {n = n} q e ie ne {W} {Z} {P} x y =
+    subst (λ (v : ℕ). SurveyedTo s Z (set P i at) v) (let d : i + 1 ≡ n = omega arith in d)
+    (subst (λ (v : List ℕ). SurveyedTo v Z (set P i at) (i + 1)) e
+    (surveyed_more q (subst (λ (v : List ℕ). SurveyedTo v W P i) (sym e) (subst (λ (v : ℕ). SurveyedTo s W P v) (sym ie) x)) y))
 
 -- all tables
-pub surveyed_all : {s U O : List ℕ} {tables : ℕ} → SurveyGiven s U O tables → (W P : List ℕ) (i : ℕ) → SurveyedTo s W P i → i ≡ tables → Surveyed s W P
-surveyed_all {s} q W P i x e =
-    let n : i ≡ table_count s = e ∙ q.tables_is in
+pub surveyed_all : {s W P : List ℕ} {i : ℕ} → SurveyedTo s W P i → i ≡ table_count s → Surveyed s W P
+surveyed_all {s} x n =
     record {
       watches = record { there = λ h j l. x.there h j (subst (λ (m : ℕ). h < m) (sym n) l); tables = λ f h t. subst (λ (m : ℕ). h < m) n (x.tables f h t) };
       placed = λ h l. x.placed h (subst (λ (m : ℕ). h < m) (sym n) l);

@@ -1,15 +1,12 @@
 -- What the functions that strike marks ask of their callers, and what the inner ones answer. Assumes nothing.
 use Rattle.std.specs.Prelude.{ℕ, ◌+◌, ◌*◌, ◌^◌, ◌≤◌, ◌<◌, ◌≡◌, ◌⊎◌, not, List, eqb, length, get_or}
 use Rattle.std.specs.Int.Bits.{bit_xor}
-use Rattle.format.specs.Format.{code_limit, list_place, table_count, book_of}
-use Rattle.format.specs.Promise.{Promise, place, field_at, count_at}
+use Rattle.format.specs.Format.{code_limit, book_of}
 use Rattle.consistency.specs.Counting.{how_many, sum_below}
 use Rattle.consistency.specs.Consistency.{places, OfBook}
 use Rattle.consistency.specs.Counts.{bit}
-use Rattle.filter.specs.declared.support.Shape.{Shape}
 use Rattle.filter.specs.Words.{word_at, domain_of}
-use Rattle.filter.specs.Support.{InTable}
-use Rattle.filter.specs.Revise.{Room, Watches}
+use Rattle.filter.specs.Revise.{Room}
 
 -- need has the words of the k codes of field f, and no case of another number
 pub record Looks (M : List ℕ) (f k : ℕ) (need : List ℕ) : Type 0 where
@@ -38,20 +35,3 @@ pub record Marks (s M : List ℕ) (n : ℕ) : Type 0 where
   pub words : length M ≡ places * code_limit
   pub of_book : (k : ℕ) → OfBook (book_of s) (domain_of M k)
   pub room : Room (book_of s) M n
-
--- column j of the table with shape t is for field f, of k codes
-pub record ReviseAsks (s M : List ℕ) (t : Shape) (j f k n : ℕ) : Type 0 where
-  pub table : InTable s t
-  pub column : j < t.arity
-  pub field : f ≡ field_at s t.at j
-  pub codes_are : k ≡ count_at s f
-  pub marks : Marks s M n
-
--- table i of an accepted book stands at `at`, the field list at `list`; W has the tables with each field
-pub record SweepAsks (s W M : List ℕ) (i at list n : ℕ) : Type 0 where
-  pub promise : Promise s
-  pub index_in : i < table_count s
-  pub at_is : at ≡ place s i
-  pub list_is : list ≡ list_place s
-  pub watches : Watches s W
-  pub marks : Marks s M n

@@ -1,8 +1,8 @@
 -- The tables' places, the tables of each field, and what emptying the queue of tables does. Assumes nothing.
 use Rattle.std.specs.Prelude.{ℕ, ◌+◌, ◌<◌, ◌≡◌, ◌⊎◌, List, length, get_or, T}
-use Rattle.format.specs.Format.{table_limit, table_count, arity_at, list_place, book_of}
-use Rattle.format.specs.Promise.{Promise, place, field_at}
-use Rattle.consistency.specs.Consistency.{places, Inside, WithinAnswers, HoldsAll}
+use Rattle.format.specs.Format.{table_count, book_of}
+use Rattle.format.specs.Promise.{place, field_at}
+use Rattle.consistency.specs.Consistency.{Inside, WithinAnswers, HoldsAll}
 use Rattle.consistency.specs.Largest.{largest}
 use Rattle.consistency.specs.Counts.{bit}
 use Rattle.filter.specs.Words.{domain_of, standing}
@@ -10,14 +10,6 @@ use Rattle.filter.specs.Revise.{Watches}
 use Rattle.filter.specs.Asks.{Marks}
 
 -- ---- the tables' places and fields
-
--- table i of an accepted book stands at `at` and has arity fields; W has a word for each place of a sheet
-pub record WatchGiven (s W : List ℕ) (at arity i : ℕ) : Type 0 where
-  pub promise : Promise s
-  pub index_in : i < table_count s
-  pub at_is : at ≡ place s i
-  pub arity_is : arity ≡ arity_at s at
-  pub words : length W ≡ places
 
 -- U became W: table i, at `at`, was added to the words of its first j fields, and no other table to any word
 pub record Watched (s U W : List ℕ) (at i j : ℕ) : Type 0 where
@@ -30,14 +22,6 @@ pub record Watched (s U W : List ℕ) (at i j : ℕ) : Type 0 where
 abbrev pub Placed : List ℕ → List ℕ → Type 0
 Placed s P = (i : ℕ) → i < table_count s → get_or P i 0 ≡ place s i
 
--- an accepted book, its number of tables, words that have no table, and room for the places
-pub record SurveyGiven (s W P : List ℕ) (tables : ℕ) : Type 0 where
-  pub promise : Promise s
-  pub tables_is : tables ≡ table_count s
-  pub words : length W ≡ places
-  pub empty : (f : ℕ) → get_or W f 0 ≡ 0
-  pub room : length P ≡ table_limit
-
 -- the places of all tables, and the tables of each field
 pub record Surveyed (s W P : List ℕ) : Type 0 where
   pub watches : Watches s W
@@ -45,12 +29,8 @@ pub record Surveyed (s W P : List ℕ) : Type 0 where
 
 -- ---- the queue of tables, one bit each
 
--- an accepted book with its field list at `list`, its tables' places and fields, and each table in the queue d and nothing else
-pub record PropagateGiven (s M W P : List ℕ) (list n d : ℕ) : Type 0 where
-  pub promise : Promise s
-  pub list_is : list ≡ list_place s
-  pub watches : Watches s W
-  pub placed : Placed s P
+-- each table of the book is in the queue d, and nothing else; the marks have room in the count n
+pub record PropagateGiven (s M : List ℕ) (n d : ℕ) : Type 0 where
   pub all : (i : ℕ) → i < table_count s → T (bit d i)
   pub only : (i : ℕ) → T (bit d i) → i < table_count s
   pub marks : Marks s M n

@@ -2,9 +2,7 @@
 use Rattle.std.specs.Prelude.{ℕ, ◌+◌, ◌-◌, ◌*◌, ◌^◌, ◌≤◌, ◌<◌, ◌≡◌, ◌||◌, List, [], ◌∷◌, map, length, get_or, T, eqb, ltb}
 use Rattle.std.specs.Int.Count.{ones}
 use Rattle.format.specs.Basics.{pick}
-use Rattle.format.specs.Format.{Book, code_limit, field_count, list_place}
-use Rattle.format.specs.Promise.{Promise}
-use Rattle.book.specs.View.{Numbered}
+use Rattle.format.specs.Format.{Book, code_limit}
 use Rattle.consistency.specs.Counting.{how_many, those, sum_below}
 use Rattle.consistency.specs.Consistency.{Sheet, places, codes, answer, relax}
 use Rattle.consistency.specs.Counts.{bit, in_doubt}
@@ -31,14 +29,6 @@ cases_below n s = s.answers ∷ map (relax s.answers) (those n (in_doubt s))
 abbrev pub start_word : ℕ → ℕ → ℕ → ℕ → ℕ
 start_word x c all own = pick (eqb x 255 || eqb c x) all own
 
--- the words are those of all fields and codes, and f, with k codes, is one of the fields; the count is small
-pub record StartsField (M : List ℕ) (f k all own s : ℕ) : Type 0 where
-  pub size : length M ≡ places * code_limit
-  pub field_in : f < places
-  pub codes_in : k ≤ code_limit
-  pub within : (k : ℕ) → T (bit own k) → T (bit all k)
-  pub small : s ≤ 64 * (places * code_limit)
-
 -- the words of the codes below k of field f, and the count of the marks forbidden there: "those forbidden by an answer included"
 pub record FieldStarted (M N : List ℕ) (f k x all own s t : ℕ) : Type 0 where
   pub same_length : length N ≡ length M
@@ -46,13 +36,6 @@ pub record FieldStarted (M N : List ℕ) (f k x all own s t : ℕ) : Type 0 wher
   pub rest : (g d : ℕ) → d < code_limit → (g ≡ f → d < k → ⊥) → word_at N g d ≡ word_at M g d
   pub counts : t + sum_below k (λ c. how_many 64 (bit (word_at N f c))) ≡ s + ones all * k
   pub few : t ≤ s + 64 * k
-
--- the words are those of an accepted book, and no field is relaxed outside the cases
-pub record Starts (s own : List ℕ) (all list fields : ℕ) : Type 0 where
-  pub promise : Promise s
-  pub list_is : list ≡ list_place s
-  pub fields_is : fields ≡ field_count s
-  pub within : (f k : ℕ) → T (bit (get_or own f 0) k) → T (bit all k)
 
 -- Each word is its start; those that the book lacks are 0. What is counted and what stands are all marks of the cases
 pub record Started (b : Book) (a own : List ℕ) (all : ℕ) (N : List ℕ) (r : ℕ) : Type 0 where
@@ -64,9 +47,8 @@ pub record Started (b : Book) (a own : List ℕ) (all : ℕ) (N : List ℕ) (r :
 
 -- ---- a whole pass
 
--- a numbered book, and words that say cases
-pub record RunGiven (s : List ℕ) (list fields tables : ℕ) (a own : List ℕ) (all : ℕ) : Type 0 where
-  pub numbers : Numbered s list fields tables
+-- words that say cases
+pub record SaysCases (a own : List ℕ) (all : ℕ) : Type 0 where
   pub cases : List (List ℕ)
   pub are : CasesAre a own all cases
 

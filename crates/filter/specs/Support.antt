@@ -1,26 +1,11 @@
 -- What the inner question asks of a table's rows. Assumes nothing.
-use Rattle.std.specs.Prelude.{ℕ, zero, suc, ◌+◌, ◌<◌, ◌≡◌, List, length, get_or, eqb}
+use Rattle.std.specs.Prelude.{ℕ, zero, suc, ◌+◌, List, Option, Some, None, length, get_or, eqb}
 use Rattle.std.specs.Int.Bits.{bit_and}
 use Rattle.format.specs.Basics.{pick}
-use Rattle.format.specs.Format.{Table, table_count, arity_at, rows_of, first_row}
-use Rattle.format.specs.Promise.{Promise, place}
+use Rattle.format.specs.Format.{Table}
 use Rattle.consistency.specs.Consistency.{field_of, code_of}
 use Rattle.filter.specs.Words.{word_at}
-use Rattle.filter.specs.declared.support.Shape.{Shape}
 use Rattle.filter.specs.declared.support.Found.{Found}
-use Rattle.filter.specs.declared.support.Found.TheVariants.{Row, Nothing}
-
--- the shape of the table at p
-abbrev pub shape_at : List ℕ → ℕ → Shape
-shape_at s p = record { at = p; arity = arity_at s p; first = first_row s p; rows = rows_of s p }
-
--- t is the shape of a table of an accepted book
-pub record InTable (s : List ℕ) (t : Shape) : Type 0 where
-  pub promise : Promise s
-  pub index : ℕ
-  pub index_in : index < table_count s
-  pub at_is : t.at ≡ place s index
-  pub shape : t ≡ shape_at s t.at
 
 -- the cases of w in which row r has standing codes in the columns below i, column j left out
 unfoldable pub narrowed : List ℕ → Table → ℕ → ℕ → ℕ → ℕ → ℕ
@@ -32,7 +17,11 @@ narrowed M t j r w (suc i) =
 unfoldable pub row_cases : List ℕ → List ℕ → Table → ℕ → ℕ → ℕ
 row_cases M need t j r = narrowed M t j r (get_or need (code_of t r j) 0) (length t.fields)
 
+-- row r, which supports its own code in the cases w
+abbrev pub found : ℕ → ℕ → Option Found
+found r w = Some (record { row = r; cases = w })
+
 -- the first of the m numbers from r on at which g is not 0, with g's value there
-unfoldable pub first_from : ℕ → ℕ → (ℕ → ℕ) → Found
-first_from zero r g = Nothing
-first_from (suc m) r g = pick (eqb (g r) 0) (first_from m (r + 1) g) (Row r (g r))
+unfoldable pub first_from : ℕ → ℕ → (ℕ → ℕ) → Option Found
+first_from zero r g = None
+first_from (suc m) r g = pick (eqb (g r) 0) (first_from m (r + 1) g) (found r (g r))

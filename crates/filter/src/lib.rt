@@ -4,22 +4,30 @@
 
 ghost use Rattle.std.specs.Prelude.{◌≡◌};
 ghost use Rattle.format.specs.Format.{book_of};
-ghost use Rattle.book.specs.View.{Viewed};
 ghost use Rattle.consistency.specs.Consistency.{sheet_with};
 ghost use Rattle.consistency.specs.Counts.{struck};
 ghost use Rattle.filter.specs.Cases.{cases_of, marks_of, plain_of};
 ghost use Rattle.filter.specs.Summaries.{empty_cases};
 
 use book::{Book, CODES, PLACES};
+use cases::Cases;
+use gather::gather;
+use pass::run;
+use start::own_cases;
 
+mod cases;
+mod column;
+mod fields;
 mod gather;
 mod lookup;
+mod need;
 mod pass;
 mod queue;
 mod revise;
 mod start;
 mod summary;
 mod support;
+mod survey;
 
 pub use lookup::supporting_row;
 
@@ -27,83 +35,35 @@ pub use lookup::supporting_row;
 pub const WORDS: usize = PLACES * CODES;
 
 // Every bit of a word of cases.
-const EVERY_CASE: u64 = 18446744073709551615;
+const EVERY_CASE: u64 = u64::MAX;
 
-// The number of the first row of a table that supports a code; or that none does; or that the table has no column for the field, as it is
-// with a table that the book lacks.
-#[derive(Clone, Copy)]
-pub enum Supporting {
-    Row(usize),
-    NoRow,
-    NoColumn,
-}
+// The table asked for has no column for the field, as it is with a table that the book lacks.
+#[derive(Clone, Copy, PartialEq, Eq)]
+pub struct NoColumn;
 
-// The one pass over a view of an accepted book: the marks of all cases, and the number struck.
-fn one_pass_over<'a>(
+// The one pass over an accepted book, "nothing lifted, then each answered field lifted by itself", those with a photograph left out: the
+// marks of all cases, and the number struck.
+pub fn one_pass<'a>(
     book: Book<'a>,
     answers: &[u8; PLACES],
     photographed: &[bool; PLACES],
     marks: &mut [u64; WORDS],
 ) -> u32
-    requires { Viewed book.bytes.now book.list book.fields book.tables book.rows }
     ensures marks { marks.new ≡ marks_of (book_of book.entry.bytes.now) (cases_of (book_of book.entry.bytes.now) (sheet_with answers.now photographed.now)) }
     ensures count { result ≡ struck (book_of book.entry.bytes.now) (sheet_with answers.now photographed.now) }
 {
-    pass::all_cases(
-        book.bytes,
-        book.list,
-        book.fields,
-        book.tables,
-        answers,
-        photographed,
-        marks,
-    )
+    marks.fill(0);
+    let cases = own_cases(book, answers, photographed);
+    run(book, answers, &cases, marks)
 }
 
-// Plain filtering over a view of an accepted book: a number for each field, bit c of it for code c.
-fn plain_over<'a>(book: Book<'a>, answers: &[u8; PLACES]) -> [u32; PLACES]
-    requires { Viewed book.bytes.now book.list book.fields book.tables book.rows }
+// Plain filtering over an accepted book: a number for each field, bit c of it for code c.
+pub fn plain<'a>(book: Book<'a>, answers: &[u8; PLACES]) -> [u32; PLACES]
     ensures { result ≡ plain_of (book_of book.entry.bytes.now) answers.now }
 {
-    pass::one_case(book.bytes, book.list, book.fields, book.tables, answers)
-}
-
-// The one pass over the view that these bytes and numbers make.
-pub fn one_pass(
-    bytes: &[u8],
-    list: usize,
-    fields: usize,
-    tables: usize,
-    rows: usize,
-    answers: &[u8; PLACES],
-    photographed: &[bool; PLACES],
-    marks: &mut [u64; WORDS],
-) -> u32
-    requires { Viewed bytes.now list fields tables rows }
-    ensures marks { marks.new ≡ marks_of (book_of bytes.now) (cases_of (book_of bytes.now) (sheet_with answers.now photographed.now)) }
-    ensures count { result ≡ struck (book_of bytes.now) (sheet_with answers.now photographed.now) }
-{
-    one_pass_over(
-        book::view(bytes, list, fields, tables, rows),
-        answers,
-        photographed,
-        marks,
-    )
-}
-
-// Plain filtering over the view that these bytes and numbers make.
-pub fn plain(
-    bytes: &[u8],
-    list: usize,
-    fields: usize,
-    tables: usize,
-    rows: usize,
-    answers: &[u8; PLACES],
-) -> [u32; PLACES]
-    requires { Viewed bytes.now list fields tables rows }
-    ensures { result ≡ plain_of (book_of bytes.now) answers.now }
-{
-    plain_over(book::view(bytes, list, fields, tables, rows), answers)
+    let mut marks = [0u64; WORDS];
+    run(book, answers, &Cases::one(), &mut marks);
+    gather(book, &marks)
 }
 
 // The cases in which some field of the book is empty, as a word: bit k for case k.

@@ -14,8 +14,8 @@ pub(crate) fn marked_cases(marks: &[u64; WORDS], f: usize) -> u64
         return 0;
     }
     let mut cases: u64 = 0;
-    for c in 0..CODES {
-        cases = cases | marks[f * CODES + c];
+    for word in &marks[f * CODES..(f + 1) * CODES] {
+        cases |= *word;
     }
     cases
 }

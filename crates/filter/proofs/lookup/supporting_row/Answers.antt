@@ -1,33 +1,39 @@
 -- `lookup::supporting_row` meets its contract: no such table, the field not in it, a code that no field can have, and the question. Assumes nothing.
-use mathlib.Core.Path.{refl}
-use Rattle.filter.proofs.Shapes.{head_in}
-use Rattle.filter.proofs.Lookups.{no_table, table_here, not_in, code_large, row_given}
-use native.Mathlib.Omega.{arith}
+use Rattle.std.proofs.Common.{List, [], ◌∷◌, ℕ, Bor, sym, ap, ◌∙◌}
+use Rattle.std.proofs.lemmas.Result.{err_from_is_err_and}
+use Rattle.format.specs.Format.{book_of}
+use Rattle.book.specs.declared.view.Table.{Table}
+use Rattle.filter.specs.Cases.{marks_of}
+use Rattle.filter.proofs.Lookups.{no_table, row_at, not_in, code_large, row_given}
 use Rattle.filter.proofs.lookup.supporting_row.Goals as goal
 
-pub returns-then-tables-table : goal.returns-then-tables-table
-returns-then-tables-table c = no_table c.requires _ _ _ _ c.if-tables-table.true
+pub returns-in_err-asked : goal.returns-in_err-asked
+returns-in_err-asked c =
+    let p = err_from_is_err_and c.from_residual.result c.from_residual.ensures.1 in
+    rw p.1 (no_table c.args.book.viewed.numbers c.args.answers.now c.args.field c.args.code c.args.table c.in_err-asked.ensures.lacks)
 
-pub place_of-at-requires : goal.place_of-at-requires
-place_of-at-requires c = (c.requires.promise, omega (arith, c.if-tables-table.false, c.requires.tables_is))
-
-pub column_of-column-requires : goal.column_of-column-requires
-column_of-column-requires c = table_here c.requires c.if-tables-table.false c.place_of-at.ensures
-
-pub bounds-bytes-at : goal.bounds-bytes-at
-bounds-bytes-at c = omega (arith, head_in (table_here c.requires c.if-tables-table.false c.place_of-at.ensures))
-
-pub returns-then-wide-column : goal.returns-then-wide-column
-returns-then-wide-column c = not_in c.requires c.if-tables-table.false c.place_of-at.ensures _ _ _ c.wide.ensures c.column_of-column.ensures c.if-wide-column.true
+pub returns-in_err-column : goal.returns-in_err-column
+returns-in_err-column c =
+    let p = err_from_is_err_and c.from_residual-in_err-column.result c.from_residual-in_err-column.ensures.1 in
+    rw p.1 (not_in c.in_ok-asked.asked.stands c.args.answers.now c.args.field c.args.code c.in_err-column.ensures.lacks
+    ∙ row_at _ _ _ (ap (λ (b : Bor (List ℕ)). b.now) c.in_ok-asked.ensures.table.0) c.in_ok-asked.ensures.table.1)
 
 pub returns-then-code-ge-CODES : goal.returns-then-code-ge-CODES
-returns-then-code-ge-CODES c = code_large c.requires c.if-tables-table.false c.place_of-at.ensures _ _ _ c.wide.ensures c.column_of-column.ensures c.if-wide-column.false c.if-code-ge-CODES.true
+returns-then-code-ge-CODES c =
+    let e = ap (λ (t : Table). t.bytes.now) c.in_ok-column.ensures.column.0 ∙ ap (λ (b : Bor (List ℕ)). b.now) c.in_ok-asked.ensures.table.0 in
+    let d = ap (λ (t : Table). t.index) c.in_ok-column.ensures.column.0 ∙ c.in_ok-asked.ensures.table.1 in
+    code_large c.in_ok-column.column.table.stands c.args.answers.now c.args.field c.args.code c.in_ok-column.column.within
+    c.in_ok-column.ensures.column.1 c.if-code-ge-CODES.true
+    ∙ row_at _ _ _ e d
 
-pub case_marks-requires : goal.case_marks-requires
-case_marks-requires c = (c.requires, refl)
-
-pub first_support-requires : goal.first_support-requires
-first_support-requires c = (table_here c.requires c.if-tables-table.false c.place_of-at.ensures, (omega (arith, c.wide.ensures, c.if-wide-column.false), c.if-code-ge-CODES.false))
+pub run-requires-clause-cases : goal.run-requires-clause-cases
+run-requires-clause-cases c = record { cases = _; are = c.one.ensures c.args.answers.now }
 
 pub returns : goal.returns
-returns c = row_given c.requires c.if-tables-table.false c.place_of-at.ensures _ _ _ c.wide.ensures c.column_of-column.ensures c.if-wide-column.false c.case_marks.ensures c.first_support.ensures
+returns c =
+    let e = ap (λ (t : Table). t.bytes.now) c.in_ok-column.ensures.column.0 ∙ ap (λ (b : Bor (List ℕ)). b.now) c.in_ok-asked.ensures.table.0 in
+    let d = ap (λ (t : Table). t.index) c.in_ok-column.ensures.column.0 ∙ c.in_ok-asked.ensures.table.1 in
+    row_given c.in_ok-column.column.table.stands c.args.answers.now c.args.field c.args.code c.in_ok-column.column.within
+    c.in_ok-column.ensures.column.1
+    (c.run.ensures.marks _ (c.one.ensures _) ∙ ap (λ (s : List ℕ). marks_of (book_of s) (c.args.answers.now ∷ [])) (sym e)) c.first_support.ensures
+    ∙ row_at _ _ _ e d

@@ -1,39 +1,22 @@
-use Rattle.filter.proofs.Starts.{field_none, start_in, few_struck, field_more, field_done}
-use native.Mathlib.Omega.{arith}
+use Rattle.std.proofs.Common.{rules, arith, ◌+◌, ◌*◌, ◌<◌, ◌≤◌, length}
+use Rattle.filter.proofs.Lists.{part_in, put_none, put_next}
+use Rattle.filter.proofs.Starts.{few_struck, field_more}
 use Rattle.filter.proofs.start.start_field.Goals as goal
 
 pub loop-c-init : goal.loop-c-init
-loop-c-init c = (omega arith, field_none _ _ _ _ _ _)
-
-pub start_word-word-requires : goal.start_word-word-requires
-start_word-word-requires c = tt
-
-pub wide-code-requires : goal.wide-code-requires
-wide-code-requires c = tt
-
-pub overflow_mul-marks : goal.overflow_mul-marks
-overflow_mul-marks c = omega (arith, c.requires.field_in)
-
-pub overflow_add-marks : goal.overflow_add-marks
-overflow_add-marks c = omega (arith, c.wide-code.ensures, c.requires.field_in, c.requires.codes_in)
-
-pub offset_bounds-marks-f : goal.offset_bounds-marks-f
-offset_bounds-marks-f c = omega (arith, c.wide-code.ensures, c.requires.field_in, c.requires.codes_in)
-
-pub bounds-marks-f : goal.bounds-marks-f
-bounds-marks-f c = omega (arith, c.wide-code.ensures, start_in _ _ _ _ _ _ _ _ _ _ c.requires c.loop-c.invariant.1 c.loop-c-test.true (omega (arith, c.ranges.all)) (omega (arith, c.ranges.own)))
+loop-c-init c = rw (put_none (c.args.field.number * 32) c.args.field.codes c.args.marks.now) (search rules)
 
 pub overflow_add-struck : goal.overflow_add-struck
-overflow_add-struck c = omega (arith, c.loop-c.invariant.1.few, c.requires.small, c.requires.codes_in, few_struck _ _ _ _ _ _ _ _ _ _ c.requires c.loop-c.invariant.1 c.loop-c-test.true (omega (arith, c.ranges.all)) (omega (arith, c.ranges.own)) _ c.start_word-word.ensures)
-
-pub overflow_add-c : goal.overflow_add-c
-overflow_add-c c = omega (arith, c.requires.codes_in)
-
-pub loop-c-smaller : goal.loop-c-smaller
-loop-c-smaller c = omega arith
+overflow_add-struck c =
+    let a = c.args.field.number * 32 in
+    let l : c.loop-c.c < c.args.field.codes = omega (arith, part_in a (a + c.args.field.codes) c.loop-c.c c.args.marks.now c.loop-c-test.true) in
+    omega (arith, c.loop-c.invariant.few, c.requires, c.args.field.few, few_struck c.told-marks c.args.field.place c.args.field.few c.args.answered.within c.loop-c.invariant l (omega arith) (omega arith) c.start_word.ensures)
 
 pub loop-c-preserved : goal.loop-c-preserved
-loop-c-preserved c = (omega arith, field_more _ _ _ _ _ _ _ _ _ _ c.requires c.loop-c.invariant.1 c.loop-c-test.true (omega (arith, c.ranges.all)) (omega (arith, c.ranges.own)) _ c.start_word-word.ensures _ c.wide-code.ensures)
-
-pub returns : goal.returns
-returns c = field_done _ _ _ _ _ _ _ _ _ _ c.loop-c.invariant.1 (omega arith)
+loop-c-preserved c =
+    let a = c.args.field.number * 32 in
+    let l : c.loop-c.c < c.args.field.codes = omega (arith, part_in a (a + c.args.field.codes) c.loop-c.c c.args.marks.now c.loop-c-test.true) in
+    let b : a ≤ length c.args.marks.now = omega (arith, c.told-marks, c.args.field.place) in
+    let m : c.loop-c.c < length c.loop-c.word-items = omega (arith, c.loop-c.auto.word-items, c.loop-c-test.true) in
+    rw (put_next a c.args.field.codes c.args.marks.now c.loop-c.word-items c.loop-c.c b m c.start_word.result)
+    (field_more c.told-marks c.args.field.place c.args.field.few c.args.answered.within c.loop-c.invariant l (omega arith) (omega arith) c.start_word.ensures)

@@ -1,0 +1,53 @@
+// Where a book's tables stand, and which tables have a field.
+ghost use Rattle.filter.specs.Queue.{Surveyed, Watched};
+
+use book::{Book, PLACES, TABLE_LIMIT, Table};
+
+// The tables' places, and for each field the word of the tables that have it.
+#[derive(Clone, Copy)]
+pub(crate) struct Survey<'a> {
+    pub(crate) book: Book<'a>,
+    pub(crate) watch: [u64; PLACES],
+    pub(crate) places: [usize; TABLE_LIMIT],
+    pub(crate) ghost surveyed: { Surveyed book.bytes.now watch places },
+}
+
+// Adds a table to the words of its fields.
+fn watch_table(table: Table, watch: &mut [u64; PLACES])
+    ensures { Watched table.entry.bytes.now watch.old watch.new table.entry.at table.entry.index table.entry.arity }
+{
+    let at = table.at + 1;
+    for field in &table.bytes[at..at + table.arity] {
+        watch[*field as usize] |= 1 << table.index;
+    }
+}
+
+impl<'a> Survey<'a> {
+    ghost use Rattle.std.specs.Prelude.{◌≡◌, ◌<◌};
+
+    // The places and fields of all tables of a book.
+    pub(crate) fn of(book: Book<'a>) -> Survey<'a>
+        ensures { result.book ≡ book.entry }
+    {
+        let mut watch = [0u64; PLACES];
+        let mut places = [0usize; TABLE_LIMIT];
+        for table in book.tables() {
+            places[table.index] = table.at;
+            watch_table(table, &mut watch);
+        }
+        Survey {
+            book,
+            watch,
+            places,
+        }
+    }
+
+    // Table i.
+    pub(crate) fn table(&self, i: usize) -> Table<'a>
+        requires { i < self.now.book.tables }
+        ensures bytes { result.bytes ≡ self.now.book.bytes }
+        ensures index { result.index ≡ i }
+    {
+        self.book.table(i, self.places[i])
+    }
+}
