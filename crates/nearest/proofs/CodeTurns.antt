@@ -1,22 +1,21 @@
 -- The search field by field: the readings by the code of the next field, and the nearest so far as the code holds it. Assumes nothing.
 use mathlib.Core.Path.{◌≡◌, refl, sym}
-use mathlib.Core.Bool.{Bool, true, false}
+use mathlib.Core.Bool.{true, false}
 use mathlib.Core.List.{List, [], ◌∷◌, ◌++◌}
 use Prim.Native.Nat.{ℕ, suc, ◌+◌, ◌-◌, ◌≤◌, ◌<◌}
 use native.Mathlib.Nat.{sub-zero}
 use native.Mathlib.Numerals.{add-one}
 use native.Mathlib.Omega.{arith}
-use lib.ListN.{length, take}
-use lib.Dec.{leb}
-use borrow.Author.Tests.{le-leb, lt-leb, lt-ltb, le-ltb}
-use Rattle.format.specs.Basics.{pick}
+use lib.ListN.{length}
+use borrow.Author.Tests.{le-ltb, ltb-false}
 use Rattle.format.specs.Format.{Book}
 use Rattle.consistency.specs.Counting.{join_over, tabulate}
 use Rattle.consistency.specs.Consistency.{Sheet, codes}
-use Rattle.consistency.specs.Nearest.{Nearest, none, found, consider, choose, codes_from, readings}
+use Rattle.consistency.specs.Nearest.{Nearest, found, consider, choose, codes_from, readings}
 use Rattle.consistency.proofs.Choosing.{choose_append}
-use Rattle.nearest.specs.Asks.{held}
-use Rattle.nearest.specs.declared.Found.{Found}
+use Rattle.std.specs.Prelude.{Option, None, Some}
+use Rattle.nearest.specs.Asks.{held, nearer}
+use Rattle.nearest.specs.declared.turn.Found.{Found}
 
 -- ---- by the codes of the next field: those from c on, m of them
 
@@ -42,27 +41,18 @@ module _ (b : Book) (s : Sheet) (r : List ℕ) (k : ℕ) where
 
 -- ---- the nearest so far, as the code holds it
 
-module _ (fields : ℕ) (F : Found) where
+-- where so many differing fields are not nearer, more are not
+pub nearer_more : (best : Option Found) (d e : ℕ) → d ≤ e → nearer d best ≡ false → nearer e best ≡ false
+nearer_more None d e h l = l
+nearer_more (Some x) d e h l = le-ltb e x.differing (omega (arith, ltb-false d x.differing l))
+
+module _ (fields : ℕ) where
   -- a reading that differs in as many fields is no nearer
-  pub held_still : (d : ℕ) (q : List ℕ) → F.least ≤ d → d ≤ fields → consider d q (held fields F) ≡ held fields F
-  unfolding held
-  held_still d q h l =
-      let m : F.least ≤ fields = omega arith in
-      rw (le-leb F.least fields m, le-ltb d F.least h)
+  pub held_still : (best : Option Found) (d : ℕ) (q : List ℕ) → nearer d best ≡ false → consider d q (held fields best) ≡ held fields best
+  held_still None d q h = absurd (cc)
+  held_still (Some x) d q h = rw h
 
   -- one that differs in fewer is
-  pub held_nearer : (d : ℕ) (q : List ℕ) → d < F.least → consider d q (held fields F) ≡ found d q
-  unfolding held
-  held_nearer d q h = cases (leb F.least fields)
-    where
-      cases : (t : Bool) → consider d q (pick t (found F.least (take fields F.reading)) none) ≡ found d q
-      cases true = rw (lt-ltb d F.least h)
-      cases false = refl
-
-  pub held_found : F.least ≤ fields → held fields F ≡ found F.least (take fields F.reading)
-  unfolding held
-  held_found h = rw (le-leb F.least fields h)
-
-  pub held_none : fields < F.least → held fields F ≡ none
-  unfolding held
-  held_none h = rw (lt-leb F.least fields h)
+  pub held_nearer : (best : Option Found) (d : ℕ) (q : List ℕ) → nearer d best ≡ true → consider d q (held fields best) ≡ found d q
+  held_nearer None d q h = refl
+  held_nearer (Some x) d q h = rw h

@@ -1,6 +1,7 @@
 pub mod Products
 pub mod Fronts
 pub mod Holding
+pub mod Tables
 pub mod WordTurns
 pub mod TableTurns
 pub mod CodeTurns

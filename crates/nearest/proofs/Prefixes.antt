@@ -19,13 +19,13 @@ use Rattle.consistency.specs.Readings.{differs, differing}
 use Rattle.consistency.specs.Nearest.{Nearest, found, is_full, keeps_backed, after, choose, readings}
 use Rattle.consistency.proofs.Booleans.{all_in, all_out, below_suc}
 use Rattle.consistency.proofs.Elements.{answer_at}
-use Rattle.consistency.proofs.Limits.{many_few}
 use Rattle.consistency.proofs.Sums.{many_ext}
 use Rattle.consistency.proofs.Choosing.{after_rows, after_keeps, after_near, after_full, choose_still, Continues, continues}
 use Rattle.nearest.specs.Words.{can_hold, any_empty}
-use Rattle.nearest.specs.Asks.{held, Ready}
-use Rattle.nearest.specs.declared.Found.{Found}
-use Rattle.nearest.proofs.CodeTurns.{held_still, held_nearer, held_found}
+use Rattle.std.specs.Prelude.{Option, None}
+use Rattle.nearest.specs.Asks.{held, nearer, Ready}
+use Rattle.nearest.specs.declared.turn.Found.{Found}
+use Rattle.nearest.proofs.CodeTurns.{nearer_more, held_still, held_nearer}
 use Rattle.nearest.proofs.Holding.{Agree, hold_agree, full_hold, hold_full}
 
 -- ---- numbers of fields
@@ -116,27 +116,28 @@ module _ (b : Book) (w : WellFormed b) (s : Sheet) (n : ℕ) (en : length b.coun
           (keeps_lost q f few e
           (differs_agree s.answers (suc f) q (set R f c) (next_agree (continues b k (take f R ++ (c ∷ [])) m)) f (omega arith) ∙ d)))
 
-      module _ (F : Found) (d m : ℕ) (counted : d ≡ how_many f (differs s.answers R)) (one : m ≡ pick (differs s.answers (set R f c) f) 1 0) where
+      module _ (best : Option Found) (d m : ℕ) (counted : d ≡ how_many f (differs s.answers R)) (one : m ≡ pick (differs s.answers (set R f c) f) 1 0) where
         counted_on : d + m ≡ how_many (suc f) (differs s.answers (set R f c))
         counted_on = omega (arith, many_agree s.answers f (set R f c) R set_agree f (le_refl f))
 
-        far : (q : List ℕ) → Agree (suc f) q (set R f c) → F.least ≤ d + m → F.least ≤ differing b s.answers q
-        far q g h = omega (arith, counted_on, many_agree s.answers (suc f) q (set R f c) g (suc f) (le_refl (suc f)), differing_upto q (suc f) (omega arith))
+        far : (q : List ℕ) → Agree (suc f) q (set R f c) → nearer (d + m) best ≡ false → nearer (differing b s.answers q) best ≡ false
+        far q g h =
+            nearer_more best (d + m) (differing b s.answers q)
+            (omega (arith, counted_on, many_agree s.answers (suc f) q (set R f c) g (suc f) (le_refl (suc f)), differing_upto q (suc f) (omega arith))) h
 
         -- too many fields differ
-        pub too_far : F.least ≤ d + m → choose b s (readings b k (take f R ++ (c ∷ []))) (held n F) ≡ held n F
+        pub too_far : nearer (d + m) best ≡ false → choose b s (readings b k (take f R ++ (c ∷ []))) (held n best) ≡ held n best
         too_far h =
-            choose_still b s (readings b k (take f R ++ (c ∷ []))) (held n F)
+            choose_still b s (readings b k (take f R ++ (c ∷ []))) (held n best)
             (λ q o.
-            after_near b s q (held n F)
-            (held_still n F (differing b s.answers q) q (far q (next_agree (continues b k (take f R ++ (c ∷ [])) o)) h)
-            (omega (arith, differing_is q, many_few n (differs s.answers q)))))
+            after_near b s q (held n best)
+            (held_still n best (differing b s.answers q) q (far q (next_agree (continues b k (take f R ++ (c ∷ [])) o)) h)))
 
     -- the codes are right up to the field
-    pub ready_next : (d m least least' : ℕ) → Ready b s R f d least → m ≡ pick (differs s.answers (set R f c) f) 1 0
-        → c < codes b f → (1 < codes b f → can_hold b.tables (set R f c) f ≡ true) → T (not (backed s f && differs s.answers (set R f c) f)) → d + m < least'
-        → Ready b s (set R f c) (f + 1) (d + m) least'
-    ready_next d m least least' o one own e k h =
+    pub ready_next : (d m : ℕ) (best best' : Option Found) → Ready b s R f d best → m ≡ pick (differs s.answers (set R f c) f) 1 0
+        → c < codes b f → (1 < codes b f → can_hold b.tables (set R f c) f ≡ true) → T (not (backed s f && differs s.answers (set R f c) f)) → nearer (d + m) best' ≡ true
+        → Ready b s (set R f c) (f + 1) (d + m) best'
+    ready_next d m best best' o one own e k h =
         record {
           within = omega arith;
           long = length-set R f c ∙ o.long;
@@ -151,20 +152,19 @@ module _ (b : Book) (w : WellFormed b) (s : Sheet) (n : ℕ) (en : length b.coun
               ⊎_elim (λ (i : g ≡ f). subst (λ (j : ℕ). T (not (backed s j && differs s.answers (set R f c) j))) (sym i) k)
               (λ (i : g < f). subst (λ (x : Bool). T (not (backed s g && x))) (sym (differs_agree s.answers f (set R f c) R set_agree g i)) (o.kept g i))
               (below_suc (rw add-one at l));
-          counted = rw add-one (counted_on 0 (record { least = 0; reading = [] }) d m o.counted one);
+          counted = rw add-one (counted_on 0 None d m o.counted one);
           fewer = h;
         }
 
   -- ---- every field has its code
 
-  pub ready_leaf : (R : List ℕ) (f d : ℕ) (F : Found) → n ≤ length R → any_empty b.tables ≡ false → Ready b s R f d F.least → n ≤ f
-      → held n (record { least = d; reading = R }) ≡ choose b s (readings b (n - f) (take f R)) (held n F)
+  pub ready_leaf : (R : List ℕ) (f d : ℕ) (best : Option Found) → n ≤ length R → any_empty b.tables ≡ false → Ready b s R f d best → n ≤ f
+      → found d (take n R) ≡ choose b s (readings b (n - f) (take f R)) (held n best)
   unfolding readings
-  ready_leaf R f d F long filled o h =
+  ready_leaf R f d best long filled o h =
       let e : n - f ≡ 0 = omega arith in
       let e' : f ≡ n = omega (arith, o.within) in
-      let m : d ≤ n = omega (arith, o.counted, many_few f (differs s.answers R)) in
-      held_found n (record { least = d; reading = R }) m ∙ rw (e, e') (sym whole)
+      rw (e, e') (sym whole)
     where
       same : n ≡ f
       same = omega (arith, o.within)
@@ -183,8 +183,8 @@ module _ (b : Book) (w : WellFormed b) (s : Sheet) (n : ℕ) (en : length b.coun
       kept : keeps_backed b s (take n R) ≡ true
       kept = keeps_all (take n R) (λ g l. subst (λ (x : Bool). T (not (backed s g && x))) (sym (differs_agree s.answers n (take n R) R agree g l)) (o.kept g (omega arith)))
 
-      whole : after b s (take n R) (held n F) ≡ found d (take n R)
+      whole : after b s (take n R) (held n best) ≡ found d (take n R)
       whole =
-          after_full b s (take n R) (held n F) full kept
-          ∙ held_nearer n F (differing b s.answers (take n R)) (take n R) (omega (arith, count_is, o.fewer))
+          after_full b s (take n R) (held n best) full kept
+          ∙ held_nearer n best (differing b s.answers (take n R)) (take n R) (ap (λ (k : ℕ). nearer k best) count_is ∙ o.fewer)
           ∙ ap (λ (k : ℕ). found k (take n R)) count_is

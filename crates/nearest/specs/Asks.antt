@@ -1,55 +1,51 @@
 -- What the search's inner functions ask of their callers, and what they answer. Assumes nothing.
-use Rattle.std.specs.Prelude.{ℕ, ◌+◌, ◌-◌, ◌*◌, ◌≤◌, ◌<◌, ◌≡◌, List, not, ◌&&◌, length, get_or, take, T, leb}
+use Rattle.std.specs.Prelude.{ℕ, ◌+◌, ◌-◌, ◌≤◌, ◌<◌, ◌≡◌, List, Bool, true, not, ◌&&◌, length, get_or, take, T, eqb, ltb, Option, None, Some}
 use Rattle.format.specs.Basics.{pick}
-use Rattle.format.specs.Format.{Book, arity_limit, length_limit, byte, arity_at, first_row}
+use Rattle.format.specs.Format.{Book}
 use Rattle.consistency.specs.Counting.{how_many}
 use Rattle.consistency.specs.Consistency.{places, Sheet, codes, backed}
 use Rattle.consistency.specs.Readings.{differs}
 use Rattle.consistency.specs.Nearest.{Nearest, none, found, choose, readings}
 use Rattle.nearest.specs.Words.{can_hold}
-use Rattle.nearest.specs.declared.Found.{Found}
-use Rattle.nearest.specs.declared.Turn.{Turn}
+use Rattle.nearest.specs.declared.turn.Found.{Found}
+use Rattle.nearest.specs.declared.turn.Turn.{Turn}
 
--- the codes r of the fields below f, of which d differ, and the nearest so far
-abbrev pub turn_at : List ℕ → ℕ → ℕ → Found → Turn
-turn_at r f d x = record { reading = r; f = f; differing = d; best = x }
+-- the nearest reading, of a book with n fields, as the search answers it
+abbrev pub held : ℕ → Option Found → Nearest
+held n None = none
+held n (Some x) = found x.differing (take n x.reading)
 
--- the reading of these codes, once every field has one
-abbrev pub found_at : Turn → Found
-found_at t = record { least = t.differing; reading = t.reading }
+-- a reading in which d fields differ is nearer than the best
+abbrev pub nearer : ℕ → Option Found → Bool
+nearer d None = true
+nearer d (Some x) = ltb d x.differing
 
--- the nearest so far, as the search holds it: none where more fields than the book has would differ
-unfoldable pub held : ℕ → Found → Nearest
-held fields x = pick (leb x.least fields) (found x.least (take fields x.reading)) none
+-- what code c adds to the number of differing fields at f
+abbrev pub apart_at : Sheet → ℕ → ℕ → ℕ
+apart_at s f c = pick (not (eqb (get_or s.answers f 0) 255) && not (eqb c (get_or s.answers f 0))) 1 0
 
--- n rows of a codes from p on, and what fills up the last, lie within the bytes; there is room for their words from k on
-pub record RowsPack (s : List ℕ) (a p n : ℕ) (w : List ℕ) (k : ℕ) : Type 0 where
-  pub some : 1 ≤ a
-  pub few : a ≤ arity_limit
-  pub within : p + n * a + arity_limit ≤ length s
-  pub room : k + n ≤ length w
+-- that many fields, where the best is beaten then and no photographed answer is another
+abbrev pub kept_with : Sheet → Turn → ℕ → Option ℕ
+kept_with s t m = pick (nearer m t.best && not (backed s t.f && ltb t.differing m)) (Some m) None
 
--- the table at p has few fields; they lie within the bytes, and a reading has a code for each
-pub record HeadFits (s : List ℕ) (p : ℕ) : Type 0 where
-  pub few : arity_at s p ≤ arity_limit
-  pub within : first_row s p ≤ length s
-  pub short : length s ≤ length_limit
-  pub known : (j : ℕ) → j < arity_at s p → byte s (p + 1 + j) < places
+-- the number of differing fields once field f has code c
+abbrev pub differing_with : Sheet → Turn → ℕ → Option ℕ
+differing_with s t c = kept_with s t (t.differing + apart_at s t.f c)
 
 -- r has right codes for the fields below f: the tables with such a field of two codes or more can hold them, the photographed answers are kept,
 -- and d of them differ, fewer than in the nearest so far
-pub record Ready (b : Book) (s : Sheet) (r : List ℕ) (f d least : ℕ) : Type 0 where
+pub record Ready (b : Book) (s : Sheet) (r : List ℕ) (f d : ℕ) (best : Option Found) : Type 0 where
   pub within : f ≤ length b.counts
   pub long : length r ≡ places
   pub own : (g : ℕ) → g < f → get_or r g 0 < codes b g
   pub rows : (g : ℕ) → g < f → 1 < codes b g → T (can_hold b.tables r g)
   pub kept : (g : ℕ) → g < f → T (not (backed s g && differs s.answers r g))
   pub counted : d ≡ how_many f (differs s.answers r)
-  pub fewer : d < least
+  pub fewer : nearer d best ≡ true
 
 -- turn t has right codes so far
 abbrev pub Right : Book → Sheet → Turn → Type 0
-Right b s t = Ready b s t.reading t.f t.differing t.best.least
+Right b s t = Ready b s t.reading t.f t.differing t.best
 
 -- what is left to be decided at turn t, of a book with n fields
 abbrev pub decides : Book → Sheet → ℕ → Turn → Nearest

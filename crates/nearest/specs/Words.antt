@@ -1,13 +1,12 @@
 -- What a table can still hold of a reading whose codes up to a field are chosen, and its rows as words, so that a row is held against those
 -- codes by one test. Assumes nothing.
-use Rattle.std.specs.Prelude.{ℕ, ◌+◌, ◌-◌, ◌*◌, ◌/◌, ◌^◌, ◌<◌, ◌≡◌, List, [], ◌∷◌, ◌++◌, map, Bool, true, false, not, ◌&&◌, ◌||◌, length, take, eqb}
-use Rattle.format.specs.Basics.{pick, All}
+use Rattle.std.specs.Prelude.{ℕ, ◌+◌, ◌-◌, ◌*◌, ◌/◌, ◌^◌, ◌<◌, ◌≡◌, List, [], ◌∷◌, ◌++◌, map, Bool, true, false, not, ◌&&◌, ◌||◌, length, take, eqb, Option, None, Some}
+use Rattle.format.specs.Basics.{All}
 use Rattle.format.specs.Format.{Table, is_in, book_of}
 use Rattle.words.specs.RowWord.{row_word, word_bits}
-use Rattle.book.specs.View.{Numbered}
 use Rattle.consistency.specs.Readings.{row_for}
 use Rattle.consistency.specs.Rows.{column_of, has_field}
-use Rattle.nearest.specs.declared.rows.Front.{Front}
+use Rattle.nearest.specs.declared.front.Front.{Front}
 
 -- ---- what a table can hold
 
@@ -48,15 +47,17 @@ front_word cs = word_from 0 cs
 abbrev pub word_front : ℕ → ℕ → ℕ
 word_front w y = y / 2 ^ (word_bits - 8 * w)
 
--- how many codes of r the rows of t are held against, and the codes as a number; 0 of them where f is no field of t
-abbrev pub front_at : Table → List ℕ → ℕ → Front
-front_at t r f =
-    pick (has_field t f) (record { width = width_of t f; word = front_word (front_of t r f) }) (record { width = 0; word = 0 })
-
--- what is found of them; each is a byte
-pub record IsFront (t : Table) (r : List ℕ) (f : ℕ) (x : Front) : Type 0 where
-  pub is : x ≡ front_at t r f
+-- f is a field of t, and x has r's codes for the fields of t up to it; each is a byte
+pub record FrontIn (t : Table) (r : List ℕ) (f : ℕ) (x : Front) : Type 0 where
+  pub field : has_field t f ≡ true
+  pub width_is : x.width ≡ width_of t f
+  pub word_is : x.word ≡ front_word (front_of t r f)
   pub bytes : All (λ (c : ℕ). c < 256) (front_of t r f)
+
+-- what is found of r's codes for the fields of t up to f: none where f is no field of it
+abbrev pub IsFront : Table → List ℕ → ℕ → Option Front → Type 0
+IsFront t r f None = has_field t f ≡ false
+IsFront t r f (Some x) = FrontIn t r f x
 
 -- the words of all rows, table by table
 unfoldable pub row_words : List Table → List ℕ
@@ -66,9 +67,3 @@ row_words (t ∷ ts) = map row_word t.rows ++ row_words ts
 -- the words of an accepted book's rows stand first in w
 pub record Packed (s w : List ℕ) : Type 0 where
   pub words : take (length (row_words (book_of s).tables)) w ≡ row_words (book_of s).tables
-
--- a view of an accepted book in which each table has a row, and its packed words
-pub record Searched (s : List ℕ) (list fields tables : ℕ) (w : List ℕ) : Type 0 where
-  pub numbers : Numbered s list fields tables
-  pub filled : any_empty (book_of s).tables ≡ false
-  pub packed : Packed s w

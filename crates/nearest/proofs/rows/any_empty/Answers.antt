@@ -1,35 +1,24 @@
-use mathlib.Core.Path.{◌∙◌}
-use Rattle.nearest.proofs.TableTurns.{walk_start, walk_end, walk_head, met, empty_start, empty_none, empty_yes, empty_on}
-use native.Mathlib.Omega.{arith}
+use mathlib.Core.Path.{◌∙◌, sym, ap}
+use Prim.Native.Nat.{ℕ}
+use Rattle.book.proofs.WalkSteps.{none_left, stepped, walked}
+use Rattle.nearest.specs.Words.{any_empty}
+use Rattle.nearest.proofs.TableTurns.{tables_left, empty_yes, empty_on}
 use Rattle.nearest.proofs.rows.any_empty.Goals as goal
 
-pub loop-i-init : goal.loop-i-init
-loop-i-init c = ((0, walk_start _ _ _ _ (c.requires)), empty_start _ _ c.requires.tables_is)
+pub returns-then-table-eq0 : goal.returns-then-table-eq0
+returns-then-table-eq0 c =
+    let w = stepped c.args.book c.loop-table.table-iterator c.next.new.self c.loop-table.invariant.0 c.in-Some.table c.in-Some.ensures.steps in
+    empty_yes _ _ _ _ _ _ w.table_in c.if-table-eq0.true ∙ c.loop-table.invariant.1
 
-pub bounds-book-at : goal.bounds-book-at
-bounds-book-at c = omega (arith, walk_head _ _ _ _ (c.requires) _ _ _ c.loop-i.invariant.0.1 c.loop-i-test.true)
-
-pub row_count-count-requires : goal.row_count-count-requires
-row_count-count-requires c = (omega (arith, walk_head _ _ _ _ (c.requires) _ _ _ c.loop-i.invariant.0.1 c.loop-i-test.true, c.wide-arity.ensures.0), c.requires.promise.short)
-
-pub returns-then-count-eq0 : goal.returns-then-count-eq0
-returns-then-count-eq0 c = empty_yes _ _ _ _ _ _ _ (met _ _ _ _ (c.requires) _ _ _ c.loop-i.invariant.0.1 c.loop-i-test.true _ _ c.wide-arity.ensures.0 c.row_count-count.ensures.0) c.if-count-eq0.true ∙ c.loop-i.invariant.1
-
-pub overflow_add-at : goal.overflow_add-at
-overflow_add-at c = omega (arith, walk_head _ _ _ _ (c.requires) _ _ _ c.loop-i.invariant.0.1 c.loop-i-test.true, c.requires.promise.short)
-
-pub overflow_add-at-in-loop-i : goal.overflow_add-at-in-loop-i
-overflow_add-at-in-loop-i c = omega (arith, walk_head _ _ _ _ (c.requires) _ _ _ c.loop-i.invariant.0.1 c.loop-i-test.true, c.requires.promise.short, c.wide-arity.ensures.0)
-
-pub overflow_mul-at : goal.overflow_mul-at
-overflow_mul-at c = omega (arith, (met _ _ _ _ (c.requires) _ _ _ c.loop-i.invariant.0.1 c.loop-i-test.true _ _ c.wide-arity.ensures.0 c.row_count-count.ensures.0).ends, c.requires.promise.short)
-
-pub overflow_add-at-in-loop-i-2 : goal.overflow_add-at-in-loop-i-2
-overflow_add-at-in-loop-i-2 c = omega (arith, (met _ _ _ _ (c.requires) _ _ _ c.loop-i.invariant.0.1 c.loop-i-test.true _ _ c.wide-arity.ensures.0 c.row_count-count.ensures.0).ends, c.requires.promise.short)
-
-pub loop-i-preserved : goal.loop-i-preserved
-loop-i-preserved c = let m = met _ _ _ _ (c.requires) _ _ _ c.loop-i.invariant.0.1 c.loop-i-test.true _ _ c.wide-arity.ensures.0 c.row_count-count.ensures.0 in
-    ((_, m.next), empty_on _ _ _ _ _ _ _ m c.if-count-eq0.false ∙ c.loop-i.invariant.1)
+pub loop-table-preserved : goal.loop-table-preserved
+loop-table-preserved c =
+    let w = stepped c.args.book c.loop-table.table-iterator c.next.new.self c.loop-table.invariant.0 c.in-Some.table c.in-Some.ensures.steps in (
+      w.book,
+      ap (λ (i : ℕ). any_empty (tables_left c.args.book.bytes.now i)) w.next ∙ empty_on _ _ _ _ _ _ w.table_in c.if-table-eq0.false
+          ∙ c.loop-table.invariant.1,
+    )
 
 pub returns : goal.returns
-returns c = empty_none _ _ _ (walk_end _ _ _ _ (c.requires) _ _ _ c.loop-i.invariant.0.1 c.loop-i-test.false) ∙ c.loop-i.invariant.1
+returns c =
+    sym (ap any_empty (none_left c.args.book.bytes.now c.loop-table.table-iterator.index (walked c.args.book c.loop-table.table-iterator c.next.new.self c.loop-table.invariant.0 c.in-None.ensures.steps)))
+    ∙ c.loop-table.invariant.1

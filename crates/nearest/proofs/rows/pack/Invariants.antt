@@ -1,15 +1,9 @@
--- `nearest::rows::pack` meets its contract. The loop's invariant: with the words of the tables left stored from first on, all are. Assumes nothing.
+-- `nearest::rows::pack` meets its contract. The loop's invariant: the words of the tables so far are stored. Assumes nothing.
 use mathlib.Core.Path.{◌≡◌}
-use Prim.Native.Nat.{◌-◌}
 use lib.ListN.{length}
-use lib.Seq.{sets}
-use Rattle.format.specs.Format.{tables_at}
-use Rattle.nearest.specs.Words.{row_words}
-use Rattle.nearest.proofs.TableTurns.{Walk, all_words}
+use Rattle.nearest.proofs.TableTurns.{Packing}
 use Rattle.nearest.proofs.rows.pack.Given as goal
 
-abbrev pub invariant-loop-i : goal.invariant-loop-i
-invariant-loop-i l = Walk l.book l.tables l.i l.at l.first × (length l.words ≡ length l.initial.words) × (sets l.words l.first (row_words (tables_at l.book l.at (l.tables - l.i))) ≡ sets l.initial.words 0 (all_words l.book))
-
-abbrev pub decreases-loop-i : goal.decreases-loop-i
-decreases-loop-i l = l.tables - l.i
+abbrev pub invariant-loop-table : goal.invariant-loop-table
+invariant-loop-table l =
+    (l.table-iterator.book ≡ l.book) × (length l.words ≡ length l.initial.words) × Packing l.book.bytes.now l.table-iterator.index l.first l.words

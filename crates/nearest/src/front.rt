@@ -1,0 +1,52 @@
+// A reading's codes for the fields of a table up to one of them, as one number: a row is held against them by one test.
+ghost use Rattle.std.specs.Prelude.{◌≤◌};
+
+use book::{PLACES, Table};
+
+// The bits of a row's word, a byte for each code that a row may have.
+const WORD_BITS: usize = 32;
+
+// How many codes, and the codes as a number.
+#[derive(Clone, Copy)]
+pub(crate) struct Front {
+    pub(crate) width: usize,
+    pub(crate) word: u32,
+    ghost fits: { (1 ≤ width) × (width ≤ 4) },
+}
+
+impl Front {
+    ghost use Rattle.std.specs.Prelude.{◌≡◌, map};
+    ghost use Rattle.format.specs.Format.{table_at};
+    ghost use Rattle.words.specs.Sorting.{is_among};
+    ghost use Rattle.nearest.specs.Words.{IsFront, word_front};
+
+    // Those of the table up to f, which may be no field of it.
+    pub(crate) fn of(table: Table<'_>, reading: &[u8; PLACES], f: usize) -> Option<Front>
+        ensures { IsFront (table_at table.entry.bytes.now table.entry.at) reading.now f result }
+    {
+        let mut word = 0u32;
+        for j in 0..table.arity {
+            let field = usize::from(table.bytes[table.at + 1 + j]);
+            word = word * 256 + u32::from(reading[field]);
+            if field == f {
+                return Some(Front { width: j + 1, word });
+            }
+        }
+        None
+    }
+
+    // Whether one of the rows, as words, begins with them. The search goes on where it has found one: without a way out of the loop several words
+    // are compared at a time.
+    pub(crate) fn begins(self, rows: &[u32]) -> bool
+        ensures { result ≡ is_among self.word (map (word_front self.width) rows.now) }
+    {
+        let shift = WORD_BITS - 8 * self.width;
+        let mut found = false;
+        for row in rows {
+            if self.word == *row >> shift {
+                found = true;
+            }
+        }
+        found
+    }
+}
