@@ -106,7 +106,7 @@ module _ (l : List ℕ) (f t : ℕ) (ef : f ≡ fields_in l) (et : t ≡ number_
   pub fields_within : 3 + f ≤ length l
   fields_within = omega (arith, ends_rise l (table_count_in l) (first_table l))
 
-  counts_run : length (part l 1 f) ≡ f
+  pub counts_run : length (part l 1 f) ≡ f
   counts_run = part_length l 1 f (omega (arith, fields_within))
 
   laid_size : length (laid_out l) ≡ length (laid_tables l f t) + f + 6
@@ -226,15 +226,14 @@ module _ (l : List ℕ) (f t : ℕ) (ef : f ≡ fields_in l) (et : t ≡ number_
     lay_counts out h =
         (omega (arith, fields_within l f t ef et g.whole), omega (arith, lay_size, g.short), (parts_bytes l f t ef et g.whole g.bytes).1.0)
 
-    pub lay_last : (out : List ℕ) → book_limit ≤ length out → (v : ℕ) → v ≡ last_number l → TrailerLays out (list + f) list f t v
-    lay_last out h v ev =
+    pub lay_last : (v : ℕ) → v ≡ last_number l → TrailerLays list f t v
+    lay_last v ev =
         let p = parts_bytes l f t ef et g.whole g.bytes in
         record {
           place_small = omega (arith, lay_size, g.short);
           fields_small = p.1.1.0;
           tables_small = p.1.1.1.0;
           version_small = omega (arith, p.1.1.1.1);
-          room = omega (arith, lay_size, g.short);
         }
 
     -- stored in three steps

@@ -1,15 +1,17 @@
 -- An answer is told by what is shown of it: no two answers of show, and no two of write, show the same. Assumes nothing.
-use mathlib.Core.Path.{◌≡◌, refl, ap}
+use mathlib.Core.Path.{◌≡◌, refl, ap, ap₂}
 use Prim.Native.Nat.{ℕ}
 use native.Mathlib.Omega.{arith}
 use mathlib.Core.List.{List}
+use Rattle.std.specs.Prelude.{Result, Ok, Err}
 use Rattle.format.specs.Writing.{Reply}
+use Rattle.book.specs.declared.refusals.Refusal.{Refusal}
 use Rattle.book.proofs.Injective.{number_some, number_few, number_injective}
 use Rattle.listing.specs.Answers.{showed, wrote}
-use Rattle.listing.specs.declared.Shown.{Shown}
-use Rattle.listing.specs.declared.Shown.TheVariants as shown
-use Rattle.listing.specs.declared.Written.{Written}
-use Rattle.listing.specs.declared.Written.TheVariants as written
+use Rattle.listing.specs.declared.refusals.ShowRefusal.{ShowRefusal}
+use Rattle.listing.specs.declared.refusals.ShowRefusal.TheVariants as show
+use Rattle.listing.specs.declared.refusals.WriteRefusal.{WriteRefusal}
+use Rattle.listing.specs.declared.refusals.WriteRefusal.TheVariants as write
 
 -- equal replies have equal parts
 numbers : {x y : Reply} → x ≡ y → x.outcome.number ≡ y.outcome.number
@@ -22,24 +24,25 @@ lists : {x y : Reply} → x ≡ y → x.outcome.counts ≡ y.outcome.counts
 lists e = ap (λ (r : Reply). r.outcome.counts) e
 
 module _ (o : List ℕ) where
-  pub showed_injective : (x y : Shown) → showed x o ≡ showed y o → x ≡ y
-  showed_injective (shown.Numbers n) (shown.Numbers m) e = cc (lists e)
-  showed_injective (shown.Numbers n) (shown.Refused k p) e = absurd (omega (arith, numbers e, number_some k))
-  showed_injective (shown.Numbers n) shown.TooShort e = absurd (omega (arith, numbers e))
-  showed_injective (shown.Refused j p) (shown.Numbers n) e = absurd (omega (arith, numbers e, number_some j))
-  showed_injective (shown.Refused j p) (shown.Refused k q) e = cc (number_injective j k (numbers e), places e)
-  showed_injective (shown.Refused j p) shown.TooShort e = absurd (omega (arith, numbers e, number_few j))
-  showed_injective shown.TooShort (shown.Numbers n) e = absurd (omega (arith, numbers e))
-  showed_injective shown.TooShort (shown.Refused k q) e = absurd (omega (arith, numbers e, number_few k))
-  showed_injective shown.TooShort shown.TooShort e = refl
+  pub showed_injective : (x y : Result ℕ ShowRefusal) → showed x o ≡ showed y o → x ≡ y
+  showed_injective (Ok n) (Ok m) e = cc (lists e)
+  showed_injective (Ok n) (Err (show.Book r)) e = absurd (omega (arith, numbers e, number_some r.kind))
+  showed_injective (Ok n) (Err show.Room) e = absurd (omega (arith, numbers e))
+  showed_injective (Err (show.Book r)) (Ok n) e = absurd (omega (arith, numbers e, number_some r.kind))
+  showed_injective (Err (show.Book r)) (Err (show.Book q)) e =
+      ap₂ (λ (kind : Refusal) (place : ℕ). Err (show.Book (record { kind = kind; place = place }))) (number_injective r.kind q.kind (numbers e)) (places e)
+  showed_injective (Err (show.Book r)) (Err show.Room) e = absurd (omega (arith, numbers e, number_few r.kind))
+  showed_injective (Err show.Room) (Ok n) e = absurd (omega (arith, numbers e))
+  showed_injective (Err show.Room) (Err (show.Book q)) e = absurd (omega (arith, numbers e, number_few q.kind))
+  showed_injective (Err show.Room) (Err show.Room) e = refl
 
-  pub wrote_injective : (x y : Written) → wrote x o ≡ wrote y o → x ≡ y
-  wrote_injective (written.Bytes n) (written.Bytes m) e = cc (lists e)
-  wrote_injective (written.Bytes n) written.Unwritable e = absurd (omega (arith, numbers e))
-  wrote_injective (written.Bytes n) written.TooShort e = absurd (omega (arith, numbers e))
-  wrote_injective written.Unwritable (written.Bytes n) e = absurd (omega (arith, numbers e))
-  wrote_injective written.Unwritable written.Unwritable e = refl
-  wrote_injective written.Unwritable written.TooShort e = absurd (omega (arith, numbers e))
-  wrote_injective written.TooShort (written.Bytes n) e = absurd (omega (arith, numbers e))
-  wrote_injective written.TooShort written.Unwritable e = absurd (omega (arith, numbers e))
-  wrote_injective written.TooShort written.TooShort e = refl
+  pub wrote_injective : (x y : Result ℕ WriteRefusal) → wrote x o ≡ wrote y o → x ≡ y
+  wrote_injective (Ok n) (Ok m) e = cc (lists e)
+  wrote_injective (Ok n) (Err write.Listing) e = absurd (omega (arith, numbers e))
+  wrote_injective (Ok n) (Err write.Room) e = absurd (omega (arith, numbers e))
+  wrote_injective (Err write.Listing) (Ok n) e = absurd (omega (arith, numbers e))
+  wrote_injective (Err write.Listing) (Err write.Listing) e = refl
+  wrote_injective (Err write.Listing) (Err write.Room) e = absurd (omega (arith, numbers e))
+  wrote_injective (Err write.Room) (Ok n) e = absurd (omega (arith, numbers e))
+  wrote_injective (Err write.Room) (Err write.Listing) e = absurd (omega (arith, numbers e))
+  wrote_injective (Err write.Room) (Err write.Room) e = refl

@@ -76,44 +76,41 @@ fitting l out at to a n ea en t =
 
 -- ---- the loop over the tables: left tables from at on
 
-module _ (l : List ℕ) (at left n : ℕ) (h : 0 < left) (ends : tables_end l at left ≤ length l) (en : n ≡ length (table_bytes (table_in l at))) where
+module _ (l : List ℕ) (at left k n : ℕ) (h : left ≡ suc k) (ends : tables_end l at left ≤ length l) (en : n ≡ length (table_bytes (table_in l at))) where
   -- one table, and those behind it
-  one_table : (k : ℕ) → left ≡ suc k → tables_end l at left ≡ tables_end l (table_end_in l at) k
+  one_table : tables_end l at left ≡ tables_end l (table_end_in l at) k
   unfolding tables_end
-  one_table k e = rw e
-
-  less : left ≡ suc (left - 1)
-  less = omega arith
+  one_table = rw h
 
   pub here_ends : table_end_in l at ≤ length l
-  here_ends = omega (arith, one_table (left - 1) less, ends_rise l (left - 1) (table_end_in l at))
+  here_ends = omega (arith, one_table, ends_rise l k (table_end_in l at))
 
   pub next_at : (at + (n - 1) ≡ table_end_in l at) × (1 ≤ n)
   next_at =
       let s = bytes_length l at (arity_in l at) (row_count_in l at) refl refl here_ends in
       (omega arith, omega arith)
 
-  pub next_ends : tables_end l (at + (n - 1)) (left - 1) ≤ length l
-  next_ends = rw next_at.0 (omega (arith, one_table (left - 1) less))
+  pub next_ends : tables_end l (at + (n - 1)) k ≤ length l
+  next_ends = rw next_at.0 (omega (arith, one_table))
 
-  one_laid : (k : ℕ) → left ≡ suc k → tables_bytes (tables_in l at left) ≡ table_bytes (table_in l at) ++ tables_bytes (tables_in l (table_end_in l at) k)
+  one_laid : tables_bytes (tables_in l at left) ≡ table_bytes (table_in l at) ++ tables_bytes (tables_in l (table_end_in l at) k)
   unfolding tables_in
-  one_laid k e = rw e
+  one_laid = rw h
 
-  laid_left : tables_bytes (tables_in l at left) ≡ table_bytes (table_in l at) ++ tables_bytes (tables_in l (at + (n - 1)) (left - 1))
-  laid_left = rw next_at.0 (one_laid (left - 1) less)
+  laid_left : tables_bytes (tables_in l at left) ≡ table_bytes (table_in l at) ++ tables_bytes (tables_in l (at + (n - 1)) k)
+  laid_left = rw next_at.0 (one_laid)
 
-  pub laid_length : length (tables_bytes (tables_in l at left)) ≡ n + length (tables_bytes (tables_in l (at + (n - 1)) (left - 1)))
-  laid_length = omega (arith, ap length laid_left, length-append (table_bytes (table_in l at)) (tables_bytes (tables_in l (at + (n - 1)) (left - 1))))
+  pub laid_length : length (tables_bytes (tables_in l at left)) ≡ n + length (tables_bytes (tables_in l (at + (n - 1)) k))
+  laid_length = omega (arith, ap length laid_left, length-append (table_bytes (table_in l at)) (tables_bytes (tables_in l (at + (n - 1)) k)))
 
-  pub laid_small : Bytes (tables_bytes (tables_in l at left)) → Bytes (table_bytes (table_in l at)) × Bytes (tables_bytes (tables_in l (at + (n - 1)) (left - 1)))
-  laid_small b = all_split (λ x. x < 256) (table_bytes (table_in l at)) (tables_bytes (tables_in l (at + (n - 1)) (left - 1))) (rw laid_left at b)
+  pub laid_small : Bytes (tables_bytes (tables_in l at left)) → Bytes (table_bytes (table_in l at)) × Bytes (tables_bytes (tables_in l (at + (n - 1)) k))
+  laid_small b = all_split (λ x. x < 256) (table_bytes (table_in l at)) (tables_bytes (tables_in l (at + (n - 1)) k)) (rw laid_left at b)
 
   pub laid_stored : (o o' : List ℕ) (to : ℕ) → o' ≡ sets o to (table_bytes (table_in l at))
-      → sets o' (to + n) (tables_bytes (tables_in l (at + (n - 1)) (left - 1))) ≡ sets o to (tables_bytes (tables_in l at left))
+      → sets o' (to + n) (tables_bytes (tables_in l (at + (n - 1)) k)) ≡ sets o to (tables_bytes (tables_in l at left))
   laid_stored o o' to d =
       rw (d, laid_left)
-      (sets_then o to (to + n) (table_bytes (table_in l at)) (tables_bytes (tables_in l (at + (n - 1)) (left - 1))) (ap (λ (k : ℕ). to + k) (sym en)))
+      (sets_then o to (to + n) (table_bytes (table_in l at)) (tables_bytes (tables_in l (at + (n - 1)) k)) (ap (λ (k : ℕ). to + k) (sym en)))
 
 -- no table is left
 pub laid_end : (l : List ℕ) (at left : ℕ) → left ≤ 0 → tables_bytes (tables_in l at left) ≡ []

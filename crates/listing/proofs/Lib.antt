@@ -1,4 +1,3 @@
-pub mod Scanning
 pub mod Showing
 pub mod ShowCases
 pub mod Laying

@@ -5,16 +5,19 @@ use mathlib.Core.List.{List}
 use Prim.Native.Nat.{ℕ, suc, ◌+◌, ◌-◌, ◌*◌, ◌≤◌, ◌<◌}
 use native.Mathlib.Nat.{mul-le-mul}
 use native.Mathlib.Omega.{arith}
-use lib.ListN.{length}
+use lib.ListN.{length, get_or}
 use lib.Dec.{eqb}
 use borrow.Author.Tests.{le-leb, lt-leb, lt-ltb, eqb-true, eq-eqb, ne_eqb}
 use Rattle.format.specs.Format.{part}
 use Rattle.format.specs.Listing.{number_at, arity_in, row_count_in, table_end_in}
 use Rattle.format.specs.Writing.{all_bytes}
+use Rattle.std.specs.Prelude.{Some, None, MatchBool}
+use Rattle.std.specs.List.{AllWithin, HoldsAt}
+use Rattle.format.proofs.ByteTests.{bytes_true, true_bytes}
+use Rattle.format.proofs.Elements.{all_of, all_at}
+use Rattle.format.specs.Basics.{pick}
 use Rattle.format.proofs.Picks.{same_test}
 use Rattle.listing.specs.Fits.{table_fits, tables_fit}
-use Rattle.listing.specs.Answers.{step_by}
-use Rattle.listing.specs.declared.tests.Step.TheVariants.{Next, Stop}
 use Rattle.listing.proofs.Laying.{end_in}
 
 -- the product of two 16-bit numbers
@@ -24,11 +27,27 @@ product_small a n h k =
     let k' : n ≤ 65535 = omega arith in
     mul-le-mul k' h'
 
+-- each number is a byte, or one is none
+pub all_tested : (xs : List ℕ) (r : Bool) → MatchBool r (AllWithin (λ x. x ≤ 255) xs 0 (length xs)) ((k : ℕ) × (k < length xs) × HoldsAt (λ x. 255 < x) xs k)
+    → r ≡ all_bytes xs
+all_tested xs true h = sym (true_bytes xs (all_of (λ x. x < 256) xs 0 (λ k l. small k (h k 0 (omega arith) l))))
+  where
+    small : (k : ℕ) → get_or xs k 0 ≤ 255 → get_or xs k 0 < 256
+    small k m = omega arith
+all_tested xs false h = go (all_bytes xs) refl
+  where
+    go : (t : Bool) → all_bytes xs ≡ t → false ≡ all_bytes xs
+    go true e =
+        let b = all_at (λ x. x < 256) xs 0 (bytes_true xs e) h.0 h.1 in
+        let n = h.2 0 in
+        absurd (omega arith)
+    go false e = sym e
+
 -- ---- the table at at
 
 module _ (l : List ℕ) (at : ℕ) where
   -- a table that ends behind the listing does not fit
-  pub stop_end : length l < table_end_in l at → Stop ≡ step_by (table_fits l at) (table_end_in l at)
+  pub stop_end : length l < table_end_in l at → None ≡ pick (table_fits l at) (Some (table_end_in l at)) None
   unfolding table_fits
   stop_end h = rw (lt-leb (table_end_in l at) (length l) h)
 
@@ -44,27 +63,27 @@ module _ (l : List ℕ) (at : ℕ) where
         let s : row_count_in l at < 65536 = omega (arith, ap (λ (x : ℕ). number_at l (at + 1 + x)) ea) in
         rw (f, g, le-leb (table_end_in l at) (length l) inside, lt-ltb (row_count_in l at) 65536 s, en, ea)
 
-    pub stop_head : (b : Bool) → b ≡ all_bytes (part l at (at + 1 + a - at)) → b ≡ false → Stop ≡ step_by (table_fits l at) (table_end_in l at)
+    pub stop_head : (b : Bool) → b ≡ all_bytes (part l at (at + 1 + a - at)) → b ≡ false → None ≡ pick (table_fits l at) (Some (table_end_in l at)) None
     stop_head b e f = rw (decided, sym e ∙ f)
 
     module _ (b : Bool) (e : b ≡ all_bytes (part l at (at + 1 + a - at))) (f : b ≡ true) (d : Bool)
         (g : d ≡ all_bytes (part l (at + 2 + a) (at + 2 + a + n * a - (at + 2 + a))))
       where
-        pub stop_codes : d ≡ false → Stop ≡ step_by (table_fits l at) (table_end_in l at)
+        pub stop_codes : d ≡ false → None ≡ pick (table_fits l at) (Some (table_end_in l at)) None
         stop_codes k = rw (decided, sym e ∙ f, sym g ∙ k)
 
-        pub next_table : d ≡ true → Next (at + 2 + a + n * a) ≡ step_by (table_fits l at) (table_end_in l at)
+        pub next_table : d ≡ true → Some (at + 2 + a + n * a) ≡ pick (table_fits l at) (Some (table_end_in l at)) None
         next_table k = rw (decided, sym e ∙ f, sym g ∙ k, end_in l at a n ea en)
 
 -- ---- the loop over the tables: left tables from at on
 
--- a step that went on, and one that stopped
-went : (t : Bool) (end e : ℕ) → Next e ≡ step_by t end → (t ≡ true) × (e ≡ end)
+-- a table that can be laid out, and one that cannot
+went : (t : Bool) (end e : ℕ) → Some e ≡ pick t (Some end) None → (t ≡ true) × (e ≡ end)
 went true end e d = (refl, cc)
-went false end e d = let z : ◌≡◌ {A = ℕ} 0 1 = cc in absurd (omega arith)
+went false end e d = absurd (cc)
 
-stopped : (t : Bool) (end : ℕ) → Stop ≡ step_by t end → t ≡ false
-stopped true end d = let z : ◌≡◌ {A = ℕ} 0 1 = cc in absurd (omega arith)
+stopped : (t : Bool) (end : ℕ) → None ≡ pick t (Some end) None → t ≡ false
+stopped true end d = absurd (cc)
 stopped false end d = refl
 
 module _ (l : List ℕ) (at left : ℕ) where
@@ -72,13 +91,13 @@ module _ (l : List ℕ) (at left : ℕ) where
   unfolding tables_fit
   one_fits k e = rw e
 
-  pub fit_next : 0 < left → (end : ℕ) → Next end ≡ step_by (table_fits l at) (table_end_in l at) → tables_fit l end (left - 1) ≡ tables_fit l at left
-  fit_next h end d =
+  pub fit_next : (k : ℕ) → left ≡ suc k → (end : ℕ) → Some end ≡ pick (table_fits l at) (Some (table_end_in l at)) None → tables_fit l end k ≡ tables_fit l at left
+  fit_next k h end d =
       let w = went (table_fits l at) (table_end_in l at) end d in
-      rw (one_fits (left - 1) (omega arith), w.0, w.1)
+      rw (one_fits k h, w.0, w.1)
 
-  pub fit_stop : 0 < left → Stop ≡ step_by (table_fits l at) (table_end_in l at) → false ≡ tables_fit l at left
-  fit_stop h d = rw (one_fits (left - 1) (omega arith), stopped (table_fits l at) (table_end_in l at) d)
+  pub fit_stop : (k : ℕ) → left ≡ suc k → None ≡ pick (table_fits l at) (Some (table_end_in l at)) None → false ≡ tables_fit l at left
+  fit_stop k h d = rw (one_fits k h, stopped (table_fits l at) (table_end_in l at) d)
 
   -- with no table left, the version alone is behind them
   ended : left ≤ 0 → eqb (at + 1) (length l) ≡ tables_fit l at left

@@ -13,7 +13,6 @@ use Rattle.format.specs.WriteAndShow.{HasListing}
 use Rattle.format.proofs.Trailer.{fail≢pass}
 use Rattle.format.proofs.Accepted.{accepted_verdict, verdict_accepted}
 use Rattle.format.proofs.Storing.{sets_front}
-use Rattle.format.proofs.Copying.{copied_whole}
 use Rattle.format.proofs.Replies.{into_short, into_whole}
 use Rattle.format.proofs.Writable.{writable_says, says_writable}
 use Rattle.format.proofs.WriteAndShow.{book_well, write_and_show}
@@ -40,12 +39,12 @@ module _ (l out : List ℕ) where
     pub wrote_short : (n : ℕ) → n ≡ length (laid_out l) → length out < n → declined out 18 0 ≡ writing l out
     wrote_short n en h = sym (writes ∙ into_short (laid_out l) out (rw en at h))
 
-    -- the bytes s, copied
-    pub wrote_whole : (n : ℕ) → n ≡ length (laid_out l) → n ≤ length out → (s out' : List ℕ) → s ≡ laid_out l → out' ≡ take (length out) s ++ drop (length s) out
-        → record { outcome = accepted (n ∷ []); buffer = out' } ≡ writing l out
-    wrote_whole n en h s out' es d =
+    -- the bytes u, written at the front
+    pub wrote_whole : (n : ℕ) → n ≡ length (laid_out l) → n ≤ length out → (u : List ℕ) → u ≡ laid_out l
+        → record { outcome = accepted (n ∷ []); buffer = u ++ drop n out } ≡ writing l out
+    wrote_whole n en h u eu =
         let k : length (laid_out l) ≤ length out = rw en at h in
-        sym (writes ∙ into_whole (laid_out l) out k ∙ rw (d, es, copied_whole (laid_out l) out k, en))
+        sym (writes ∙ into_whole (laid_out l) out k ∙ rw (eu, en))
 
 -- what can be written fits
 writable_fits : (l : List ℕ) → writable l ≡ true → Fitted l

@@ -1,28 +1,17 @@
 -- The answers of show and write in the papers' terms: number, place and count for each, with the contents of the memory lent. Assumes nothing.
-use Rattle.std.specs.Prelude.{ℕ, List, [], ◌∷◌, Bool, true, false}
+use Rattle.std.specs.Prelude.{ℕ, List, [], ◌∷◌, Result, Ok, Err}
 use Rattle.format.specs.Reading.{accepted}
 use Rattle.format.specs.Writing.{Reply, declined}
-use Rattle.book.specs.Shown.{number_of}
-use Rattle.listing.specs.declared.Shown.{Shown}
-use Rattle.listing.specs.declared.Shown.TheVariants as shown
-use Rattle.listing.specs.declared.Written.{Written}
-use Rattle.listing.specs.declared.Written.TheVariants as written
-use Rattle.listing.specs.declared.tests.Step.{Step}
-use Rattle.listing.specs.declared.tests.Step.TheVariants.{Next, Stop}
+use Rattle.listing.specs.Refusals.{show_number, show_place, write_number}
+use Rattle.listing.specs.declared.refusals.ShowRefusal.{ShowRefusal}
+use Rattle.listing.specs.declared.refusals.WriteRefusal.{WriteRefusal}
 
--- showing: 1 to 13 by the reader's kinds, 18
-abbrev pub showed : Shown → List ℕ → Reply
-showed (shown.Numbers n) o = record { outcome = accepted (n ∷ []); buffer = o }
-showed (shown.Refused kind place) o = declined o (number_of kind) place
-showed shown.TooShort o = declined o 18 0
+-- showing: how many numbers were written, or the refusal
+abbrev pub showed : Result ℕ ShowRefusal → List ℕ → Reply
+showed (Ok n) o = record { outcome = accepted (n ∷ []); buffer = o }
+showed (Err r) o = declined o (show_number r) (show_place r)
 
--- writing: 20, 18
-abbrev pub wrote : Written → List ℕ → Reply
-wrote (written.Bytes n) o = record { outcome = accepted (n ∷ []); buffer = o }
-wrote written.Unwritable o = declined o 20 0
-wrote written.TooShort o = declined o 18 0
-
--- the answer of a table's test: the place behind a table that can be laid out
-abbrev pub step_by : Bool → ℕ → Step
-step_by true end = Next end
-step_by false end = Stop
+-- writing: how many bytes were written, or the refusal
+abbrev pub wrote : Result ℕ WriteRefusal → List ℕ → Reply
+wrote (Ok n) o = record { outcome = accepted (n ∷ []); buffer = o }
+wrote (Err r) o = declined o (write_number r) 0

@@ -1,19 +1,8 @@
--- What the inner functions ask: where the table that they show or lay out lies, and the room for it. Assumes nothing.
+-- What the inner functions ask: where the table that they lay out lies, and the room for it. Assumes nothing.
 use Rattle.std.specs.Prelude.{ℕ, ◌+◌, ◌≤◌, ◌<◌, List, length}
-use Rattle.format.specs.Format.{table_end, table_at, tables_at, table_bytes, tables_bytes}
-use Rattle.format.specs.Promise.{place}
+use Rattle.format.specs.Format.{table_bytes, tables_bytes}
 use Rattle.format.specs.Layout.{Bytes}
-use Rattle.format.specs.Listing.{table_numbers, tables_numbers, table_end_in, table_in, tables_in, tables_end}
-
--- the table at at lies within the bytes, and its numbers fit behind to
-pub record TableShows (s : List ℕ) (at : ℕ) (out : List ℕ) (to : ℕ) : Type 0 where
-  pub ends : table_end s at ≤ length s
-  pub room : to + length (table_numbers (table_at s at)) ≤ length out
-
--- so do n tables from byte 0 on
-pub record TablesShow (s : List ℕ) (n : ℕ) (out : List ℕ) (to : ℕ) : Type 0 where
-  pub ends : place s n ≤ length s
-  pub room : to + length (tables_numbers (tables_at s 0 n)) ≤ length out
+use Rattle.format.specs.Listing.{table_end_in, table_in, tables_in, tables_end}
 
 -- the table at at lies within the listing, its numbers fit their bytes, and its bytes fit behind to
 pub record TableLays (l : List ℕ) (at : ℕ) (out : List ℕ) (to : ℕ) : Type 0 where
@@ -27,10 +16,9 @@ pub record TablesLay (l : List ℕ) (at n : ℕ) (out : List ℕ) : Type 0 where
   pub small : Bytes (tables_bytes (tables_in l at n))
   pub room : length (tables_bytes (tables_in l at n)) ≤ length out
 
--- the trailer's numbers fit their bytes, and its six bytes fit behind at
-pub record TrailerLays (out : List ℕ) (at list fields tables version : ℕ) : Type 0 where
+-- the trailer's numbers fit their bytes
+pub record TrailerLays (list fields tables version : ℕ) : Type 0 where
   pub place_small : list < 65536
   pub fields_small : fields < 256
   pub tables_small : tables < 256
   pub version_small : version < 256
-  pub room : at + 6 ≤ length out

@@ -1,3 +1,4 @@
 pub mod Fits
 pub mod Bounds
+pub mod Refusals
 pub mod Answers

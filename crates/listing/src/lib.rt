@@ -6,74 +6,45 @@ ghost use Rattle.format.specs.Writing.{showing, writing};
 ghost use Rattle.format.specs.WriteAndShow.{HasListing};
 ghost use Rattle.listing.specs.Answers.{showed, wrote};
 
-use book::{BOOK_LIMIT, Checked, Refusal};
+use book::{BOOK_LIMIT, Book};
 
 mod layout;
 mod numbers;
+mod refusals;
 mod tests;
 
-// What show answers: how many numbers it wrote, the reader's refusal of the book and its place, or that fewer are lent.
-#[derive(Clone, Copy)]
-pub enum Shown {
-    Numbers(usize),
-    Refused(Refusal, usize),
-    TooShort,
-}
+pub use refusals::{ShowRefusal, WriteRefusal};
 
-// What write answers: how many bytes it wrote, that the numbers are no book's listing, or that fewer bytes are lent.
-#[derive(Clone, Copy)]
-pub enum Written {
-    Bytes(usize),
-    Unwritable,
-    TooShort,
-}
-
-// Shows a book's listing. A table has one number less than bytes, so that the listing's length is known before it is written.
-pub fn show(book: &[u8], out: &mut [u16]) -> Shown
-    ensures { showed result out.new ≡ showing book.now out.old }
+// Shows a book's listing, and answers how many numbers it has. A table has one number less than bytes, so that this is known before it is written.
+pub fn show(bytes: &[u8], out: &mut [u16]) -> Result<usize, ShowRefusal>
+    ensures { showed result out.new ≡ showing bytes.now out.old }
 {
-    let checked = book::check(book);
-    match checked {
-        Checked::Refused(kind, place) => Shown::Refused(kind, place),
-        Checked::Good {
-            list,
-            fields,
-            tables,
-            rows: _,
-        } => {
-            let count = 3 + fields + list - tables;
-            if out.len() < count {
-                return Shown::TooShort;
-            }
-            numbers::show_book(book, list, fields, tables, out);
-            Shown::Numbers(count)
-        }
+    let book = Book::open(bytes)?;
+    let count = 3 + book.fields + book.list - book.tables;
+    if out.len() < count {
+        return Err(ShowRefusal::Room);
     }
+    numbers::show_book(book, out);
+    Ok(count)
 }
 
-// Writes the bytes of the book that a listing says. They are laid out and checked apart from the memory lent, so that a refusal leaves it.
-pub fn write(listing: &[u16], out: &mut [u8]) -> Written
+// Writes the bytes of the book that a listing says, and answers how many they are. They are laid out and checked apart from the memory lent, so that
+// a refusal leaves it.
+pub fn write(listing: &[u16], out: &mut [u8]) -> Result<usize, WriteRefusal>
     ensures answer { wrote result out.new ≡ writing listing.now out.old }
     ensures listing { (wrote result out.new).outcome.number ≢ 20 ↔ HasListing listing.now }
 {
     if !tests::fits(listing) {
-        return Written::Unwritable;
+        return Err(WriteRefusal::Listing);
     }
     let mut scratch = [0u8; BOOK_LIMIT];
     let n = layout::lay_out(listing, &mut scratch);
-    let checked = book::check(&scratch[..n]);
-    let Checked::Good {
-        list: _,
-        fields: _,
-        tables: _,
-        rows: _,
-    } = checked
-    else {
-        return Written::Unwritable;
+    let Ok(_) = Book::open(&scratch[..n]) else {
+        return Err(WriteRefusal::Listing);
     };
     if out.len() < n {
-        return Written::TooShort;
+        return Err(WriteRefusal::Room);
     }
-    book::copy(&scratch[..n], out);
-    Written::Bytes(n)
+    out[..n].copy_from_slice(&scratch[..n]);
+    Ok(n)
 }

@@ -1,69 +1,47 @@
 // Whether a listing can be laid out: no number is missing, left over or too large for its bytes, and the bytes are no more than a book's.
-ghost use Rattle.std.specs.Prelude.{◌≡◌, ◌-◌, ◌≤◌, length};
-ghost use Rattle.format.specs.Format.{part};
+ghost use Rattle.std.specs.Prelude.{◌≡◌, Some, None};
+ghost use Rattle.format.specs.Basics.{pick};
 ghost use Rattle.format.specs.Listing.{table_end_in};
 ghost use Rattle.format.specs.Writing.{all_bytes};
 ghost use Rattle.listing.specs.Fits.{table_fits, tables_fit, fits};
-ghost use Rattle.listing.specs.Answers.{step_by};
 
 use book::BOOK_LIMIT;
 
 const BYTE_LIMIT: u16 = 255;
 
-// A table's answer: the place behind it, or that it cannot be laid out.
-#[derive(Clone, Copy)]
-pub(crate) enum Step {
-    Next(usize),
-    Stop,
-}
-
-pub(crate) fn wide(x: u16) -> usize
-    ensures { result ≡ x }
+// Whether each number is a byte.
+fn all_bytes(numbers: &[u16]) -> bool
+    ensures { result ≡ all_bytes numbers.now }
 {
-    x as usize
+    numbers.iter().all(|number| *number <= BYTE_LIMIT)
 }
 
-// Whether each number from `from` on and before `end` is a byte.
-fn all_bytes(listing: &[u16], from: usize, end: usize) -> bool
-    requires { (from ≤ end) × (end ≤ length listing.now) }
-    ensures { result ≡ all_bytes (part listing.now from (end - from)) }
-{
-    let mut i = from;
-    while i < end {
-        if BYTE_LIMIT < listing[i] {
-            return false;
-        }
-        i += 1;
-    }
-    true
-}
-
-// The table at `at`. Its number of rows has two bytes, as each number of the listing.
-fn table(listing: &[u16], at: usize) -> Step
-    ensures { result ≡ step_by (table_fits listing.now at) (table_end_in listing.now at) }
+// The place behind the table at `at`, if it can be laid out. Its number of rows has two bytes, as each number of the listing.
+fn table(listing: &[u16], at: usize) -> Option<usize>
+    ensures { result ≡ pick (table_fits listing.now at) (Some (table_end_in listing.now at)) None }
 {
     let n = listing.len();
     if n <= at {
-        return Step::Stop;
+        return None;
     }
-    let arity = wide(listing[at]);
+    let arity = usize::from(listing[at]);
     let count = at + 1 + arity;
     if n <= count {
-        return Step::Stop;
+        return None;
     }
-    let rows = wide(listing[count]);
+    let rows = usize::from(listing[count]);
     let first = at + 2 + arity;
     let end = first + rows * arity;
     if n < end {
-        return Step::Stop;
+        return None;
     }
-    if !all_bytes(listing, at, count) {
-        return Step::Stop;
+    if !all_bytes(&listing[at..count]) {
+        return None;
     }
-    if !all_bytes(listing, first, end) {
-        return Step::Stop;
+    if !all_bytes(&listing[first..end]) {
+        return None;
     }
-    Step::Next(end)
+    Some(end)
 }
 
 // The tables from `at` on, with one number behind them, the version.
@@ -71,18 +49,11 @@ fn tables(listing: &[u16], at: usize, count: usize) -> bool
     ensures { result ≡ tables_fit listing.now at count }
 {
     let mut next = at;
-    let mut left = count;
-    while 0 < left {
-        let step = table(listing, next);
-        match step {
-            Step::Stop => {
-                return false;
-            }
-            Step::Next(end) => {
-                next = end;
-            }
-        }
-        left -= 1;
+    for _ in 0..count {
+        let Some(end) = table(listing, next) else {
+            return false;
+        };
+        next = end;
     }
     if listing.len() <= next {
         return false;
@@ -102,7 +73,7 @@ pub(crate) fn fits(listing: &[u16]) -> bool
     if BYTE_LIMIT < listing[0] {
         return false;
     }
-    let fields = wide(listing[0]);
+    let fields = usize::from(listing[0]);
     if n < 3 + fields {
         return false;
     }
@@ -110,14 +81,14 @@ pub(crate) fn fits(listing: &[u16]) -> bool
     if BYTE_LIMIT < listing[count] {
         return false;
     }
-    let number = wide(listing[count]);
+    let number = usize::from(listing[count]);
     if BOOK_LIMIT < n + number + 3 {
         return false;
     }
     if BYTE_LIMIT < listing[n - 1] {
         return false;
     }
-    if !all_bytes(listing, 1, count) {
+    if !all_bytes(&listing[1..count]) {
         return false;
     }
     tables(listing, 2 + fields, number)

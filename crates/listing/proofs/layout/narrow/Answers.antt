@@ -1,31 +1,12 @@
-use mathlib.Core.Path.{◌≡◌, refl, ap, ◌∙◌}
+use mathlib.Core.Path.{ap, ◌∙◌}
 use mathlib.Core.List.{List}
 use Prim.Native.Nat.{ℕ, ◌+◌}
-use lib.ListN.{length, set}
-use lib.Seq.{sets, length-sets}
-use Rattle.format.specs.Format.{byte, part}
-use Rattle.format.proofs.Storing.{stored_more}
-use Rattle.format.proofs.ByteTests.{byte_in}
-use borrow.Author.Rules.{rules}
+use lib.ListN.{get_or, set}
 use native.Mathlib.Omega.{arith}
+use Rattle.listing.proofs.Showing.{stored_on}
 use Rattle.listing.proofs.layout.narrow.Goals as goal
 
-pub loop-i-init : goal.loop-i-init
-loop-i-init c = (search rules, refl)
-
-pub overflow_cast-out : goal.overflow_cast-out
-overflow_cast-out c = omega (arith, byte_in c.args.listing.now c.args.from c.args.n c.loop-i.i c.requires.2 c.requires.0 (omega arith))
-
-pub bounds-out-to : goal.bounds-out-to
-bounds-out-to c = omega (arith, ap length c.loop-i.invariant.1, length-sets c.args.out.now c.args.to (part c.args.listing.now c.args.from c.loop-i.i))
-
 pub loop-i-preserved : goal.loop-i-preserved
-loop-i-preserved c = let stored = ap (λ (l : List ℕ). set l (c.args.to + c.loop-i.i) (byte c.args.listing.now (c.args.from + c.loop-i.i))) c.loop-i.invariant.1 in
-    (search rules, stored ∙ stored_more c.args.out.now c.args.listing.now c.args.to c.args.from c.loop-i.i (omega arith))
-
-pub shape_of-out : goal.shape_of-out
-shape_of-out c = ap length c.loop-i.invariant.1 ∙ length-sets c.args.out.now c.args.to (part c.args.listing.now c.args.from c.loop-i.i)
-
-pub returns : goal.returns
-returns c = let all : c.loop-i.i ≡ c.args.n = omega arith in
-    c.loop-i.invariant.1 ∙ ap (λ (k : ℕ). sets c.args.out.now c.args.to (part c.args.listing.now c.args.from k)) all
+loop-i-preserved c =
+    ap (λ (o : List ℕ). set o (c.args.to + c.loop-i.i) (get_or c.args.numbers.now c.loop-i.i 0)) c.loop-i.invariant
+    ∙ stored_on c.args.out.now c.args.numbers.now c.args.to c.loop-i.i (omega arith)

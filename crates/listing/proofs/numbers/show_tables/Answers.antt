@@ -1,41 +1,34 @@
-use mathlib.Core.Path.{refl, sym, ap, ◌∙◌}
-use lib.ListN.{length}
-use lib.Seq.{sets, length-sets}
-use Rattle.book.proofs.Rows.{place_start}
-use Rattle.listing.proofs.Showing.{shown_start, shown_end, table_ends, next_within, next_place, length_left, left_stored}
-use borrow.Author.Rules.{rules}
+use mathlib.Core.Path.{sym, ap, ◌∙◌}
+use lib.Seq.{sets}
 use native.Mathlib.Omega.{arith}
+use Rattle.book.proofs.WalkSteps.{none_left, stepped, walked}
+use Rattle.format.specs.Listing.{tables_numbers}
+use Rattle.listing.proofs.Showing.{length_left, left_stored}
 use Rattle.listing.proofs.numbers.show_tables.Goals as goal
 
-pub loop-i-init : goal.loop-i-init
-loop-i-init c = let s = c.args.book.now in
-    (search rules, place_start s, rw (shown_start s c.args.tables) c.requires.room, rw (shown_start s c.args.tables))
-
-pub show_table-n-requires : goal.show_table-n-requires
-show_table-n-requires c = let s = c.args.book.now in
-    let ends = table_ends s c.args.tables c.loop-i.i c.loop-i.at _ c.loop-i-test.true c.loop-i.invariant.1 c.requires.ends refl in
-    let len = length_left s c.args.tables c.loop-i.i c.loop-i.at _ c.loop-i-test.true c.loop-i.invariant.1 c.requires.ends refl in
-    record { ends = ends; room = omega (arith, c.loop-i.invariant.2, len) }
-
-pub overflow_add-at : goal.overflow_add-at
-overflow_add-at c = omega (arith, next_within c.args.book.now c.args.tables c.loop-i.i c.loop-i.at _ c.loop-i-test.true c.loop-i.invariant.1 c.requires.ends c.show_table-n.ensures.0)
-
-pub overflow_add-at-in-loop-i : goal.overflow_add-at-in-loop-i
-overflow_add-at-in-loop-i c = omega (arith, next_within c.args.book.now c.args.tables c.loop-i.i c.loop-i.at _ c.loop-i-test.true c.loop-i.invariant.1 c.requires.ends c.show_table-n.ensures.0)
+pub show_table-to-requires : goal.show_table-to-requires
+show_table-to-requires c =
+    let w = stepped c.args.book c.loop-table.table-iterator c.next.new.self c.loop-table.invariant.0 c.in-Some.table c.in-Some.ensures.steps in
+    rw w.bytes (omega (arith, c.loop-table.invariant.1, length_left _ _ _ _ _ _ w.table_in))
 
 pub overflow_add-to : goal.overflow_add-to
-overflow_add-to c = omega (arith, c.loop-i.invariant.2, length_left c.args.book.now c.args.tables c.loop-i.i c.loop-i.at _ c.loop-i-test.true c.loop-i.invariant.1 c.requires.ends c.show_table-n.ensures.0, simp length-sets at (ap length c.loop-i.invariant.3))
+overflow_add-to c =
+    let w = stepped c.args.book c.loop-table.table-iterator c.next.new.self c.loop-table.invariant.0 c.in-Some.table c.in-Some.ensures.steps in
+    omega (arith, c.loop-table.invariant.1, length_left _ _ _ _ _ _ w.table_in, rw w.bytes at c.show_table-to.ensures.count)
 
-pub loop-i-preserved : goal.loop-i-preserved
-loop-i-preserved c = let s = c.args.book.now in
-    let len = length_left s c.args.tables c.loop-i.i c.loop-i.at _ c.loop-i-test.true c.loop-i.invariant.1 c.requires.ends c.show_table-n.ensures.0 in
-    let next = next_place s c.args.tables c.loop-i.i c.loop-i.at _ c.loop-i-test.true c.loop-i.invariant.1 c.requires.ends c.show_table-n.ensures.0 in
-    let same = simp length-sets at (ap length c.show_table-n.ensures.1) in
-    (search rules, next, omega (arith, c.loop-i.invariant.2, same), left_stored s c.args.tables c.loop-i.i c.loop-i.at _ c.loop-i-test.true c.loop-i.invariant.1 c.requires.ends c.show_table-n.ensures.0 _ _ c.loop-i.to c.show_table-n.ensures.1 ∙ c.loop-i.invariant.3)
-
-pub shape_of-out : goal.shape_of-out
-shape_of-out c = simp length-sets at (ap length c.loop-i.invariant.3)
+pub loop-table-preserved : goal.loop-table-preserved
+loop-table-preserved c =
+    let w = stepped c.args.book c.loop-table.table-iterator c.next.new.self c.loop-table.invariant.0 c.in-Some.table c.in-Some.ensures.steps in
+    let n = rw w.bytes at c.show_table-to.ensures.count in (
+      w.book,
+      rw w.next (omega (arith, c.loop-table.invariant.1, length_left _ _ _ _ _ _ w.table_in, n)),
+      rw w.next (left_stored _ _ _ _ _ _ w.table_in _ _ c.loop-table.to _ n (rw w.bytes at c.show_table-to.ensures.written)) ∙ c.loop-table.invariant.2,
+    )
 
 pub returns : goal.returns
-returns c = let none = shown_end c.args.book.now c.args.tables c.loop-i.i c.loop-i.at c.loop-i-test.false in
-    sym (ap (sets c.loop-i.out c.loop-i.to) none) ∙ c.loop-i.invariant.3
+returns c =
+    sym (ap (sets c.loop-table.out c.loop-table.to)
+    (ap tables_numbers
+    (none_left c.args.book.bytes.now c.loop-table.table-iterator.index
+    (walked c.args.book c.loop-table.table-iterator c.next.new.self c.loop-table.invariant.0 c.in-None.ensures.steps))))
+    ∙ c.loop-table.invariant.2

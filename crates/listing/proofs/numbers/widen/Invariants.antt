@@ -1,12 +1,8 @@
 -- `listing::numbers::widen` meets its contract. The loop's invariant: the first i bytes are written. Assumes nothing.
 use mathlib.Core.Path.{◌≡◌}
-use Prim.Native.Nat.{◌≤◌, ◌-◌}
+use lib.ListN.{take}
 use lib.Seq.{sets}
-use Rattle.format.specs.Format.{part}
 use Rattle.listing.proofs.numbers.widen.Given as goal
 
 abbrev pub invariant-loop-i : goal.invariant-loop-i
-invariant-loop-i l = (l.i ≤ l.n) × (l.out ≡ sets l.initial.out l.to (part l.book l.from l.i))
-
-abbrev pub decreases-loop-i : goal.decreases-loop-i
-decreases-loop-i l = l.n - l.i
+invariant-loop-i l = l.out ≡ sets l.initial.out l.to (take l.i l.bytes)

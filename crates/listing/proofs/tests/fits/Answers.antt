@@ -11,20 +11,20 @@ pub returns-then-listing-gt-BYTE_LIMIT : goal.returns-then-listing-gt-BYTE_LIMIT
 returns-then-listing-gt-BYTE_LIMIT c = unfit c.args.listing.now (λ g. omega (arith, c.if-listing-gt-BYTE_LIMIT.true, (parts_bytes c.args.listing.now _ _ refl refl g.whole g.bytes).1.1.0))
 
 pub returns-then-n-fields : goal.returns-then-n-fields
-returns-then-n-fields c = unfit c.args.listing.now (λ g. omega (arith, c.if-n-fields.true, fields_within c.args.listing.now _ _ c.wide-fields.ensures refl g.whole))
+returns-then-n-fields c = unfit c.args.listing.now (λ g. omega (arith, c.if-n-fields.true, fields_within c.args.listing.now _ _ c.from-fields.ensures refl g.whole))
 
 pub returns-then-listing-count-gt-BYTE_LIMIT : goal.returns-then-listing-count-gt-BYTE_LIMIT
-returns-then-listing-count-gt-BYTE_LIMIT c = unfit c.args.listing.now (λ g. omega (arith, c.if-listing-count-gt-BYTE_LIMIT.true, (parts_bytes c.args.listing.now _ _ c.wide-fields.ensures refl g.whole g.bytes).1.1.1.0))
+returns-then-listing-count-gt-BYTE_LIMIT c = unfit c.args.listing.now (λ g. omega (arith, c.if-listing-count-gt-BYTE_LIMIT.true, (parts_bytes c.args.listing.now _ _ c.from-fields.ensures refl g.whole g.bytes).1.1.1.0))
 
 pub returns-then-n-number-gt-BOOK_LIMIT : goal.returns-then-n-number-gt-BOOK_LIMIT
-returns-then-n-number-gt-BOOK_LIMIT c = unfit c.args.listing.now (λ g. omega (arith, c.if-n-number-gt-BOOK_LIMIT.true, g.short, laid_longer c.args.listing.now _ _ c.wide-fields.ensures c.wide-number.ensures g.whole))
+returns-then-n-number-gt-BOOK_LIMIT c = unfit c.args.listing.now (λ g. omega (arith, c.if-n-number-gt-BOOK_LIMIT.true, g.short, laid_longer c.args.listing.now _ _ c.from-fields.ensures c.from-number.ensures g.whole))
 
 pub returns-then-listing-n-gt-BYTE_LIMIT : goal.returns-then-listing-n-gt-BYTE_LIMIT
-returns-then-listing-n-gt-BYTE_LIMIT c = unfit c.args.listing.now (λ g. omega (arith, c.if-listing-n-gt-BYTE_LIMIT.true, (parts_bytes c.args.listing.now _ _ c.wide-fields.ensures c.wide-number.ensures g.whole g.bytes).1.1.1.1))
+returns-then-listing-n-gt-BYTE_LIMIT c = unfit c.args.listing.now (λ g. omega (arith, c.if-listing-n-gt-BYTE_LIMIT.true, (parts_bytes c.args.listing.now _ _ c.from-fields.ensures c.from-number.ensures g.whole g.bytes).1.1.1.1))
 
 pub returns-then-not-all_bytes : goal.returns-then-not-all_bytes
-returns-then-not-all_bytes c = counts_fail c.args.listing.now _ _ c.wide-fields.ensures c.wide-number.ensures _ c.all_bytes.ensures c.if-not-all_bytes.true
+returns-then-not-all_bytes c = counts_fail c.args.listing.now _ _ c.from-fields.ensures c.from-number.ensures _ c.all_bytes.ensures c.if-not-all_bytes.true
 
 pub returns : goal.returns
-returns c = let counts = counts_pass c.args.listing.now _ _ c.wide-fields.ensures c.wide-number.ensures _ c.all_bytes.ensures c.if-not-all_bytes.false in
-    c.tables.ensures ∙ tables_decide c.args.listing.now _ _ c.wide-fields.ensures c.wide-number.ensures (omega (arith, c.if-listing-gt-BYTE_LIMIT.false, c.wide-fields.ensures)) (omega (arith, c.if-listing-count-gt-BYTE_LIMIT.false, c.wide-number.ensures)) (omega (arith, c.if-listing-n-gt-BYTE_LIMIT.false)) c.if-n-number-gt-BOOK_LIMIT.false counts
+returns c = let counts = counts_pass c.args.listing.now _ _ c.from-fields.ensures c.from-number.ensures _ c.all_bytes.ensures c.if-not-all_bytes.false in
+    c.tables.ensures ∙ tables_decide c.args.listing.now _ _ c.from-fields.ensures c.from-number.ensures (omega (arith, c.if-listing-gt-BYTE_LIMIT.false, c.from-fields.ensures)) (omega (arith, c.if-listing-count-gt-BYTE_LIMIT.false, c.from-number.ensures)) (omega (arith, c.if-listing-n-gt-BYTE_LIMIT.false)) c.if-n-number-gt-BOOK_LIMIT.false counts
