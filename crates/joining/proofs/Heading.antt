@@ -1,186 +1,188 @@
 -- The heads of a book's tables: gathering them, what they say of a table, and the least key among them. Assumes nothing.
-use mathlib.Core.Path.{◌≡◌, refl, sym, ap, ap₂, ◌∙◌, subst}
-use mathlib.Core.Bool.{◌&&◌}
-use mathlib.Core.List.{List, [], ◌∷◌, map}
-use Prim.Native.Nat.{ℕ, zero, suc, ◌+◌, ◌*◌, ◌/◌, ◌%◌, ◌≤◌, ◌<◌}
+use mathlib.Core.Path.{◌≡◌, refl, sym, ap, ◌∙◌, subst}
+use mathlib.Core.Logic.{inl, inr, ⊎_elim}
+use mathlib.Core.List.Memᴰ
+use mathlib.Core.List.{List, [], ◌∷◌, ◌++◌, map, map-append}
+use Prim.Native.Nat.{ℕ, zero, suc, ◌+◌, ◌≤◌, ◌<◌}
 use native.Mathlib.Numerals.{add-one}
 use native.Mathlib.Omega.{arith}
 use native.Mathlib.Decide.{dec_lt}
-use lib.ListN.{length, get_or, drop, set, length-set, length-map, drop_of_length-le}
-use lib.Seq.{drop-cons, get_or-set_same, get_or-set_other, ext_get_or}
-use lib.Dec.{ltb, leb}
-use borrow.Author.Tests.{lt-ltb, le-ltb, le-leb, lt-leb}
-use Rattle.format.specs.Basics.{pick}
-use Rattle.format.specs.Format.{byte, le16, row_limit, row_total, table_count, rows_of, table_end, table_at, book_of, part}
-use Rattle.format.specs.Promise.{Promise, place}
+use lib.ListN.{length, get_or, take, set, length-set, length-map}
+use lib.Seq.{take-suc, take_all, get_or-set_same, get_or-set_other, get_or-take, length-take-le, ext_get_or}
+use Rattle.std.specs.Prelude.{Option, Some, None}
+use Rattle.format.specs.Basics.{In}
+use Rattle.format.specs.Format.{arity_at, table_count, table_at, book_of, part}
 use Rattle.format.proofs.Views.{no_table, tables_count, table_view}
-use Rattle.book.specs.Bounds.{RowFits, RowsFit}
-use Rattle.book.proofs.TablesFit.{tables_fit_lem, table_rows_few}
+use Rattle.book.specs.View.{TableIn}
+use Rattle.book.proofs.WalkSteps.{stepped, walked}
+use Rattle.book.specs.Walk.{GivesTable}
+use Rattle.book.specs.declared.view.Book.{Book}
+use Rattle.book.specs.declared.view.Table.{Table}
+use Rattle.book.specs.declared.view.Tables.{Tables}
 use Rattle.words.specs.RowWord.{row_word}
-use Rattle.joining.specs.Words.{key_of, key_in, keys_in, least_from}
-use Rattle.joining.specs.Heads.{TableIn, TablesIn, head_at, HeadsOf, Headed}
+use Rattle.joining.specs.Words.{key_of, Least, LesserIs}
+use Rattle.joining.specs.Heads.{no_head, HeadOf, HeadsOf}
+use Rattle.joining.specs.declared.heads.Head.{Head}
 
 -- ---- the least key
 
-module _ (from key best : ℕ) where
-  pub lower_yes : from ≤ key → key < best → key ≡ pick (leb from key && ltb key best) key best
-  lower_yes h g = simp (le-leb from key h, lt-ltb key best g)
+-- the keys of heads
+abbrev pub keys : List Head → List ℕ
+keys hs = map (λ (h : Head). h.key) hs
 
-  pub lower_large : from ≤ key → best ≤ key → best ≡ pick (leb from key && ltb key best) key best
-  lower_large h g = simp (le-leb from key h, le-ltb key best g)
+-- one key more: it is below a, or not below the least so far, or the least now
+in_snoc : (ks : List ℕ) (k j : ℕ) → In j (ks ++ (k ∷ [])) → (P : ℕ → Type 0) → ((i : ℕ) → In i ks → P i) → P k → P j
+in_snoc ks k j m P f p =
+    ⊎_elim (λ (n : In j ks). f j n)
+    (λ (n : In j (k ∷ [])). ⊎_elim (λ (e : j ≡ k). rw e p) (λ (x : In j []). absurd (Memᴰ.not-nil x)) (Memᴰ.cases_cons n))
+    (Memᴰ.append_cases ks m)
 
-  pub lower_small : key < from → best ≡ pick (leb from key && ltb key best) key best
-  lower_small h = simp (lt-leb from key h)
+pub least_low : (a : ℕ) (ks : List ℕ) (k : ℕ) (r : Option ℕ) → Least a ks r → k < a → Least a (ks ++ (k ∷ [])) r
+least_low a ks k None l h = λ j m. in_snoc ks k j m (λ i. i < a) l h
+least_low a ks k (Some b) l h = (
+  Memᴰ.append_left (k ∷ []) l.0,
+  l.1,
+  λ j m. in_snoc ks k j m (λ i. a ≤ i → b ≤ i) l.2 (λ g. absurd (omega arith)),
+)
 
--- the least of the keys left, with the least so far, is the least of all
-pub record LeastTo (hs : List ℕ) (from best least i : ℕ) : Type 0 where
-  pub in_heads : i ≤ length hs
-  pub rest : least_from from least (keys_in (drop i hs)) ≡ least_from from best (keys_in hs)
+least_stays : (a : ℕ) (ks : List ℕ) (k b : ℕ) → Least a ks (Some b) → b ≤ k → Least a (ks ++ (k ∷ [])) (Some b)
+least_stays a ks k b l h = (
+  Memᴰ.append_left (k ∷ []) l.0,
+  l.1,
+  λ j m. in_snoc ks k j m (λ i. a ≤ i → b ≤ i) l.2 (λ g. h),
+)
 
-pub least_start : (hs : List ℕ) (from best : ℕ) → LeastTo hs from best best 0
-least_start hs from best = record { in_heads = omega arith; rest = refl }
+least_first : (a : ℕ) (ks : List ℕ) (k : ℕ) → Least a ks None → a ≤ k → Least a (ks ++ (k ∷ [])) (Some k)
+least_first a ks k l h = (
+  Memᴰ.append_right ks (Memᴰ.head refl),
+  h,
+  λ j m. in_snoc ks k j m (λ i. a ≤ i → k ≤ i) (λ i n g. absurd (omega (arith, l i n))) (λ g. omega arith),
+)
 
-pub least_on : (hs : List ℕ) (from best least i least' : ℕ) → LeastTo hs from best least i → i < length hs
-    → least' ≡ pick (leb from (get_or hs i 0 / 65536) && ltb (get_or hs i 0 / 65536) least) (get_or hs i 0 / 65536) least
-    → LeastTo hs from best least' (i + 1)
-unfolding least_from
-least_on hs from best least i least' v h e =
-    record {
-      in_heads = omega arith;
-      rest =
-          ap₂ (least_from from) e (ap (λ (k : ℕ). keys_in (drop k hs)) (add-one i))
-          ∙ sym (ap (λ (l : List ℕ). least_from from least (keys_in l)) (drop-cons hs i 0 h)) ∙ v.rest;
-    }
+least_falls : (a : ℕ) (ks : List ℕ) (k b : ℕ) → Least a ks (Some b) → a ≤ k → k ≤ b → Least a (ks ++ (k ∷ [])) (Some k)
+least_falls a ks k b l h g = (
+  Memᴰ.append_right ks (Memᴰ.head refl),
+  h,
+  λ j m. in_snoc ks k j m (λ i. a ≤ i → k ≤ i) (λ i n q. omega (arith, l.2 i n q)) (λ q. omega arith),
+)
 
-pub least_end : (hs : List ℕ) (from best least i : ℕ) → LeastTo hs from best least i → length hs ≤ i → least ≡ least_from from best (keys_in hs)
-unfolding least_from
-least_end hs from best least i v h = sym (ap (λ (l : List ℕ). least_from from least (keys_in l)) (drop_of_length-le hs h)) ∙ v.rest
+pub least_on : (a : ℕ) (ks : List ℕ) (k : ℕ) (r q : Option ℕ) → Least a ks r → a ≤ k → LesserIs r (Some k) q → Least a (ks ++ (k ∷ [])) q
+least_on a ks k None q l h e = subst (Least a (ks ++ (k ∷ []))) (sym e) (least_first a ks k l h)
+least_on a ks k (Some b) q l h (inl e) = subst (Least a (ks ++ (k ∷ []))) (sym e.1) (least_stays a ks k b l e.0)
+least_on a ks k (Some b) q l h (inr e) = subst (Least a (ks ++ (k ∷ []))) (sym e.1) (least_falls a ks k b l h e.0)
 
--- ---- one table
+-- the lesser of two lists' least keys
+pub least_both : (a : ℕ) (ks ls : List ℕ) (r s q : Option ℕ) → Least a ks r → Least a ls s → LesserIs r s q → Least a (ks ++ ls) q
+least_both a ks ls None None q l m e =
+    subst (Least a (ks ++ ls)) (sym e)
+    (λ k n. ⊎_elim (λ (i : In k ks). l k i) (λ (i : In k ls). m k i) (Memᴰ.append_cases ks n))
+least_both a ks ls None (Some c) q l m e =
+    subst (Least a (ks ++ ls)) (sym e) (
+      Memᴰ.append_right ks m.0,
+      m.1,
+      λ k n h. ⊎_elim (λ (i : In k ks). absurd (omega (arith, l k i))) (λ (i : In k ls). m.2 k i h) (Memᴰ.append_cases ks n),
+    )
+least_both a ks ls (Some b) None q l m e =
+    subst (Least a (ks ++ ls)) (sym e) (
+      Memᴰ.append_left ls l.0,
+      l.1,
+      λ k n h. ⊎_elim (λ (i : In k ks). l.2 k i h) (λ (i : In k ls). absurd (omega (arith, m k i))) (Memᴰ.append_cases ks n),
+    )
+least_both a ks ls (Some b) (Some c) q l m (inl e) =
+    subst (Least a (ks ++ ls)) (sym e.1) (
+      Memᴰ.append_left ls l.0,
+      l.1,
+      λ k n h. ⊎_elim (λ (i : In k ks). l.2 k i h) (λ (i : In k ls). omega (arith, m.2 k i h, e.0)) (Memᴰ.append_cases ks n),
+    )
+least_both a ks ls (Some b) (Some c) q l m (inr e) =
+    subst (Least a (ks ++ ls)) (sym e.1) (
+      Memᴰ.append_right ks m.0,
+      m.1,
+      λ k n h. ⊎_elim (λ (i : In k ks). omega (arith, l.2 k i h, e.0)) (λ (i : In k ls). m.2 k i h) (Memᴰ.append_cases ks n),
+    )
 
--- a table of an accepted book, with room for all its rows
-pub table_in_lem : (s : List ℕ) (room i p : ℕ) → Promise s → row_total (book_of s).tables ≤ room → i < table_count s → p ≡ place s i → TableIn s p room
-table_in_lem s room i p b few h e =
-    subst (λ (q : ℕ). TableIn s q room) (sym e)
-    (record { short = b.short; rows = (tables_fit_lem s b).rows i h; few = omega (arith, few, table_rows_few s b i h) })
-
--- by the numbers read: its rows, as many as there is room for, and where it ends
-pub record Read (s : List ℕ) (p room a r : ℕ) : Type 0 where
-  pub within : p + 3 + a + r * a + 4 ≤ length s
-  pub small : length s ≤ 32768
-  pub few : r ≤ room
-  pub some : 1 ≤ a
-  pub most : a ≤ 4
-  pub product : r * a ≤ 32768
-  pub rows : RowsFit s a (p + 3 + a) r
-  pub end : p + 3 + a + r * a ≡ table_end s p
-
-pub table_read : (s : List ℕ) (p room a r : ℕ) → TableIn s p room → a ≡ byte s p → r ≡ le16 s (p + 1 + a) → Read s p room a r
-table_read s p room a r t ea er =
-    let er' : rows_of s p ≡ r = sym (er ∙ ap (λ (x : ℕ). le16 s (p + 1 + x)) ea) in
-    let rows : RowsFit s a (p + 3 + a) r =
-    subst (λ (x : ℕ). RowsFit s a (p + 3 + a) x) er' (subst (λ (x : ℕ). RowsFit s x (p + 3 + x) (rows_of s p)) (sym ea) t.rows) in
-    record {
-      within = rows.within;
-      small = t.short;
-      few = omega (arith, er', t.few);
-      some = rows.some;
-      most = rows.few;
-      product = omega (arith, rows.within, t.short);
-      rows = rows;
-      end = ap₂ (λ (x y : ℕ). p + 3 + x + y * x) ea (sym er');
-    }
-
--- the head of a table has room for its number of rows, and its field list for four bytes
-pub head_fits : (s : List ℕ) (p room a : ℕ) → TableIn s p room → a ≡ byte s p → (p + 3 + a + 4 ≤ length s) × (length s ≤ 32768) × RowFits s a (p + 1)
-head_fits s p room a t ea =
-    let rows = t.rows in
-    let w : p + 3 + a + 4 ≤ length s = omega (arith, rows.within, ea) in
-    (w, t.short, record { some = omega (arith, rows.some, ea); few = omega (arith, rows.few, ea); within = omega arith })
+-- the keys of one head more
+pub keys_on : (hs : List Head) (i : ℕ) → i < length hs → keys (take (i + 1) hs) ≡ keys (take i hs) ++ ((get_or hs i no_head).key ∷ [])
+keys_on hs i h =
+    ap (λ (k : ℕ). keys (take k hs)) (add-one i) ∙ ap keys (take-suc hs i no_head h)
+    ∙ map-append (λ (x : Head). x.key) (take i hs) (get_or hs i no_head ∷ [])
 
 -- ---- gathering
 
-pub record HeadsTo (s hs₀ hs : List ℕ) (at i : ℕ) : Type 0 where
-  pub tables : TablesIn s (length hs₀)
-  pub long : length hs ≡ length hs₀
-  pub in_heads : i ≤ length hs₀
-  pub at_is : at ≡ place s i
-  pub done : (k : ℕ) → k < i → get_or hs k 0 ≡ head_at s (place s k)
+-- the heads of the first i tables are gathered
+pub record HeadsTo (s : List ℕ) (hs : List Head) (i : ℕ) : Type 0 where
+  pub long : length hs ≡ 64
+  pub done : (k : ℕ) → k < i → HeadOf s k (get_or hs k no_head)
 
-pub heads_start : (s hs : List ℕ) → TablesIn s (length hs) → HeadsTo s hs hs 0 0
-unfolding place
-heads_start s hs t = record { tables = t; long = refl; in_heads = omega arith; at_is = refl; done = λ k h. absurd (omega arith) }
+-- one more
+pub heads_on : (s : List ℕ) (hs : List Head) (i : ℕ) (x : Head) → HeadsTo s hs i → i < 64 → HeadOf s i x → HeadsTo s (set hs i x) (i + 1)
+heads_on s hs i x v l e =
+    record {
+      long = length-set hs i x ∙ v.long;
+      done = λ k h. more k h (dec_lt k i);
+    }
+  where
+    more : (k : ℕ) → k < i + 1 → Dec (k < i) → HeadOf s k (get_or (set hs i x) k no_head)
+    more k h (yes q) = rw (get_or-set_other hs i k x no_head (λ z. omega arith)) (v.done k q)
+    more k h (no q) =
+        let z : k ≡ i = omega arith in
+        rw (z, get_or-set_same hs i x no_head (omega (arith, v.long))) e
 
-module _ (s hs₀ hs : List ℕ) (at i : ℕ) (v : HeadsTo s hs₀ hs at i) (l : i < length hs) where
-  table_known : i < table_count s
-  table_known = omega (arith, v.long, v.tables.all)
+-- all of them
+pub heads_end : (s : List ℕ) (hs : List Head) (n i : ℕ) → HeadsTo s hs i → n ≡ table_count s → n ≤ i → n ≤ 64 → HeadsOf s (take n hs)
+heads_end s hs n i v e h l =
+    record {
+      as_many = length-take-le n hs (omega (arith, v.long)) ∙ e;
+      each = λ k m. rw (get_or-take n hs k no_head (omega arith)) (v.done k (omega arith));
+    }
 
-  pub table_here : TableIn s at row_limit
-  table_here = table_in_lem s row_limit i at v.tables.book v.tables.book.rows_few table_known v.at_is
+-- the head of a table, as it is read
+pub head_read : (s : List ℕ) (i at a p n : ℕ) → TableIn s i at a p n → (key : ℕ) → key ≡ row_word (part s (at + 1) a) → HeadOf s i (record { key = key; at = at })
+unfolding table_at
+head_read s i at a p n t key e =
+    record {
+      key = e ∙ ap (λ (x : ℕ). row_word (part s (at + 1) x)) t.arity_is ∙ ap (λ (q : ℕ). row_word (part s (q + 1) (arity_at s q))) t.table.at_is;
+      at = t.table.at_is;
+    }
 
-  pub heads_on : (a r key at' : ℕ) → a ≡ byte s at → r ≡ le16 s (at + 1 + a) → key ≡ row_word (part s (at + 1) a) → at' ≡ at + 3 + a + r * a
-      → HeadsTo s hs₀ (set hs i (key * 65536 + at)) at' (i + 1)
-  unfolding table_at place
-  heads_on a r key at' ea er ek e =
-      let d = table_read s at row_limit a r table_here ea er in
-      record {
-        tables = v.tables;
-        long = length-set hs i (key * 65536 + at) ∙ v.long;
-        in_heads = omega (arith, v.long);
-        at_is = e ∙ d.end ∙ ap (table_end s) v.at_is ∙ ap (place s) (sym (add-one i));
-        done = λ k h. more k h (dec_lt k i);
-      }
-    where
-      head : key * 65536 + at ≡ head_at s (place s i)
-      head = ap (λ (x : ℕ). x * 65536 + at) (ek ∙ ap (λ (x : ℕ). row_word (part s (at + 1) x)) ea) ∙ ap (head_at s) v.at_is
+-- a table as the walk gives it
+module _ (b : Book) (old new : Tables) (same : old.book ≡ b) where
+  pub gathered : (table : Table) → GivesTable old (Some table) new → (hs : List Head) → HeadsTo b.bytes.now hs old.index → (key : ℕ)
+      → key ≡ row_word (part table.bytes.now (table.at + 1) table.arity)
+      → (new.book ≡ b) × HeadsTo b.bytes.now (set hs table.index (record { key = key; at = table.at })) new.index
+  gathered table g hs v key e =
+      let w = stepped b old new same table g in
+      let t = w.table_in in
+      let few : old.index < 64 = omega (arith, t.table.within, t.table.promise.tables_few) in (
+        w.book,
+        rw (w.index, w.next)
+            (heads_on b.bytes.now hs old.index (record { key = key; at = table.at }) v few
+            (head_read b.bytes.now old.index table.at table.arity table.first table.rows t key (rw w.bytes at e))),
+      )
 
-      more : (k : ℕ) → k < i + 1 → Dec (k < i) → get_or (set hs i (key * 65536 + at)) k 0 ≡ head_at s (place s k)
-      more k h (yes q) = get_or-set_other hs i k (key * 65536 + at) 0 (λ z. omega arith) ∙ v.done k q
-      more k h (no q) =
-          let z : k ≡ i = omega arith in
-          ap (λ (x : ℕ). get_or (set hs i (key * 65536 + at)) x 0) z ∙ get_or-set_same hs i (key * 65536 + at) 0 l ∙ head ∙ ap (λ (x : ℕ). head_at s (place s x)) (sym z)
-
-pub heads_end : (s hs₀ hs : List ℕ) (at i : ℕ) → HeadsTo s hs₀ hs at i → length hs ≤ i → HeadsOf s hs
-heads_end s hs₀ hs at i v h =
-    record { as_many = v.long ∙ v.tables.all; each = λ k l. v.done k (omega (arith, v.long, v.tables.all)) }
+  pub gathered_all : GivesTable old None new → (hs : List Head) → HeadsTo b.bytes.now hs old.index → HeadsOf b.bytes.now (take b.tables hs)
+  gathered_all g hs v =
+      heads_end b.bytes.now hs b.tables old.index v b.viewed.numbers.tables_is (omega (arith, walked b old new same g, b.viewed.numbers.tables_is))
+      (omega (arith, b.viewed.numbers.tables_is, b.viewed.numbers.promise.tables_few))
 
 -- ---- what heads say
 
--- a place is small, so that a head is taken apart again
-place_small : (s : List ℕ) → Promise s → (i : ℕ) → i < table_count s → place s i < 65536
-place_small s b i h = omega (arith, ((tables_fit_lem s b).rows i h).within, b.short)
-
-module _ (s hs : List ℕ) (room : ℕ) (v : Headed s hs room) (i : ℕ) (h : i < length hs) where
-  known : i < table_count s
-  known = omega (arith, v.heads.as_many)
-
-  pub head_key : get_or hs i 0 / 65536 ≡ key_of (table_at s (place s i))
-  head_key = apart (key_of (table_at s (place s i))) (place s i) (get_or hs i 0) (v.heads.each i known) (place_small s v.book i known)
-    where
-      apart : (k p x : ℕ) → x ≡ k * 65536 + p → p < 65536 → x / 65536 ≡ k
-      apart k p x e l = omega arith
-
-  pub head_place : get_or hs i 0 % 65536 ≡ place s i
-  head_place = apart (key_of (table_at s (place s i))) (place s i) (get_or hs i 0) (v.heads.each i known) (place_small s v.book i known)
-    where
-      apart : (k p x : ℕ) → x ≡ k * 65536 + p → p < 65536 → x % 65536 ≡ p
-      apart k p x e l = omega arith
-
-  pub head_table : TableIn s (get_or hs i 0 % 65536) room
-  head_table = table_in_lem s room i (get_or hs i 0 % 65536) v.book v.few known head_place
-
 -- the keys of heads are those of the book's tables
-pub heads_keys : (s hs : List ℕ) (room : ℕ) → Headed s hs room → keys_in hs ≡ map key_of (book_of s).tables
-heads_keys s hs room v =
-    ext_get_or 0 (keys_in hs) (map key_of (book_of s).tables)
-    (length-map hs key_in ∙ v.heads.as_many ∙ sym (tables_count s) ∙ sym (length-map (book_of s).tables key_of))
+pub heads_keys : (s : List ℕ) (hs : List Head) → HeadsOf s hs → keys hs ≡ map key_of (book_of s).tables
+heads_keys s hs v =
+    ext_get_or 0 (keys hs) (map key_of (book_of s).tables)
+    (length-map hs (λ (h : Head). h.key) ∙ v.as_many ∙ sym (tables_count s) ∙ sym (length-map (book_of s).tables key_of))
     (λ k h.
-    let l : k < length hs = omega (arith, length-map hs key_in) in
-    let m : k < table_count s = omega (arith, v.heads.as_many) in
-    map_at key_in hs k 0 0 l ∙ head_key s hs room v k l ∙ ap key_of (sym (table_view s no_table k m))
+    let l : k < length hs = omega (arith, length-map hs (λ (x : Head). x.key)) in
+    let m : k < table_count s = omega (arith, v.as_many) in
+    map_at (λ (x : Head). x.key) hs k no_head 0 l ∙ (v.each k m).key ∙ ap key_of (sym (table_view s no_table k m))
     ∙ sym (map_at key_of (book_of s).tables k no_table 0 (omega (arith, tables_count s))))
   where
     map_at : {A : Type 0} (g : A → ℕ) (xs : List A) (k : ℕ) (d : A) (e : ℕ) → k < length xs → get_or (map g xs) k e ≡ g (get_or xs k d)
     map_at g [] k d e h = absurd (omega arith)
     map_at g (x ∷ xs) zero d e h = refl
     map_at g (x ∷ xs) (suc k) d e h = map_at g xs k d e (omega arith)
+
+-- the least of all heads' keys is that of the tables
+pub least_all : (s : List ℕ) (hs : List Head) (a i : ℕ) (r : Option ℕ) → HeadsOf s hs → Least a (keys (take i hs)) r → length hs ≤ i → Least a (map key_of (book_of s).tables) r
+least_all s hs a i r v l h = subst (λ (ks : List ℕ). Least a ks r) (ap keys (take_all i hs h) ∙ heads_keys s hs v) l

@@ -1,194 +1,128 @@
 -- The ways to the answers of join. Assumes nothing.
-use mathlib.Core.Path.{◌≡◌, sym, ap, ap₂, ◌∙◌, subst}
-use mathlib.Core.Logic.{⊎_elim}
-use mathlib.Core.Bool.{Bool, true, false}
-use mathlib.Core.List.{List, ◌++◌}
-use Prim.Native.Nat.{ℕ, ◌+◌, ◌≤◌, ◌<◌}
+use mathlib.Core.Path.{◌≡◌, refl, sym, ap, ap₂, ◌∙◌, subst}
+use mathlib.Core.Logic.{inl, inr, ⊎_elim}
+use mathlib.Core.List.{List, [], ◌∷◌, ◌++◌}
+use Prim.Native.Nat.{ℕ, ◌≤◌, ◌<◌}
 use native.Mathlib.Omega.{arith}
-use lib.ListN.{length, take, length-append}
-use lib.Seq.{length-take-le}
-use Rattle.format.specs.Format.{Table, table_limit, row_limit, tables_bytes, trailer, trailer_bytes, encode, part, version_of, book_of}
+use lib.ListN.{length, take, drop, length-append}
+use Rattle.std.specs.Prelude.{Result, Ok, Err}
+use Rattle.std.specs.Borrow.{Bor}
+use Rattle.format.specs.Format as format
+use Rattle.format.specs.Format.{tables_bytes, trailer, trailer_bytes, encode, book_of}
 use Rattle.format.specs.Promise.{Promise}
-use Rattle.format.specs.Reading.{fail, verdict}
+use Rattle.format.specs.Reading.{accepted, fail, verdict}
 use Rattle.format.specs.Writing.{Reply, declined, into, book_limit}
 use Rattle.format.specs.Joining.{common_tables, joined, joined_into, joining}
 use Rattle.format.proofs.Joinings.{join_first, join_second, join_both, into_differ, into_over, into_within}
-use Rattle.format.proofs.Limits.{limit_most}
-use Rattle.format.proofs.Views.{counts_count, part_length}
+use Rattle.format.proofs.Replies.{into_short, into_whole}
 use Rattle.format.proofs.Verdict.{promise_verdict}
-use Rattle.book.specs.View.{Numbered}
-use Rattle.joining.specs.Heads.{TablesIn}
+use Rattle.book.specs.declared.view.Book.{Book}
 use Rattle.joining.specs.Puts.{Put}
-use Rattle.joining.specs.Ends.{EndFits, SameIs}
-use Rattle.joining.specs.Laid.{BothIn, both_tables, AllLaid, LaidOut}
-use Rattle.joining.specs.Answers.{ViewedBy, BothViewed, SameViewed, Rooms, AllOf, BookLaid}
-use Rattle.joining.specs.declared.Numbers.{Numbers}
-use Rattle.joining.specs.declared.lay.Laid.{Laid}
-use Rattle.joining.specs.declared.lay.Laid.TheVariants as lay
-use Rattle.joining.specs.declared.Whole.{Whole}
-use Rattle.joining.specs.declared.Whole.TheVariants as whole
+use Rattle.joining.specs.Ends.{EndFits}
+use Rattle.joining.specs.Laid.{both_tables, AllLaid, LaidOut}
+use Rattle.joining.specs.Answers.{joined_by, JoinedIn}
+use Rattle.joining.specs.declared.lay.Over.{Over}
+use Rattle.joining.specs.declared.refusals.JoinRefusal.{JoinRefusal}
+use Rattle.joining.specs.declared.refusals.JoinRefusal.TheVariants.{Limit}
+use Rattle.std.specs.Result.{result_unwrap_or}
+use Rattle.joining.proofs.Ending.{list_long, list_few}
 
--- ---- the heads of both books
+-- ---- handing out
 
-pub tables_few : (s : List ℕ) (n : ℕ) → TablesIn s n → n ≤ table_limit
-tables_few s n t = omega (arith, t.all, t.book.tables_few)
+pub hand_short : (laid out : List ℕ) → length out < length laid → declined out 18 0 ≡ into laid out
+hand_short laid out h = sym (into_short laid out h)
 
--- as many as the parts of the lists that are lent for them
-pub both_lent : (s : List ℕ) (n : ℕ) (t : List ℕ) (m room : ℕ) (zs ys : List ℕ) → BothIn s n t m room → n ≤ length zs → m ≤ length ys
-    → BothIn s (length (take n zs)) t (length (take m ys)) room
-both_lent s n t m room zs ys v h g =
-    record {
-      first = record { book = v.first.book; all = length-take-le n zs h ∙ v.first.all };
-      second = record { book = v.second.book; all = length-take-le m ys g ∙ v.second.all };
-      first_few = v.first_few;
-      second_few = v.second_few;
-    }
+pub hand_whole : (laid out : List ℕ) → length laid ≤ length out → record { outcome = accepted (length laid ∷ []); buffer = laid ++ drop (length laid) out } ≡ into laid out
+hand_whole laid out h = sym (into_whole laid out h)
 
--- ---- the joined book, laid out
+-- ---- two books with the same field list
 
--- all tables are laid out
-pub laid_all : (cs : List Table) (a : Laid) (o : List ℕ) (end tables : ℕ) → a ≡ lay.All end tables → LaidOut cs a o → AllLaid cs end tables o
-laid_all cs a o end tables e l = subst (λ (x : Laid). LaidOut cs x o) e l
+module _ (b c : Book) (same : (book_of c.bytes.now).counts ≡ (book_of b.bytes.now).counts) where
+  abbrev tables : List format.Table
+  tables = common_tables (both_tables b.bytes.now c.bytes.now)
 
--- too many tables or rows, or no room
-pub book_over : (s t : List ℕ) (a : Laid) (o : List ℕ) → a ≡ lay.Over → LaidOut (common_tables (both_tables s t)) a o
-    → BookLaid (joined (book_of s) (book_of t)) whole.Over o
-unfolding joined
-book_over s t a o e l = subst (λ (x : Laid). LaidOut (common_tables (both_tables s t)) x o) e l
+  abbrev whole : format.Book
+  whole = joined (book_of b.bytes.now) (book_of c.bytes.now)
 
--- where the field list lies in an accepted book
-list_within : (s : List ℕ) (n : Numbers) → ViewedBy s n → n.list + n.fields ≤ length s
-list_within s n v = omega (arith, v.numbers.list_is, v.numbers.fields_is, v.numbers.promise.whole)
+  -- 26; or no room in memory that is shorter than a book may be
+  pub over_in : (bytes : ℕ) (o out : List ℕ) (e : Over) → length o ≡ bytes → LaidOut tables (Err e) o
+      → JoinedIn bytes (book_of b.bytes.now) (book_of c.bytes.now) out out (Err e)
+  unfolding joined
+  over_in bytes o out e long l = (
+    refl,
+    ⊎_elim (λ h. inr (sym (into_over (book_of b.bytes.now) (book_of c.bytes.now) out same h)))
+        (λ (h : length o < book_limit). inl (omega arith)) l,
+  )
 
--- and what it says
-counts_of : (s : List ℕ) (n : Numbers) → ViewedBy s n → part s n.list n.fields ≡ (book_of s).counts
-unfolding book_of
-counts_of s n v = ap₂ (part s) v.numbers.list_is v.numbers.fields_is
+  -- its tables are laid out: there is room for what stands behind them
+  module _ (end count : ℕ) (o : List ℕ) (l : AllLaid tables end count o) where
+    pub end_fits : EndFits (length o) end count
+    end_fits = record { room_in = l.room; end_in = l.end_in; tables_few = omega (arith, l.tables_is, l.few) }
 
-module _ (s : List ℕ) (one : Numbers) (t : List ℕ) (two : Numbers) (v : SameViewed s one t two) where
-  numbers : Numbered s one.list one.fields one.tables
-  numbers = v.both.first.numbers
-
-  pub both_in : (ws vs o : List ℕ) → Rooms one two ws vs o → BothIn s one.tables t two.tables (length ws)
-  both_in ws vs o r =
-      record {
-        first = record { book = numbers.promise; all = numbers.tables_is };
-        second = record { book = v.both.second.numbers.promise; all = v.both.second.numbers.tables_is };
-        first_few = omega (arith, r.first, v.both.first.rows_is);
-        second_few = omega (arith, r.second, v.both.second.rows_is);
-      }
-
-  fields_few : one.fields ≤ 60
-  fields_few = omega (arith, numbers.fields_is, numbers.promise.few, limit_most (version_of s))
-
-  module _ (end count : ℕ) (o : List ℕ) (l : AllLaid (common_tables (both_tables s t)) end count o) where
-    pub end_fits : EndFits (length o) end (length s) one.list one.fields count
-    end_fits =
-        record {
-          room_in = l.room;
-          end_in = l.end_in;
-          fields_few = fields_few;
-          tables_few = omega (arith, l.tables_is, l.few);
-          within = list_within s one v.both.first;
-        }
-
-    module _ (o' : List ℕ) (n : ℕ) (p : Put o end (part s one.list one.fields ++ trailer end one.fields count 2) o' n) where
-      end_long : length (part s one.list one.fields ++ trailer end one.fields count 2) ≡ one.fields + 6
-      end_long = omega (arith, length-append (part s one.list one.fields) (trailer end one.fields count 2), part_length s one.list one.fields (list_within s one v.both.first))
-
-      bytes_are : take n o' ≡ encode (joined (book_of s) (book_of t))
+    -- and behind them its field list and trailer
+    module _ (o' : List ℕ) (n : ℕ) (p : Put o end ((book_of b.bytes.now).counts ++ trailer end b.fields count 2) o' n) where
+      bytes_are : take n o' ≡ encode whole
       unfolding joined encode trailer_bytes
       bytes_are =
-          p.there ∙ ap (λ (z : List ℕ). z ++ (part s one.list one.fields ++ trailer end one.fields count 2)) l.there
-          ∙ ap (λ (z : List ℕ). tables_bytes (common_tables (both_tables s t)) ++ z)
-          (ap (λ (z : List ℕ). z ++ trailer end one.fields count 2) (counts_of s one v.both.first)
-          ∙ ap₂ (λ (x y : ℕ). (book_of s).counts ++ trailer x y count 2) l.end_is (numbers.fields_is ∙ sym (counts_count s numbers.promise.whole))
-          ∙ ap (λ (x : ℕ). (book_of s).counts ++ trailer (length (tables_bytes (common_tables (both_tables s t)))) (length (book_of s).counts) x 2) l.tables_is)
+          p.there ∙ ap (λ (z : List ℕ). z ++ ((book_of b.bytes.now).counts ++ trailer end b.fields count 2)) l.there
+          ∙ ap (λ (z : List ℕ). tables_bytes tables ++ ((book_of b.bytes.now).counts ++ z))
+          (ap₂ (λ (x y : ℕ). trailer x y count 2) l.end_is (sym (list_long b))
+          ∙ ap (λ (x : ℕ). trailer (length (tables_bytes tables)) (length (book_of b.bytes.now).counts) x 2) l.tables_is)
 
-      pub book_laid : BookLaid (joined (book_of s) (book_of t)) (whole.Laid n) o'
+      pub end_within : n ≤ length o'
+      end_within =
+          omega (
+            arith,
+            p.behind,
+            p.long,
+            l.room,
+            length-append (book_of b.bytes.now).counts (trailer end b.fields count 2),
+            list_long b,
+            list_few b,
+          )
+
+      -- and handed out
+      pub handed : (out out' : List ℕ) (r : Result ℕ JoinRefusal) → joined_by r out' ≡ into (take n o') out
+          → joined_by r out' ≡ joined_into (book_of b.bytes.now) (book_of c.bytes.now) out
       unfolding joined
-      book_laid =
-          record {
-            tables_few = l.few;
-            rows_few = l.rows_few;
-            within = omega (arith, p.behind, p.long, end_long, l.room, fields_few);
-            there = bytes_are;
-          }
+      handed out out' r e =
+          e ∙ ap (λ (z : List ℕ). into z out) bytes_are
+          ∙ sym (into_within (book_of b.bytes.now) (book_of c.bytes.now) out same l.few l.rows_few)
 
--- memory for any books
-pub large_rooms : (s : List ℕ) (n : Numbers) (t : List ℕ) (m : Numbers) → SameViewed s n t m
-    → (ws vs o : List ℕ) → length ws ≡ row_limit → length vs ≡ row_limit → length o ≡ book_limit → Rooms n m ws vs o
-large_rooms s n t m v ws vs o lw lv lo =
-    record {
-      lent = record { as_many = lv ∙ sym lw; few = omega (arith, lw) };
-      first = omega (arith, lw, v.both.first.rows_is, v.both.first.numbers.promise.rows_few);
-      second = omega (arith, lw, v.both.second.rows_is, v.both.second.numbers.promise.rows_few);
-      end = omega (arith, lo);
-    }
+-- with memory for any book
+pub large : (b c : format.Book) (o o' : List ℕ) (r : Result (Result ℕ JoinRefusal) Over) → JoinedIn book_limit b c o o' r
+    → joined_by (result_unwrap_or r (Err Limit)) o' ≡ joined_into b c o
+large b c o o' (Ok r) j = j
+large b c o o' (Err e) j =
+    ⊎_elim (λ (h : book_limit < book_limit). absurd (omega arith)) (λ h. ap (λ (z : List ℕ). declined z 26 0) j.0 ∙ h) j.1
 
--- memory for few rows
-pub small_rooms : (n m : Numbers) (ws vs o : List ℕ) → n.rows ≤ 64 → m.rows ≤ 64 → length ws ≡ 64 → length vs ≡ 64 → length o ≡ 1024 → Rooms n m ws vs o
-small_rooms n m ws vs o h g lw lv lo =
-    record {
-      lent = record { as_many = lv ∙ sym lw; few = omega (arith, lw) };
-      first = omega (arith, lw);
-      second = omega (arith, lw);
-      end = omega (arith, lo);
-    }
+-- where it does not join them, the memory lent stays
+pub kept : (bytes : ℕ) (b c : format.Book) (o o' : List ℕ) (r : Result (Result ℕ JoinRefusal) Over) → JoinedIn bytes b c o o' r
+    → ((x : Result ℕ JoinRefusal) → r ≡ Ok x → ⊥) → o' ≡ o
+kept bytes b c o o' (Ok r) j n = absurd (n r refl)
+kept bytes b c o o' (Err e) j n = j.0
 
--- ---- 26, and the bytes
+-- 25
+pub counts_differ : (b c : format.Book) (o : List ℕ) → (c.counts ≡ b.counts → ⊥) → declined o 25 0 ≡ joined_into b c o
+counts_differ b c o n = sym (into_differ b c o n)
 
--- memory as long as a book may be: the joined book breaks a limit
-pub over_limit : (s t : List ℕ) (a : Whole) (o out : List ℕ) → (book_of t).counts ≡ (book_of s).counts → length o ≡ book_limit → a ≡ whole.Over
-    → BookLaid (joined (book_of s) (book_of t)) a o → declined out 26 0 ≡ joined_into (book_of s) (book_of t) out
-over_limit s t a o out same long e l =
-    ⊎_elim (λ h. sym (into_over (book_of s) (book_of t) out same h)) (λ (h : length o < book_limit). absurd (omega (arith, long)))
-    (subst (λ (x : Whole). BookLaid (joined (book_of s) (book_of t)) x o) e l)
-
--- its bytes are laid out
-pub all_of : (s t : List ℕ) (a : Whole) (o : List ℕ) (n : ℕ) → a ≡ whole.Laid n → BookLaid (joined (book_of s) (book_of t)) a o
-    → AllOf (joined (book_of s) (book_of t)) n o
-all_of s t a o n e l = subst (λ (x : Whole). BookLaid (joined (book_of s) (book_of t)) x o) e l
-
--- and handed out
-pub handed : (s t : List ℕ) (n : ℕ) (o out : List ℕ) (r : Reply) → (book_of t).counts ≡ (book_of s).counts → AllOf (joined (book_of s) (book_of t)) n o
-    → r ≡ into (take n o) out → r ≡ joined_into (book_of s) (book_of t) out
-handed s t n o out r same l e =
-    e ∙ ap (λ (z : List ℕ). into z out) l.there ∙ sym (into_within (book_of s) (book_of t) out same l.tables_few l.rows_few)
-
--- ---- 25
-
-module _ (s : List ℕ) (one : Numbers) (t : List ℕ) (two : Numbers) (v : BothViewed s one t two) where
-  pub lists_in : (one.list + one.fields ≤ length s) × (two.list + two.fields ≤ length t)
-  lists_in = (list_within s one v.first, list_within t two v.second)
-
-  -- the test of equal field lists, of the books
-  module _ (b : Bool) (l : SameIs b (part s one.list one.fields) (part t two.list two.fields)) where
-    pub counts_same : b ≡ true → SameViewed s one t two
-    counts_same e =
-        record {
-          both = v;
-          same =
-              sym (counts_of t two v.second) ∙ subst (λ (x : Bool). SameIs x (part s one.list one.fields) (part t two.list two.fields)) e l
-              ∙ counts_of s one v.first;
-        }
-
-    pub counts_differ : (out : List ℕ) → b ≡ false → declined out 25 0 ≡ joined_into (book_of s) (book_of t) out
-    counts_differ out e =
-        sym
-        (into_differ (book_of s) (book_of t) out
-        (λ q.
-        subst (λ (x : Bool). SameIs x (part s one.list one.fields) (part t two.list two.fields)) e l
-        (counts_of t two v.second ∙ q ∙ sym (counts_of s one v.first))))
-
--- ---- the refusals of the books
+-- ---- the refusals of the books, and two accepted ones
 
 module _ (s t out : List ℕ) where
   pub first_refused : (number place : ℕ) → fail number place ≡ verdict s → declined out number place ≡ joining s t out
   first_refused number place e = sym (join_first s t out number place (sym e))
 
-  pub second_refused : Promise s → (number place : ℕ) → fail number place ≡ verdict t → declined out number place ≡ joining s t out
+  second_refused : Promise s → (number place : ℕ) → fail number place ≡ verdict t → declined out number place ≡ joining s t out
   second_refused p number place e = sym (join_second s t out number place (promise_verdict s p) (sym e))
 
-  pub both_accepted : Promise s → Promise t → (r : Reply) → r ≡ joined_into (book_of s) (book_of t) out → r ≡ joining s t out
-  both_accepted p q r e = e ∙ sym (join_both s t out (promise_verdict s p) (promise_verdict t q))
+-- two accepted ones, by their views
+module _ (b c : Book) (s t : Bor (List ℕ)) (out : List ℕ) (eb : b.bytes ≡ s) where
+  pub then_refused : (number place : ℕ) → fail number place ≡ verdict t.now → declined out number place ≡ joining s.now t.now out
+  then_refused = second_refused s.now t.now out (subst (λ (x : Bor (List ℕ)). Promise x.now) eb b.viewed.numbers.promise)
+
+  pub both_accepted : c.bytes ≡ t → (r : Reply) → r ≡ joined_into (book_of b.bytes.now) (book_of c.bytes.now) out → r ≡ joining s.now t.now out
+  both_accepted ec r e =
+      e
+      ∙ sym
+      (join_both b.bytes.now c.bytes.now out (promise_verdict b.bytes.now b.viewed.numbers.promise) (promise_verdict c.bytes.now c.viewed.numbers.promise))
+      ∙ ap₂ (λ (x y : Bor (List ℕ)). joining x.now y.now out) eb ec

@@ -1,7 +1,5 @@
 -- Laying out the tables of two books: the turns of `lay_tables`. Assumes nothing.
 use mathlib.Core.Path.{◌≡◌, refl, sym, ap, ap₂, ◌∙◌, subst}
-use mathlib.Core.Logic.{inl, inr, ⊎_elim}
-use mathlib.Core.List.Memᴰ
 use mathlib.Core.List.{List, [], ◌∷◌, ◌++◌, map, append_assoc, append-nil, map-append}
 use Prim.Native.Nat.{ℕ, zero, suc, ◌+◌, ◌*◌, ◌≤◌, ◌<◌}
 use native.Mathlib.Nat.{mul-le-mul_left}
@@ -9,69 +7,54 @@ use native.Mathlib.Numerals.{add-one}
 use native.Mathlib.Omega.{arith}
 use lib.ListN.{length, take, drop, length-append, length-map, length-drop}
 use lib.Seq.{length-take-le, take_all}
-use Rattle.format.specs.Basics.{In}
 use Rattle.format.specs.Format.{Table, table_limit, row_limit, row_total, table_bytes, tables_bytes, book_of}
-use Rattle.format.specs.Writing.{book_limit}
+use Rattle.std.specs.Prelude.{Option, Some, None, IsSome}
 use Rattle.format.specs.Joining.{common_table, common_tables}
 use Rattle.format.proofs.Decode.{promise_well}
 use Rattle.words.specs.RowWord.{row_word}
-use Rattle.joining.specs.Words.{key_of, keys_in, least_from, no_key, InEveryWord, digits_of, key_arity}
-use Rattle.joining.specs.Heads.{Lent}
-use Rattle.joining.specs.Sets.{HeldTo, every_word, Means, NarrowedTo}
+use Rattle.book.specs.declared.view.Book.{Book}
+use Rattle.joining.specs.Words.{key_of, InEveryWord, Least, LesserIs, digits_of, key_arity}
+use Rattle.joining.specs.Sets.{Means, Held, NarrowedTo}
 use Rattle.joining.specs.Puts.{Put, word_table, TableFits}
-use Rattle.joining.specs.Laid.{BothHeaded, both_tables, KeyIn, SetEvery, end_most, AllLaid}
-use Rattle.joining.proofs.Packing.{key_arity_lem, word_small}
-use Rattle.joining.proofs.Plans.{Fine, fine_book, fine_append, FineSet, fine_set, keys_of, sets_from, sets_start, sets_none, NextSet, next_set, table_is, least_append}
-use Rattle.joining.proofs.Heading.{heads_keys}
+use Rattle.joining.specs.Laid.{both_tables, KeyIn, SetEvery, end_most, AllLaid}
+use Rattle.joining.proofs.Packing.{key_arity_lem, key_room}
+use Rattle.joining.proofs.Plans.{Fine, fine_book, fine_append, FineSet, fine_set, keys_of, sets_from, sets_start, sets_none, NextSet, next_set, table_is}
+use Rattle.joining.proofs.Heading.{least_both}
 use Rattle.joining.proofs.Laying.{table_long}
-use Rattle.joining.proofs.Narrowing.{held_in, in_held, taken_rises, taken_held, held_taken, state_set}
+use Rattle.joining.proofs.Narrowing.{held_in, in_held, taken_rises, taken_held, held_taken}
 
 -- ---- both books
 
-pub fine_both : (s hs t ks : List ℕ) (room : ℕ) → BothHeaded s hs t ks room → Fine (both_tables s t)
-fine_both s hs t ks room v =
-    fine_append (book_of s).tables (book_of t).tables (fine_book (book_of s) (promise_well s v.first.book))
-    (fine_book (book_of t) (promise_well t v.second.book))
+pub fine_both : (b c : Book) → Fine (both_tables b.bytes.now c.bytes.now)
+fine_both b c =
+    fine_append (book_of b.bytes.now).tables (book_of c.bytes.now).tables
+    (fine_book (book_of b.bytes.now) (promise_well b.bytes.now b.viewed.numbers.promise))
+    (fine_book (book_of c.bytes.now) (promise_well c.bytes.now c.viewed.numbers.promise))
 
--- the least key of both books' heads is that of their tables
-pub next_is : (s hs t ks : List ℕ) (room from r : ℕ) → BothHeaded s hs t ks room → r ≡ least_from from (least_from from no_key (keys_in hs)) (keys_in ks)
-    → r ≡ least_from from no_key (keys_of (both_tables s t))
-next_is s hs t ks room from r v e =
-    e ∙ least_append from no_key (keys_in hs) (keys_in ks)
-    ∙ ap (least_from from no_key)
-    (ap₂ ◌++◌ (heads_keys s hs room v.first) (heads_keys t ks room v.second) ∙ sym (map-append key_of (book_of s).tables (book_of t).tables))
+-- the least key of both books' tables
+pub least_of_both : (s t : List ℕ) (a : ℕ) (q r m : Option ℕ) → Least a (map key_of (book_of s).tables) q → Least a (map key_of (book_of t).tables) r
+    → LesserIs q r m → Least a (map key_of (both_tables s t)) m
+least_of_both s t a q r m l k e =
+    subst (λ (ks : List ℕ). Least a ks m) (sym (map-append key_of (book_of s).tables (book_of t).tables))
+    (least_both a (map key_of (book_of s).tables) (map key_of (book_of t).tables) q r m l k e)
 
--- the words of every table of the one, then of the other
-pub common_is : (s t : List ℕ) (k n₀ : ℕ) (ws₀ : List ℕ) (n : ℕ) (ws : List ℕ) (r : ℕ) (ws' : List ℕ) → n₀ ≡ every_word → KeyIn k (both_tables s t)
-    → NarrowedTo k (book_of s).tables n₀ ws₀ n ws → NarrowedTo k (book_of t).tables n ws r ws' → SetEvery k (both_tables s t) r ws'
-common_is s t k n₀ ws₀ n ws r ws' e key p q =
-    let st = state_set r ws' q.state not_all in
-    record { few = st.0; rises = st.1; out = out; back = back }
-  where
-    not_all : r ≡ every_word → ⊥
-    not_all h =
-        ⊎_elim (λ (i : In key.table (book_of s).tables). (p.none (q.none h).0).1 key.table i key.key_is)
-        (λ (i : In key.table (book_of t).tables). (q.none h).1 key.table i key.key_is) (Memᴰ.append_cases (book_of s).tables key.member)
+-- the words of every table, where some table has the key
+module _ (k : ℕ) (ts : List Table) (key : KeyIn k ts) (ws : List ℕ) (n : Option ℕ) (ws' : List ℕ) (p : NarrowedTo k ts None ws n ws') where
+  some_found : (m : Option ℕ) → n ≡ m → IsSome m
+  some_found None e = absurd ((p.none e).1 key.table key.member key.key_is)
+  some_found (Some r) e = refl
 
-    out : (w : ℕ) → HeldTo r ws' w → InEveryWord w k (both_tables s t)
-    out w h u i g =
-        let a = q.out w (inr h) in
-        let b = p.out w a.0 in
-        ⊎_elim (λ (j : In u (book_of s).tables). b.1 u j g) (λ (j : In u (book_of t).tables). a.1 u j g) (Memᴰ.append_cases (book_of s).tables i)
+  pub found : IsSome n
+  found = some_found n refl
 
-    means : (w : ℕ) → Means r ws' w → HeldTo r ws' w
-    means w (inl h) = absurd (not_all h)
-    means w (inr h) = h
-
-    back : (w : ℕ) → InEveryWord w k (both_tables s t) → HeldTo r ws' w
-    back w h =
-        means w
-        (q.back w (p.back w (inl e) (λ u i g. h u (Memᴰ.append_left (book_of t).tables i) g))
-        (λ u i g. h u (Memᴰ.append_right (book_of s).tables i) g))
-
--- they are no more than a book may have rows
-pub common_few : (ws vs ws' : List ℕ) (k : ℕ) (ts : List Table) (n : ℕ) → SetEvery k ts n ws' → length ws' ≡ length ws → Lent ws vs → n ≤ row_limit
-common_few ws vs ws' k ts n c e l = omega (arith, c.few, l.few)
+  pub every_word : Held n ws' → (r : ℕ) → n ≡ Some r → SetEvery k ts r ws'
+  every_word h r e =
+      record {
+        few = h.few r e;
+        rises = h.rises r e;
+        out = λ w q. (p.out w (subst (λ (m : Option ℕ). Means m ws' w) (sym e) q)).1;
+        back = λ w q. subst (λ (m : Option ℕ). Means m ws' w) e (p.back w tt q);
+      }
 
 -- ---- lists
 
@@ -144,12 +127,11 @@ lay_start ts fine o h =
       there = refl;
     }
 
-module _ (ts : List Table) (fine : Fine ts) (room from at count rows : ℕ) (o : List ℕ) (v : LayTo ts room from at count rows o) (next : ℕ)
-    (e : next ≡ least_from from no_key (keys_of ts)) where
+module _ (ts : List Table) (fine : Fine ts) (room from at count rows : ℕ) (o : List ℕ) (v : LayTo ts room from at count rows o) where
   -- no table is left
-  pub lay_end : next ≡ no_key → AllLaid (common_tables ts) at count o
+  pub lay_end : Least from (keys_of ts) None → AllLaid (common_tables ts) at count o
   lay_end q =
-      let z : drop count (common_tables ts) ≡ [] = v.rest ∙ ap (map (common_table ts)) (sets_none ts fine from (sym e ∙ q)) in
+      let z : drop count (common_tables ts) ≡ [] = v.rest ∙ ap (map (common_table ts)) (sets_none ts fine from q) in
       let l : length (common_tables ts) ≤ count = drop_none (common_tables ts) count z in
       let all : take count (common_tables ts) ≡ common_tables ts = take_all count (common_tables ts) l in
       record {
@@ -162,9 +144,9 @@ module _ (ts : List Table) (fine : Fine ts) (room from at count rows : ℕ) (o :
         there = v.there ∙ ap tables_bytes all;
       }
 
-  module _ (ne : next ≡ no_key → ⊥) where
+  module _ (next : ℕ) (e : Least from (keys_of ts) (Some next)) where
     set : NextSet ts fine from next
-    set = next_set ts fine from next e ne
+    set = next_set ts fine from next e
 
     next_table : drop count (common_tables ts) ≡ common_table ts set.fields ∷ map (common_table ts) (sets_from (next + 1) ts)
     next_table = v.rest ∙ ap (map (common_table ts)) set.rest
@@ -185,8 +167,8 @@ module _ (ts : List Table) (fine : Fine ts) (room from at count rows : ℕ) (o :
     fine_next : FineSet ts fine set.fields
     fine_next = fine_set ts fine set.occurs
 
-    pub key_small : next < no_key
-    key_small = omega (arith, word_small set.fields fine_next.bytes, set.key)
+    pub key_small : next + 1 < 4294967296
+    key_small = omega (arith, key_room set.fields fine_next.bytes fine_next.rising fine_next.few, set.key)
 
     module _ (n : ℕ) (ws : List ℕ) (c : SetEvery next ts n ws) where
       long_words : length (take n ws) ≡ n
@@ -214,18 +196,12 @@ module _ (ts : List Table) (fine : Fine ts) (room from at count rows : ℕ) (o :
       arity = ap key_arity set.key ∙ key_arity_lem set.fields fine_next.bytes fine_next.rising fine_next.some fine_next.few
 
       module _ (nc : count ≡ table_limit → ⊥) (h : rows + n ≤ row_limit) where
-        -- no room, though the limits are kept
-        pub over_room : room < at + 7 + 4 * n + end_most → length o < book_limit
-        over_room g = omega (arith, v.at_in, v.few, v.long)
-
         module _ (r : at + 7 + 4 * n + end_most ≤ room) where
           pub table_fits : TableFits next (length (take n ws)) at (length o)
           table_fits =
               record {
                 few = omega (arith, long_words);
-                small = key_small;
                 fits = omega (arith, long_words, v.long);
-                some_fields = omega (arith, arity, fine_next.some);
                 few_fields = omega (arith, arity, fine_next.few);
               }
 

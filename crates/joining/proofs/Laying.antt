@@ -1,35 +1,15 @@
 -- Laying bytes out, one piece behind another: words, rows, tables. Assumes nothing.
-use mathlib.Core.Path.{◌≡◌, refl, sym, ap, ◌∙◌, subst}
+use mathlib.Core.Path.{◌≡◌, refl, sym, ap, ◌∙◌, subst, subst₂}
 use mathlib.Core.List.{List, [], ◌∷◌, ◌++◌, map, append_assoc, append-nil}
-use Prim.Native.Nat.{ℕ, suc, ◌+◌, ◌*◌, ◌/◌, ◌%◌, ◌≤◌, ◌<◌}
-use native.Mathlib.Nat.{suc-mul, zero-mul, add-zero, mul-le-mul_right, mul-le-mul_left}
+use Prim.Native.Nat.{ℕ, ◌+◌, ◌*◌, ◌/◌, ◌%◌, ◌≤◌, ◌<◌}
+use native.Mathlib.Nat.{suc-mul, zero-mul, mul-le-mul_right}
 use native.Mathlib.Numerals.{add-one}
 use native.Mathlib.Omega.{arith}
 use lib.ListN.{length, get_or, take, set, length-set, length-append, length-map}
-use lib.Seq.{take-take, take-append-add, take-suc, take-suc-set, take_all, length-take-le}
-use borrow.Author.Tests.{eq-eqb, ne_eqb}
+use lib.Seq.{take-take, take-append-add, take-suc, take-suc-set, length-take-le}
 use Rattle.format.specs.Format.{word, flat, table_bytes}
 use Rattle.joining.specs.Words.{four_digits, digits_of, key_arity, key_fields}
 use Rattle.joining.specs.Puts.{Put, word_table, TableFits}
-
--- ---- the number of a key's fields
-
-module _ (k : ℕ) where
-  pub arity_four : (k % 256 ≡ 0 → ⊥) → 4 ≡ key_arity k
-  unfolding key_arity
-  arity_four a = simp (ne_eqb (k % 256) 0 a)
-
-  pub arity_three : k % 256 ≡ 0 → (k / 256 % 256 ≡ 0 → ⊥) → 3 ≡ key_arity k
-  unfolding key_arity
-  arity_three a b = simp (eq-eqb (k % 256) 0 a, ne_eqb (k / 256 % 256) 0 b)
-
-  pub arity_two : k % 256 ≡ 0 → k / 256 % 256 ≡ 0 → (k / 65536 % 256 ≡ 0 → ⊥) → 2 ≡ key_arity k
-  unfolding key_arity
-  arity_two a b c = simp (eq-eqb (k % 256) 0 a, eq-eqb (k / 256 % 256) 0 b, ne_eqb (k / 65536 % 256) 0 c)
-
-  pub arity_one : k % 256 ≡ 0 → k / 256 % 256 ≡ 0 → k / 65536 % 256 ≡ 0 → 1 ≡ key_arity k
-  unfolding key_arity
-  arity_one a b c = simp (eq-eqb (k % 256) 0 a, eq-eqb (k / 256 % 256) 0 b, eq-eqb (k / 65536 % 256) 0 c)
 
 -- ---- bytes one behind another
 
@@ -44,57 +24,7 @@ put_then o at xs o₁ r₁ ys o₂ r₂ p q =
       there = q.there ∙ ap (λ (z : List ℕ). z ++ ys) p.there ∙ append_assoc (take at o) xs ys;
     }
 
--- j bytes of a list are put
-pub record Putting (o : List ℕ) (at : ℕ) (xs o' : List ℕ) (j : ℕ) : Type 0 where
-  pub long : length o' ≡ length o
-  pub in_list : j ≤ length xs
-  pub there : take (at + j) o' ≡ take at o ++ take j xs
-
-pub putting_start : (o : List ℕ) (at : ℕ) (xs : List ℕ) → Putting o at xs o 0
-putting_start o at xs =
-    record { long = refl; in_list = omega arith; there = ap (λ (k : ℕ). take k o) (add-zero at) ∙ sym (append-nil (take at o)) }
-
-pub putting_on : (o : List ℕ) (at : ℕ) (xs o' : List ℕ) (j x : ℕ) → Putting o at xs o' j → j < length xs → at + j < length o' → x ≡ get_or xs j 0
-    → Putting o at xs (set o' (at + j) x) (j + 1)
-putting_on o at xs o' j x v h l e =
-    let a : at + (j + 1) ≡ suc (at + j) = omega arith in
-    record {
-      long = length-set o' (at + j) x ∙ v.long;
-      in_list = omega arith;
-      there =
-          ap (λ (k : ℕ). take k (set o' (at + j) x)) a ∙ take-suc-set o' (at + j) x l ∙ ap (λ (z : List ℕ). z ++ (x ∷ [])) v.there
-          ∙ append_assoc (take at o) (take j xs) (x ∷ [])
-          ∙ ap (λ (z : List ℕ). take at o ++ z)
-          (ap (λ (y : ℕ). take j xs ++ (y ∷ [])) e ∙ sym (take-suc xs j 0 h) ∙ ap (λ (k : ℕ). take k xs) (sym (add-one j)));
-    }
-
-pub putting_end : (o : List ℕ) (at : ℕ) (xs o' : List ℕ) (j : ℕ) → Putting o at xs o' j → length xs ≤ j → Put o at xs o' (at + j)
-putting_end o at xs o' j v h =
-    record {
-      long = v.long;
-      behind = omega (arith, v.in_list);
-      there = v.there ∙ ap (λ (z : List ℕ). take at o ++ z) (take_all j xs h);
-    }
-
 -- ---- words
-
--- four bytes stored one behind another
-pub four_put : (o : List ℕ) (at a b c d : ℕ) → at + 4 ≤ length o
-    → Put o at (a ∷ b ∷ c ∷ d ∷ []) (set (set (set (set o at a) (at + 1) b) (at + 2) c) (at + 3) d) (at + 4)
-four_put o at a b c d h =
-    let p₁ = put_one o at a (omega arith) in
-    let p₂ = put_one (set o at a) (at + 1) b (omega (arith, p₁.long)) in
-    let p₃ = put_one (set (set o at a) (at + 1) b) (at + 2) c (omega (arith, p₁.long, p₂.long)) in
-    let p₄ = put_one (set (set (set o at a) (at + 1) b) (at + 2) c) (at + 3) d (omega (arith, p₁.long, p₂.long, p₃.long)) in
-    put_then o at (a ∷ []) _ (at + 1) (b ∷ c ∷ d ∷ []) _ (at + 4) p₁
-    (put_then _ (at + 1) (b ∷ []) _ (at + 1 + 1) (c ∷ d ∷ []) _ (at + 4) p₂
-    (moved (at + 2) (at + 1 + 1) (omega arith) (put_then _ (at + 2) (c ∷ []) _ (at + 2 + 1) (d ∷ []) _ (at + 4) p₃ (moved (at + 3) (at + 2 + 1) (omega arith) (ended (omega arith) p₄)))))
-  where
-    moved : (x y : ℕ) → x ≡ y → {o o' : List ℕ} {bytes : List ℕ} {r : ℕ} → Put o x bytes o' r → Put o y bytes o' r
-    moved x y e {o} {o'} {bytes} {r} p = subst (λ (z : ℕ). Put o z bytes o' r) e p
-
-    ended : {x y : ℕ} → x ≡ y → {at : ℕ} {o o' : List ℕ} {bytes : List ℕ} → Put o at bytes o' x → Put o at bytes o' y
-    ended e {at} {o} {o'} {bytes} p = subst (λ (z : ℕ). Put o at bytes o' z) e p
 
 pub digits_long : (n w : ℕ) → n ≤ 4 → length (digits_of n w) ≡ n
 unfolding digits_of
@@ -123,14 +53,6 @@ pub record RowsPut (o : List ℕ) (at n : ℕ) (ws o' : List ℕ) (place i : ℕ
   pub place_is : place ≡ at + i * n
   pub put : Put o at (flat (map (digits_of n) (take i ws))) o' place
 
-pub rows_start : (o : List ℕ) (at n : ℕ) (ws : List ℕ) → RowsPut o at n ws o at 0
-rows_start o at n ws =
-    record {
-      in_words = omega arith;
-      place_is = omega (arith, zero-mul n);
-      put = record { long = refl; behind = omega arith; there = sym (append-nil (take at o)) };
-    }
-
 flat_snoc : (g : ℕ → List ℕ) (xs : List ℕ) (x : ℕ) → flat (map g (xs ++ (x ∷ []))) ≡ flat (map g xs) ++ g x
 flat_snoc g [] x = append-nil (g x)
 flat_snoc g (y ∷ xs) x = ap (λ (z : List ℕ). g y ++ z) (flat_snoc g xs x) ∙ sym (append_assoc (g y) (flat (map g xs)) (g x))
@@ -155,11 +77,6 @@ rows_on o at n ws o' place i o'' place' v h few p =
           (sym (ap (λ (z : List ℕ). flat (map (digits_of n) z)) e ∙ flat_snoc (digits_of n) (take i ws) (get_or ws i 0)))
           (put_then o at (flat (map (digits_of n) (take i ws))) o' place (digits_of n (get_or ws i 0)) o'' place' v.put p);
     }
-
-pub rows_end : (o : List ℕ) (at n : ℕ) (ws o' : List ℕ) (place i : ℕ) → RowsPut o at n ws o' place i → length ws ≤ i
-    → Put o at (flat (map (digits_of n) ws)) o' place
-rows_end o at n ws o' place i v h =
-    subst (λ (z : List ℕ). Put o at (flat (map (digits_of n) z)) o' place) (take_all i ws h) v.put
 
 -- ---- a table
 
@@ -193,10 +110,11 @@ table_long k ws h =
 
 -- the pieces put one behind another: a byte, a word over which the rest is laid, two bytes, the rows
 pub table_put : (o : List ℕ) (at k : ℕ) (ws : List ℕ) (a : ℕ) → TableFits k (length ws) at (length o) → a ≡ key_arity k
-    → (o₂ o₅ : List ℕ) (r₅ : ℕ) → Put (set o at a) (at + 1) (four_digits k) o₂ (at + 1 + 4)
-    → Put (set (set o₂ (at + 1 + a) (length ws % 256)) (at + 2 + a) (length ws / 256)) (at + 3 + a) (flat (map (digits_of a) ws)) o₅ r₅
+    → (o₂ o₅ : List ℕ) (r₅ low high : ℕ) → low ≡ length ws % 256 → high ≡ length ws / 256 → Put (set o at a) (at + 1) (four_digits k) o₂ (at + 1 + 4)
+    → Put (set (set o₂ (at + 1 + a) low) (at + 2 + a) high) (at + 3 + a) (flat (map (digits_of a) ws)) o₅ r₅
     → Put o at (table_bytes (word_table k ws)) o₅ r₅
-table_put o at k ws a f ea o₂ o₅ r₅ p₂ p₅ =
+table_put o at k ws a f ea o₂ o₅ r₅ low high el eh p₂ p =
+    let p₅ = subst₂ (λ (x y : ℕ). Put (set (set o₂ (at + 1 + a) x) (at + 2 + a) y) (at + 3 + a) (flat (map (digits_of a) ws)) o₅ r₅) el eh p in
     let few : a ≤ 4 = omega (arith, f.few_fields) in
     let p₁ = put_one o at a (omega (arith, f.fits)) in
     let q₂ = digits_put (set o at a) (at + 1) k o₂ a p₂ few (omega (arith, p₁.long, f.fits)) in
@@ -213,15 +131,3 @@ table_put o at k ws a f ea o₂ o₅ r₅ p₂ p₅ =
   where
     from : {x y : ℕ} → x ≡ y → {o o' : List ℕ} {bytes : List ℕ} {r : ℕ} → Put o x bytes o' r → Put o y bytes o' r
     from e {o} {o'} {bytes} {r} p = subst (λ (z : ℕ). Put o z bytes o' r) e p
-
--- where its pieces have room
-pub record TableRoom (n at room a : ℕ) : Type 0 where
-  pub some : 1 ≤ a
-  pub few : a ≤ 4
-  pub rows : at + 3 + a + n * a + 4 ≤ room
-
-pub table_room : (k n at room a : ℕ) → TableFits k n at room → a ≡ key_arity k → TableRoom n at room a
-table_room k n at room a f e =
-    let h : a ≤ 4 = omega (arith, f.few_fields) in
-    let m : n * a ≤ n * 4 = mul-le-mul_left n h in
-    record { some = omega (arith, f.some_fields); few = h; rows = omega (arith, f.fits) }

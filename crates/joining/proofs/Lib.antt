@@ -8,6 +8,5 @@ pub mod Narrowing
 pub mod Laying
 pub mod LayTurns
 pub mod Ending
-pub mod Handing
 pub mod JoinCases
 pub mod Injective

@@ -1,23 +1,25 @@
 -- The rows of a table as a set of words. Assumes nothing.
 use mathlib.Core.Path.{◌≡◌, refl, sym, ap, ◌∙◌, subst}
 use mathlib.Core.Bool.{Bool, true, false}
-use mathlib.Core.List.{List, [], ◌∷◌, ◌++◌, map}
+use mathlib.Core.List.{List, [], ◌∷◌, ◌++◌}
 use Prim.Native.Nat.{ℕ, zero, suc, ◌+◌, ◌≤◌, ◌<◌}
 use native.Mathlib.Omega.{arith}
-use lib.ListN.{length, get_or, take, drop, length-map, get_or-append}
-use lib.Seq.{length-take-le}
+use lib.ListN.{length, get_or, length-map, get_or-append}
 use lib.Dec.{eqb}
 use borrow.Author.Tests.{eqb-true, eq-eqb}
+use Rattle.std.specs.Borrow.{Bor}
 use Rattle.format.specs.Basics.{pick}
-use Rattle.format.specs.Format.{byte, le16, arity_at, rows_of, first_row, table_at, rows_at, row_limit}
+use Rattle.format.specs.Format.{arity_at, first_row, table_at, rows_at, row_limit, row_total, book_of}
+use Rattle.format.specs.Promise.{place}
 use Rattle.format.proofs.Views.{rows_count}
-use Rattle.book.specs.Bounds.{RowsFit}
+use Rattle.book.specs.View.{TableIn}
+use Rattle.book.specs.declared.view.Book.{Book}
+use Rattle.book.specs.declared.view.Table.{Table as View}
+use Rattle.book.proofs.TableRows.{rows_within}
 use Rattle.words.specs.Sorting.{times, Permuted, NeverFalls, Judged, Sorted, most}
 use Rattle.words.specs.RowWord.{row_word, words_at}
 use Rattle.joining.specs.Words.{table_words}
-use Rattle.joining.specs.Heads.{TableIn}
 use Rattle.joining.specs.Sets.{HeldTo, SetOf}
-use Rattle.joining.proofs.Heading.{table_read}
 
 -- ---- a list and its permutation hold the same
 
@@ -66,6 +68,32 @@ set_stands xs xs' n ws e t = subst (λ (z : List ℕ). SetOf z n ws) e t
 
 -- ---- a table's rows
 
+-- its words, and where they stand
+pub view_words : (s : List ℕ) (i at a p n : ℕ) → TableIn s i at a p n → table_words (table_at s at) ≡ words_at s a p n
+unfolding table_at
+view_words s i at a p n t =
+    sym
+    (ap (λ (x : ℕ). words_at s x p n) t.arity_is ∙ ap (λ (x : ℕ). words_at s (arity_at s at) x n) t.first_is
+    ∙ ap (words_at s (arity_at s at) (first_row s at)) t.rows_is)
+
+pub view_long : (s : List ℕ) (i at a p n : ℕ) → TableIn s i at a p n → length (table_words (table_at s at)) ≡ n
+view_long s i at a p n t =
+    ap length (view_words s i at a p n t) ∙ length-map (rows_at s a p n) row_word ∙ rows_count s a p n
+
+-- a table of a book's view has no more rows than the book, and is the one at its place
+pub rows_in_book : (b : Book) (t : View) → t.bytes ≡ b.bytes → t.rows ≤ b.rows
+rows_in_book b t e =
+    omega (
+      arith,
+      rows_within t.stands,
+      ap (λ (x : Bor (List ℕ)). row_total (book_of x.now).tables) e,
+      b.viewed.rows_is,
+    )
+
+pub view_table : (b : Book) (t : View) (i : ℕ) → t.bytes ≡ b.bytes → t.index ≡ i → table_at t.bytes.now t.at ≡ table_at b.bytes.now (place b.bytes.now i)
+view_table b t i e k =
+    ap (table_at t.bytes.now) (t.stands.table.at_is ∙ ap (place t.bytes.now) k) ∙ ap (λ (x : Bor (List ℕ)). table_at x.now (place x.now i)) e
+
 -- what the first places hold, in a longer list
 pub front_at : (xs zs : List ℕ) (k : ℕ) → k < length xs → get_or (xs ++ zs) k 0 ≡ get_or xs k 0
 front_at xs zs k h = get_or-append xs zs 0 k h
@@ -84,25 +112,3 @@ set_front xs ws zs n h t =
       out = λ w p. t.out w (held_front ws zs n w h p);
       back = λ w p. front_held ws zs n w h (t.back w p);
     }
-
--- the words lent for the table at p: room for its rows, which fit
-module _ (s : List ℕ) (p a r : ℕ) (ws : List ℕ) (t : TableIn s p (length ws)) (ea : a ≡ byte s p) (er : r ≡ le16 s (p + 1 + a)) where
-  pub rows_in : r ≤ length ws
-  rows_in = (table_read s p (length ws) a r t ea er).few
-
-  pub rows_fit : length ws ≤ row_limit → RowsFit s a (p + 3 + a) (length (take r ws)) × (length (take r ws) ≤ row_limit)
-  rows_fit few =
-      let l = length-take-le r ws rows_in in
-      (subst (RowsFit s a (p + 3 + a)) (sym l) (table_read s p (length ws) a r t ea er).rows, omega (arith, l, rows_in))
-
-  -- the set of its words, put back into the longer list
-  pub set_table : (vs : List ℕ) (n : ℕ) → length vs ≡ length (take r ws) → SetOf (words_at s a (p + 3 + a) (length (take r ws))) n vs
-      → SetOf (table_words (table_at s p)) n (vs ++ drop r ws)
-  unfolding table_at
-  set_table vs n e o =
-      let er' : r ≡ rows_of s p = er ∙ ap (λ (x : ℕ). le16 s (p + 1 + x)) ea in
-      let q : rows_at s a (p + 3 + a) (length (take r ws)) ≡ rows_at s (arity_at s p) (first_row s p) (rows_of s p) =
-      ap (rows_at s a (p + 3 + a)) (length-take-le r ws rows_in ∙ er') ∙ ap (λ (x : ℕ). rows_at s x (p + 3 + x) (rows_of s p)) ea in
-      set_front (map row_word (rows_at s (arity_at s p) (first_row s p) (rows_of s p))) vs (drop r ws) n
-      (omega (arith, o.within, length-map (rows_at s a (p + 3 + a) (length (take r ws))) row_word, rows_count s a (p + 3 + a) (length (take r ws))))
-      (subst (λ (x : List (List ℕ)). SetOf (map row_word x) n vs) q o)

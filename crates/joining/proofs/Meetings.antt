@@ -1,12 +1,12 @@
 -- Keeping the words that others have too: the turns of `keep_common`. Assumes nothing.
-use mathlib.Core.Path.{◌≡◌, refl, sym, ap, ◌∙◌}
+use mathlib.Core.Path.{◌≡◌, sym, ap, ◌∙◌}
 use mathlib.Core.List.{List}
 use Prim.Native.Nat.{ℕ, ◌+◌, ◌≤◌, ◌<◌}
 use native.Mathlib.Omega.{arith}
 use native.Mathlib.Decide.{dec_lt}
 use lib.ListN.{length, get_or, set, length-set}
 use lib.Seq.{get_or-set_same}
-use Rattle.joining.specs.Sets.{HeldTo, RisesTo, Meets}
+use Rattle.joining.specs.Sets.{HeldTo, RisesTo}
 use Rattle.joining.proofs.Rising.{held_more, before_store, behind_store, rises_store, held_store, Stored, old, new, store_held}
 
 -- the first n of ws are those of the first i of s that os has; the first j of os are below the others of s
@@ -21,21 +21,6 @@ pub record Met (s os ws : List ℕ) (n i j : ℕ) : Type 0 where
   pub rises : RisesTo n ws
   pub out : (w : ℕ) → HeldTo n ws w → HeldTo i s w × HeldTo (length os) os w
   pub back : (w : ℕ) → HeldTo i s w → HeldTo (length os) os w → HeldTo n ws w
-
-pub met_start : (s os : List ℕ) → Met s os s 0 0 0
-met_start s os =
-    record {
-      long = refl;
-      few = omega arith;
-      in_words = omega arith;
-      in_others = omega arith;
-      rest = λ k l. refl;
-      passed = λ k m l. absurd (omega arith);
-      below = λ k m l. absurd (omega arith);
-      rises = λ i j l m. absurd (omega arith);
-      out = λ w p. absurd (omega (arith, p.within));
-      back = λ w p. absurd (omega (arith, p.within));
-    }
 
 -- a number at one place is not less than that at a place before
 rises_le : (n : ℕ) (s : List ℕ) → RisesTo n s → (i j : ℕ) → i ≤ j → j < n → get_or s i 0 ≤ get_or s j 0
@@ -165,30 +150,3 @@ module _ (s os ws : List ℕ) (n i j : ℕ) (rs : RisesTo (length s) s) (ro : Ri
           out = on_out;
           back = on_back;
         }
-
--- no word is left, or no other
-pub met_end : (s os ws : List ℕ) (n i j : ℕ) → Met s os ws n i j → length ws ≤ i → Meets s os n ws
-met_end s os ws n i j v h =
-    record {
-      within = omega (arith, v.few, v.in_words);
-      rises = v.rises;
-      out = λ w p. (held_more v.in_words (v.out w p).0, (v.out w p).1);
-      back = λ w p q. v.back w (held_more (omega (arith, v.long)) p) q;
-    }
-
-pub met_over : (s os ws : List ℕ) (n i j : ℕ) → Met s os ws n i j → length os ≤ j → Meets s os n ws
-met_over s os ws n i j v h =
-    record {
-      within = omega (arith, v.few, v.in_words);
-      rises = v.rises;
-      out = λ w p. (held_more v.in_words (v.out w p).0, (v.out w p).1);
-      back = all;
-    }
-  where
-    all : (w : ℕ) → HeldTo (length s) s w → HeldTo (length os) os w → HeldTo n ws w
-    all w p q = at (dec_lt p.place i)
-      where
-        at : Dec (p.place < i) → HeldTo n ws w
-        at (yes x) = v.back w (record { place = p.place; within = x; there = p.there }) q
-        at (no x) =
-            absurd (omega (arith, v.passed q.place p.place (omega (arith, q.within)) (omega arith) p.within, p.there, q.there))

@@ -1,23 +1,22 @@
 -- Keeping the words of every table on a set: one table, then all of a book. Assumes nothing.
-use mathlib.Core.Path.{◌≡◌, refl, sym, ◌∙◌, subst}
-use mathlib.Core.Logic.{inl, inr}
+use mathlib.Core.Path.{◌≡◌, refl, sym, ap, ◌∙◌, subst}
+use mathlib.Core.Logic.{⊎_elim}
 use mathlib.Core.List.Memᴰ
-use mathlib.Core.List.{List, ◌++◌}
-use Prim.Native.Nat.{ℕ, ◌+◌, ◌/◌, ◌%◌, ◌≤◌, ◌<◌}
+use mathlib.Core.List.{List, [], ◌∷◌, ◌++◌}
+use Prim.Native.Nat.{ℕ, ◌+◌, ◌≤◌, ◌<◌}
+use native.Mathlib.Numerals.{add-one}
 use native.Mathlib.Omega.{arith}
-use native.Mathlib.Decide.{dec_lt}
-use lib.ListN.{length, get_or, take, drop, length-map}
-use lib.Seq.{length-take-le, get_or-take}
+use lib.ListN.{length, take, drop, length-append}
+use lib.Seq.{length-take-le, get_or-take, take-suc}
+use Rattle.std.specs.Prelude.{Option, Some, None}
+use Rattle.std.proofs.lemmas.Option.{none-some, same_Some}
 use Rattle.format.specs.Basics.{In}
-use Rattle.format.specs.Format.{Table, row_limit, table_count, table_at, book_of}
+use Rattle.format.specs.Format.{Table, table_count, table_at, book_of}
 use Rattle.format.specs.Promise.{place}
 use Rattle.format.proofs.Positions as positions
-use Rattle.format.proofs.Views.{no_table, tables_count, table_view, table_rows}
-use Rattle.words.specs.RowWord.{row_word}
+use Rattle.format.proofs.Views.{no_table, tables_count, table_view}
 use Rattle.joining.specs.Words.{key_of, table_words}
-use Rattle.joining.specs.Heads.{TableIn, Headed, Lent}
-use Rattle.joining.specs.Sets.{HeldTo, RisesTo, SetOf, Meets, every_word, Means, StateOk, NarrowedBy, NarrowedTo}
-use Rattle.joining.proofs.Heading.{head_key, head_place}
+use Rattle.joining.specs.Sets.{HeldTo, RisesTo, SetOf, Meets, Held, NarrowedBy, NarrowedTo}
 use Rattle.joining.proofs.Loading.{front_at, front_held, held_front}
 
 -- ---- members by place
@@ -46,149 +45,89 @@ module _ (ws : List ℕ) (n : ℕ) (h : n ≤ length ws) where
 
 -- ---- one table
 
-words_few : (s : List ℕ) (p room : ℕ) → TableIn s p room → length (table_words (table_at s p)) ≤ room
-words_few s p room t = omega (arith, length-map (table_at s p).rows row_word, table_rows s p, t.few)
+-- so many words, which rise
+pub held_some : (r : ℕ) (ws : List ℕ) → r ≤ length ws → RisesTo r ws → Held (Some r) ws
+held_some r ws h o =
+    record {
+      few = λ n e. omega (arith, same_Some r n e);
+      rises = λ n e. subst (λ (x : ℕ). RisesTo x ws) (same_Some r n e) o;
+    }
 
 -- the first table
-pub narrow_first : (s : List ℕ) (p n : ℕ) (ws : List ℕ) (r : ℕ) (ws' : List ℕ) → TableIn s p (length ws) → n ≡ every_word → SetOf (table_words (table_at s p)) r ws'
-    → NarrowedBy (table_at s p) n ws r ws'
-narrow_first s p n ws r ws' t e o =
+pub narrow_first : (t : Table) (ws : List ℕ) (r : ℕ) (ws' : List ℕ) → SetOf (table_words t) r ws' → NarrowedBy t None ws (Some r) ws'
+narrow_first t ws r ws' o =
     record {
-      few = omega (arith, o.within, words_few s p (length ws) t);
-      rises = o.rises;
-      out = λ w h. (inl e, held_in (table_words (table_at s p)) w (o.out w h));
-      back = λ w h m. o.back w (in_held (table_words (table_at s p)) w m);
+      some = λ e. none-some r (sym e);
+      out = λ w h. (tt, held_in (table_words t) w (o.out w h));
+      back = λ w h m. o.back w (in_held (table_words t) w m);
     }
-
--- a set of words, not every word
-pub state_set : (n : ℕ) (ws : List ℕ) → StateOk n ws → (n ≡ every_word → ⊥) → (n ≤ length ws) × RisesTo n ws
-state_set n ws (inl e) ne = absurd (ne e)
-state_set n ws (inr h) ne = h
-
-means_held : (n : ℕ) (ws : List ℕ) (w : ℕ) → (n ≡ every_word → ⊥) → Means n ws w → HeldTo n ws w
-means_held n ws w ne (inl e) = absurd (ne e)
-means_held n ws w ne (inr h) = h
 
 -- a further table
-module _ (s : List ℕ) (p n : ℕ) (ws : List ℕ) (t : TableIn s p (length ws)) (st : StateOk n ws) (ne : n ≡ every_word → ⊥)
-    (m : ℕ) (sp : List ℕ) (long : length sp ≡ length ws) (o : SetOf (table_words (table_at s p)) m sp) where
-  pub words_in : n ≤ length ws
-  words_in = (state_set n ws st ne).0
+module _ (t : Table) (n : ℕ) (ws : List ℕ) (h : n ≤ length ws) (m : ℕ) (sp : List ℕ) (g : m ≤ length sp) (o : SetOf (table_words t) m sp)
+    (r : ℕ) (vs : List ℕ) (lv : length vs ≡ length (take n ws)) (k : Meets (take n ws) (take m sp) r vs) where
+  within : r ≤ length vs
+  within = omega (arith, k.within)
 
-  pub others_in : m ≤ length sp
-  others_in = omega (arith, o.within, words_few s p (length ws) t)
+  pub meet_held : Held (Some r) (vs ++ drop n ws)
+  meet_held =
+      held_some r (vs ++ drop n ws) (omega (arith, k.within, length-append vs (drop n ws)))
+      (λ i j a b. omega (arith, k.rises i j a b, front_at vs (drop n ws) i (omega arith), front_at vs (drop n ws) j (omega arith)))
 
-  pub meet_in : RisesTo (length (take n ws)) (take n ws) × RisesTo (length (take m sp)) (take m sp)
-  meet_in = (taken_rises ws n words_in (state_set n ws st ne).1, taken_rises sp m others_in o.rises)
-
-  pub narrow_meet : (r : ℕ) (vs : List ℕ) → length vs ≡ length (take n ws) → Meets (take n ws) (take m sp) r vs
-      → NarrowedBy (table_at s p) n ws r (vs ++ drop n ws)
-  narrow_meet r vs lv k =
-      let lw : r ≤ length vs = omega (arith, k.within) in
+  pub narrow_meet : NarrowedBy t (Some n) ws (Some r) (vs ++ drop n ws)
+  narrow_meet =
       record {
-        few = omega (arith, k.within, length-take-le n ws words_in, (state_set n ws st ne).0);
-        rises = λ i j a b. omega (arith, k.rises i j a b, front_at vs (drop n ws) i (omega arith), front_at vs (drop n ws) j (omega arith));
-        out = λ w h.
-            let q = k.out w (held_front vs (drop n ws) r w lw h) in
-            (inr (held_taken ws n words_in w q.0), held_in (table_words (table_at s p)) w (o.out w (held_taken sp m others_in w q.1)));
-        back = λ w h i.
-            front_held vs (drop n ws) r w lw
-            (k.back w (taken_held ws n words_in w (means_held n ws w ne h)) (taken_held sp m others_in w (o.back w (in_held (table_words (table_at s p)) w i))));
+        some = λ e. none-some r (sym e);
+        out = λ w q.
+            let p = k.out w (held_front vs (drop n ws) r w within q) in
+            (held_taken ws n h w p.0, held_in (table_words t) w (o.out w (held_taken sp m g w p.1)));
+        back = λ w q i.
+            front_held vs (drop n ws) r w within
+            (k.back w (taken_held ws n h w q) (taken_held sp m g w (o.back w (in_held (table_words t) w i))));
       }
 
--- words lent stay as many
-pub lent_still : (ws vs ws' vs' : List ℕ) → Lent ws vs → length ws' ≡ length ws → length vs' ≡ length vs → Lent ws' vs'
-lent_still ws vs ws' vs' l e f = record { as_many = f ∙ l.as_many ∙ sym e; few = omega (arith, l.few) }
+-- ---- several tables
 
--- ---- all tables of a book
+-- the one is the other
+only : (u t : Table) → In u (t ∷ []) → u ≡ t
+only u t m = ⊎_elim (λ (e : u ≡ t). e) (λ (x : In u []). absurd (Memᴰ.not-nil x)) (Memᴰ.cases_cons m)
 
--- after the first i tables
-pub record NarrowTo (s hs : List ℕ) (key n₀ : ℕ) (ws₀ : List ℕ) (n : ℕ) (ws : List ℕ) (i : ℕ) : Type 0 where
-  pub in_heads : i ≤ length hs
-  pub long : length ws ≡ length ws₀
-  pub state : StateOk n ws
-  pub out : (w : ℕ) → Means n ws w → Means n₀ ws₀ w × ((k : ℕ) → k < i → key_of (table_at s (place s k)) ≡ key → In w (table_words (table_at s (place s k))))
-  pub back : (w : ℕ) → Means n₀ ws₀ w → ((k : ℕ) → k < i → key_of (table_at s (place s k)) ≡ key → In w (table_words (table_at s (place s k)))) → Means n ws w
-  pub none : n ≡ every_word → (n₀ ≡ every_word) × ((k : ℕ) → k < i → key_of (table_at s (place s k)) ≡ key → ⊥)
-
-pub narrow_start : (s hs : List ℕ) (key n : ℕ) (ws : List ℕ) → StateOk n ws → NarrowTo s hs key n ws n ws 0
-narrow_start s hs key n ws st =
+-- a table with another key
+pub narrowed_skip : (k : ℕ) (t : Table) (n : Option ℕ) (ws : List ℕ) → (key_of t ≡ k → ⊥) → NarrowedTo k (t ∷ []) n ws n ws
+narrowed_skip k t n ws ne =
     record {
-      in_heads = omega arith;
-      long = refl;
-      state = st;
-      out = λ w h. (h, λ k l. absurd (omega arith));
+      out = λ w h. (h, λ u m e. absurd (ne (ap key_of (sym (only u t m)) ∙ e)));
       back = λ w h g. h;
-      none = λ e. (e, λ k l. absurd (omega arith));
+      none = λ e. (e, λ u m q. ne (ap key_of (sym (only u t m)) ∙ q));
     }
 
--- table k is one of the first i, or table i
-before_or : (P : ℕ → Type 0) (i : ℕ) → ((k : ℕ) → k < i → P k) → P i → (k : ℕ) → k < i + 1 → P k
-before_or P i f x k h = at (dec_lt k i)
-  where
-    at : Dec (k < i) → P k
-    at (yes q) = f k q
-    at (no q) = let e : i ≡ k = omega arith in subst P e x
-
-module _ (s hs : List ℕ) (key n₀ : ℕ) (ws₀ : List ℕ) (n : ℕ) (ws : List ℕ) (i : ℕ) (v : NarrowTo s hs key n₀ ws₀ n ws i) (l : i < length hs)
-    (b : Headed s hs (length ws₀)) where
-  -- a table with another key
-  pub narrow_skip : (get_or hs i 0 / 65536 ≡ key → ⊥) → NarrowTo s hs key n₀ ws₀ n ws (i + 1)
-  narrow_skip ne =
-      let other : key_of (table_at s (place s i)) ≡ key → ⊥ = λ e. ne (head_key s hs (length ws₀) b i l ∙ e) in
-      record {
-        in_heads = omega arith;
-        long = v.long;
-        state = v.state;
-        out = λ w h. (
-          (v.out w h).0,
-          before_or (λ k. key_of (table_at s (place s k)) ≡ key → In w (table_words (table_at s (place s k)))) i (v.out w h).1 (λ e. absurd (other e)),
-        );
-        back = λ w h g. v.back w h (λ k q. g k (omega arith));
-        none = λ e. ((v.none e).0, before_or (λ k. key_of (table_at s (place s k)) ≡ key → ⊥) i (v.none e).1 other);
-      }
-
-  -- a table with this key
-  pub narrow_on : length ws₀ ≤ row_limit → get_or hs i 0 / 65536 ≡ key → (n' : ℕ) (ws' : List ℕ) → length ws' ≡ length ws
-      → NarrowedBy (table_at s (get_or hs i 0 % 65536)) n ws n' ws' → NarrowTo s hs key n₀ ws₀ n' ws' (i + 1)
-  narrow_on few e n' ws' lw b' =
-      let c : NarrowedBy (table_at s (place s i)) n ws n' ws' =
-      subst (λ (p : ℕ). NarrowedBy (table_at s p) n ws n' ws') (head_place s hs (length ws₀) b i l) b' in
-      let this : key_of (table_at s (place s i)) ≡ key = sym (head_key s hs (length ws₀) b i l) ∙ e in
-      let set : (w : ℕ) → Means n' ws' w → HeldTo n' ws' w = λ w. means_held n' ws' w (λ q. omega (arith, c.few, v.long)) in
-      record {
-        in_heads = omega arith;
-        long = lw ∙ v.long;
-        state = inr (omega (arith, c.few, lw), c.rises);
-        out = λ w h.
-            let r = c.out w (set w h) in
-            let q = v.out w r.0 in (
-              q.0,
-              before_or (λ k. key_of (table_at s (place s k)) ≡ key → In w (table_words (table_at s (place s k)))) i q.1 (λ _. r.1),
-            );
-        back = λ w h g. inr (c.back w (v.back w h (λ k q. g k (omega arith))) (g i (omega arith) this));
-        none = λ q. absurd (omega (arith, c.few, v.long));
-      }
-
--- a table of the book is one at a place
-pub table_member : (s : List ℕ) (i : ℕ) → i < table_count s → In (table_at s (place s i)) (book_of s).tables
-table_member s i h =
-    Memᴰ.cast (sym (table_view s no_table i h)) (positions.at_in no_table (book_of s).tables i (omega (arith, tables_count s)))
-
-pub narrow_end : (s hs : List ℕ) (key n₀ : ℕ) (ws₀ : List ℕ) (n : ℕ) (ws : List ℕ) (i : ℕ) → Headed s hs (length ws₀)
-    → NarrowTo s hs key n₀ ws₀ n ws i → length hs ≤ i → NarrowedTo key (book_of s).tables n₀ ws₀ n ws
-narrow_end s hs key n₀ ws₀ n ws i b v h =
-    let e : i ≡ table_count s = omega (arith, v.in_heads, b.heads.as_many) in
+-- a table with this key
+pub narrowed_one : (k : ℕ) (t : Table) (n : Option ℕ) (ws : List ℕ) (n' : Option ℕ) (ws' : List ℕ) → key_of t ≡ k → NarrowedBy t n ws n' ws'
+    → NarrowedTo k (t ∷ []) n ws n' ws'
+narrowed_one k t n ws n' ws' is b =
     record {
-      state = v.state;
-      out = λ w q. ((v.out w q).0, λ u m k. found u m (λ x. key_of x ≡ key → In w (table_words x)) (v.out w q).1 k);
-      back = λ w q g. v.back w q (λ k l. g (table_at s (place s k)) (table_member s k (omega (arith, e))));
-      none = λ q. ((v.none q).0, λ u m k. found u m (λ x. key_of x ≡ key → ⊥) (v.none q).1 k);
+      out = λ w h. ((b.out w h).0, λ u m e. subst (λ (x : Table). In w (table_words x)) (sym (only u t m)) (b.out w h).1);
+      back = λ w h g. b.back w h (g t (Memᴰ.head refl) is);
+      none = λ e. absurd (b.some e);
     }
-  where
-    -- what holds of each place holds of each table
-    found : (u : Table) → In u (book_of s).tables → (P : Table → Type 0) → ((k : ℕ) → k < i → P (table_at s (place s k))) → P u
-    found u m P f =
-        let r = positions.in_at no_table m in
-        let l : r.0 < table_count s = omega (arith, r.1, tables_count s) in
-        subst P (sym (table_view s no_table r.0 l) ∙ r.2) (f r.0 (omega (arith, v.in_heads, b.heads.as_many)))
+
+-- some tables, then others
+pub narrowed_append : (k : ℕ) (ts us : List Table) (n : Option ℕ) (ws : List ℕ) (m : Option ℕ) (vs : List ℕ) (r : Option ℕ) (xs : List ℕ)
+    → NarrowedTo k ts n ws m vs → NarrowedTo k us m vs r xs → NarrowedTo k (ts ++ us) n ws r xs
+narrowed_append k ts us n ws m vs r xs p q =
+    record {
+      out = λ w h.
+          let a = q.out w h in
+          let b = p.out w a.0 in
+          (b.0, λ t i e. ⊎_elim (λ (j : In t ts). b.1 t j e) (λ (j : In t us). a.1 t j e) (Memᴰ.append_cases ts i));
+      back = λ w h g. q.back w (p.back w h (λ t i e. g t (Memᴰ.append_left us i) e)) (λ t i e. g t (Memᴰ.append_right ts i) e);
+      none = λ e.
+          let a = q.none e in
+          let b = p.none a.0 in
+          (b.0, λ t i g. ⊎_elim (λ (j : In t ts). b.1 t j g) (λ (j : In t us). a.1 t j g) (Memᴰ.append_cases ts i));
+    }
+
+-- the first tables of a book, and one more
+pub tables_on : (s : List ℕ) (i : ℕ) → i < table_count s → take (i + 1) (book_of s).tables ≡ take i (book_of s).tables ++ (table_at s (place s i) ∷ [])
+tables_on s i h =
+    ap (λ (k : ℕ). take k (book_of s).tables) (add-one i) ∙ take-suc (book_of s).tables i no_table (omega (arith, tables_count s))
+    ∙ ap (λ (t : Table). take i (book_of s).tables ++ (t ∷ [])) (table_view s no_table i h)

@@ -153,9 +153,6 @@ pub digits_word : (xs : List ℕ) → Bytes xs → length xs ≤ 4 → digits_of
 unfolding digits_of
 digits_word xs s h = ap (take (length xs)) (word_fours xs s) ∙ take_fours xs h
 
-pub word_small : (xs : List ℕ) → Bytes xs → row_word xs < 4294967296
-word_small xs s = omega (arith, small_at xs s 0, small_at xs s 1, small_at xs s 2, small_at xs s 3)
-
 -- ---- the order of words is that of their lists
 
 module _ (xs ys : List ℕ) (s : Bytes xs) (t : Bytes ys) (g : length xs ≤ 4) (h : length ys ≤ 4) (f : Fair xs ys) where
@@ -215,3 +212,12 @@ key_arity_lem (a ∷ b ∷ c ∷ d ∷ e ∷ fs) s r g h = absurd (omega arith)
 pub key_fields_lem : (fs : List ℕ) → Bytes fs → Rising 0 fs → 1 ≤ length fs → length fs ≤ 4 → key_fields (row_word fs) ≡ fs
 unfolding key_fields
 key_fields_lem fs s r g h = rw (key_arity_lem fs s r g h) (digits_word fs s h)
+
+-- a key is below the greatest word
+pub key_room : (fs : List ℕ) → Bytes fs → Rising 0 fs → length fs ≤ 4 → row_word fs + 1 < 4294967296
+key_room [] s r h = omega arith
+key_room (a ∷ []) s r h = omega (arith, s.0)
+key_room (a ∷ b ∷ []) s r h = omega (arith, s.0, s.1.0)
+key_room (a ∷ b ∷ c ∷ []) s r h = omega (arith, s.0, s.1.0, s.1.1.0)
+key_room (a ∷ b ∷ c ∷ d ∷ []) s r h = omega (arith, s.0, s.1.0, s.1.1.0, s.1.1.1.0, r.1.1.1.0)
+key_room (a ∷ b ∷ c ∷ d ∷ e ∷ fs) s r h = absurd (omega arith)

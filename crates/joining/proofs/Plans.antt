@@ -1,15 +1,16 @@
 -- The plan: the least key from the last one on gives the next table of the joined book, and the words in every table its rows. Assumes nothing.
 use mathlib.Core.Path.{◌≡◌, refl, sym, ap, ap₂, ◌∙◌, subst, subst₂}
-use mathlib.Core.Logic.{◌⊎◌, inl, inr, ⊎_elim}
-use mathlib.Core.Bool.{Bool, true, false, ◌&&◌}
+use mathlib.Core.Logic.{⊎_elim}
+use mathlib.Core.Bool.{Bool, true, false}
 use mathlib.Core.List.Memᴰ
 use mathlib.Core.List.{List, [], ◌∷◌, ◌++◌, map}
 use Prim.Native.Nat.{ℕ, suc, ◌+◌, ◌≤◌, ◌<◌}
 use native.Mathlib.Omega.{arith}
-use native.Mathlib.Decide.{dec_lt, ℕ_discrete}
+use native.Mathlib.Decide.{ℕ_discrete}
 use lib.ListN.{length}
-use lib.Dec.{ltb, leb}
-use borrow.Author.Tests.{lt-ltb, le-ltb, le-leb, lt-leb, leb-true}
+use Rattle.std.specs.Prelude.{Some, None}
+use lib.Dec.{leb}
+use borrow.Author.Tests.{le-leb, leb-true}
 use Rattle.format.specs.Basics.{pick, All, In, Pairwise}
 use Rattle.format.specs.Format.{Table, Book, TableOk, RowOk, Rising, WellFormed}
 use Rattle.format.specs.Layout.{Bytes}
@@ -22,10 +23,10 @@ use Rattle.format.proofs.Risen.{rows_unique, in_risen, risen_in, risen_rises}
 use Rattle.format.proofs.Joined.{occurs_listed, listed_occurs, in_keep, keep_in, common_are, common_rise}
 use Rattle.words.specs.RowWord.{row_word}
 use Rattle.words.proofs.RowWords.{RowOf, table_row}
-use Rattle.joining.specs.Words.{key_of, table_words, InEveryWord, digits_of, key_arity, key_fields, least_from, no_key}
+use Rattle.joining.specs.Words.{key_of, table_words, InEveryWord, digits_of, key_arity, key_fields, Least}
 use Rattle.joining.specs.Sets.{RisesTo}
 use Rattle.joining.specs.Puts.{word_table}
-use Rattle.joining.proofs.Packing.{Fair, fair_length, fair_rising, less_precedes, same_list, digits_word, word_small, key_arity_lem, key_fields_lem}
+use Rattle.joining.proofs.Packing.{Fair, fair_length, fair_rising, less_precedes, same_list, digits_word, key_arity_lem, key_fields_lem}
 
 -- ---- tables of few fields that rise, all numbers of a byte
 
@@ -55,76 +56,6 @@ fine_book b w t m =
 
 pub fine_append : (ts us : List Table) → Fine ts → Fine us → Fine (ts ++ us)
 fine_append ts us f g t m = ⊎_elim (λ (n : In t ts). f t n) (λ (n : In t us). g t n) (Memᴰ.append_cases ts m)
-
--- ---- the least key
-
--- best, or a key from a on
-pub data LeastIs (a best : ℕ) (ks : List ℕ) (m : ℕ) : Type 0 where
-  stays : m ≡ best → LeastIs a best ks m
-  found : (k : ℕ) → In k ks → m ≡ k → a ≤ m → LeastIs a best ks m
-
-least_more : (a best best' m k : ℕ) (ks : List ℕ) → LeastIs a best' ks m → ((best' ≡ k) × (a ≤ k)) ⊎ (best' ≡ best) → LeastIs a best (k ∷ ks) m
-least_more a best best' m k ks (stays e) (inl h) = found k (Memᴰ.head refl) (e ∙ h.0) (omega (arith, h.0, h.1))
-least_more a best best' m k ks (stays e) (inr h) = stays (e ∙ h)
-least_more a best best' m k ks (found u i e l) h = found u (Memᴰ.tail i) e l
-
--- the choice between a key and the best so far
-data Chosen (a k best c : ℕ) : Type 0 where
-  took : c ≡ k → a ≤ k → k < best → Chosen a k best c
-  large : c ≡ best → best ≤ k → Chosen a k best c
-  small : c ≡ best → k < a → Chosen a k best c
-
-abbrev choice : ℕ → ℕ → ℕ → ℕ
-choice a k best = pick (leb a k && ltb k best) k best
-
-chosen : (a k best : ℕ) → Chosen a k best (choice a k best)
-chosen a k best = go (dec_lt k a) (dec_lt k best)
-  where
-    go : Dec (k < a) → Dec (k < best) → Chosen a k best (choice a k best)
-    go (no h) (yes g) = took (simp (le-leb a k (omega arith), lt-ltb k best g)) (omega arith) g
-    go (no h) (no g) = large (simp (le-leb a k (omega arith), le-ltb k best (omega arith))) (omega arith)
-    go (yes h) d = small (simp (lt-leb a k h)) h
-
-chosen_is : (a k best c : ℕ) → Chosen a k best c → ((c ≡ k) × (a ≤ k)) ⊎ (c ≡ best)
-chosen_is a k best c (took e h g) = inl (e, h)
-chosen_is a k best c (large e h) = inr e
-chosen_is a k best c (small e h) = inr e
-
-least_is : (a best : ℕ) (ks : List ℕ) → LeastIs a best ks (least_from a best ks)
-unfolding least_from
-least_is a best [] = stays refl
-least_is a best (k ∷ ks) =
-    least_more a best (choice a k best) _ k ks (least_is a (choice a k best) ks) (chosen_is a k best _ (chosen a k best))
-
-chosen_best : (a k best c : ℕ) → Chosen a k best c → c ≤ best
-chosen_best a k best c (took e h g) = omega arith
-chosen_best a k best c (large e h) = omega arith
-chosen_best a k best c (small e h) = omega arith
-
-chosen_key : (a k best c : ℕ) → a ≤ k → Chosen a k best c → c ≤ k
-chosen_key a k best c l (took e h g) = omega arith
-chosen_key a k best c l (large e h) = omega arith
-chosen_key a k best c l (small e h) = absurd (omega arith)
-
-least_best : (a best : ℕ) (ks : List ℕ) → least_from a best ks ≤ best
-unfolding least_from
-least_best a best [] = omega arith
-least_best a best (k ∷ ks) = omega (arith, least_best a (choice a k best) ks, chosen_best a k best _ (chosen a k best))
-
-least_low : (a best : ℕ) (ks : List ℕ) (k : ℕ) → In k ks → a ≤ k → least_from a best ks ≤ k
-unfolding least_from
-least_low a best [] k m h = absurd (Memᴰ.not-nil m)
-least_low a best (j ∷ ks) k m h =
-    ⊎_elim
-    (λ (e : k ≡ j).
-    omega (arith, least_best a (choice a j best) ks, e, chosen_key a j best _ (omega (arith, e)) (chosen a j best)))
-    (λ (i : In k ks). least_low a (choice a j best) ks k i h) (Memᴰ.cases_cons m)
-
--- the keys of both books, one behind the other
-pub least_append : (a best : ℕ) (ks ls : List ℕ) → least_from a (least_from a best ks) ls ≡ least_from a best (ks ++ ls)
-unfolding least_from
-least_append a best [] ls = refl
-least_append a best (k ∷ ks) ls = least_append a (choice a k best) ks ls
 
 -- ---- the sets that are left
 
@@ -202,12 +133,8 @@ module _ (ts : List Table) (fine : Fine ts) where
       (λ z m. (in_keep (λ fs. leb 0 (row_word fs)) (risen (field_lists ts)) z m).0) (λ z m. in_from 0 z (listed_table z m) (omega arith))
 
   -- no set is left
-  pub sets_none : (a : ℕ) → least_from a no_key (keys_of ts) ≡ no_key → sets_from a ts ≡ []
-  sets_none a e =
-      none_in (sets_from a ts)
-      (λ z m.
-      let r = from_in a z m in
-      omega (arith, least_low a no_key (keys_of ts) (row_word z) (occurs_key r.0) r.1, word_small z (fine_set r.0).bytes))
+  pub sets_none : (a : ℕ) → Least a (keys_of ts) None → sets_from a ts ≡ []
+  sets_none a e = none_in (sets_from a ts) (λ z m. let r = from_in a z m in omega (arith, e (row_word z) (occurs_key r.0), r.1))
 
   -- the next set
   pub record NextSet (a m : ℕ) : Type 0 where
@@ -216,7 +143,7 @@ module _ (ts : List Table) (fine : Fine ts) where
     pub key : m ≡ row_word fields
     pub rest : sets_from a ts ≡ fields ∷ sets_from (m + 1) ts
 
-  module _ (a m : ℕ) (e : m ≡ least_from a no_key (keys_of ts)) (t : Table) (i : In t ts) (k : m ≡ key_of t) (l : a ≤ m) where
+  module _ (a m : ℕ) (e : Least a (keys_of ts) (Some m)) (t : Table) (i : In t ts) (k : m ≡ key_of t) where
     this : Occurs t.fields ts
     this = record { table = t; member = i; on = refl }
 
@@ -228,7 +155,7 @@ module _ (ts : List Table) (fine : Fine ts) where
     to_rest : (z : List ℕ) → In z (sets_from a ts) → In z (t.fields ∷ sets_from (m + 1) ts)
     to_rest z n =
         let r = from_in a z n in
-        go r (omega (arith, e, least_low a no_key (keys_of ts) (row_word z) (occurs_key r.0) r.1)) (ℕ_discrete m (row_word z))
+        go r (e.2 (row_word z) (occurs_key r.0) r.1) (ℕ_discrete m (row_word z))
       where
         go : Occurs z ts × (a ≤ row_word z) → m ≤ row_word z → Dec (m ≡ row_word z) → In z (t.fields ∷ sets_from (m + 1) ts)
         go r le (yes q) = Memᴰ.head (sym (sets_same this r.0 (sym k ∙ q)))
@@ -236,8 +163,8 @@ module _ (ts : List Table) (fine : Fine ts) where
 
     of_rest : (z : List ℕ) → In z (t.fields ∷ sets_from (m + 1) ts) → In z (sets_from a ts)
     of_rest z n =
-        ⊎_elim (λ (q : z ≡ t.fields). Memᴰ.cast q (in_from a t.fields this (omega arith)))
-        (λ (q : In z (sets_from (m + 1) ts)). let r = from_in (m + 1) z q in in_from a z r.0 (omega (arith, r.1))) (Memᴰ.cases_cons n)
+        ⊎_elim (λ (q : z ≡ t.fields). Memᴰ.cast q (in_from a t.fields this (omega (arith, e.1))))
+        (λ (q : In z (sets_from (m + 1) ts)). let r = from_in (m + 1) z q in in_from a z r.0 (omega (arith, r.1, e.1))) (Memᴰ.cases_cons n)
 
     found_next : NextSet a m
     found_next =
@@ -248,14 +175,8 @@ module _ (ts : List Table) (fine : Fine ts) where
           rest = rows_unique (sets_from a ts) (t.fields ∷ sets_from (m + 1) ts) (sets_rise a) (before_rest, sets_rise (m + 1)) to_rest of_rest;
         }
 
-  next_cases : (a m : ℕ) → m ≡ least_from a no_key (keys_of ts) → (m ≡ no_key → ⊥) → LeastIs a no_key (keys_of ts) m → NextSet a m
-  next_cases a m e ne (stays q) = absurd (ne q)
-  next_cases a m e ne (found k i q l) =
-      let r = in_map key_of ts i in
-      found_next a m e r.0 r.1 (q ∙ r.2) l
-
-  pub next_set : (a m : ℕ) → m ≡ least_from a no_key (keys_of ts) → (m ≡ no_key → ⊥) → NextSet a m
-  next_set a m e ne = next_cases a m e ne (subst (LeastIs a no_key (keys_of ts)) (sym e) (least_is a no_key (keys_of ts)))
+  pub next_set : (a m : ℕ) → Least a (keys_of ts) (Some m) → NextSet a m
+  next_set a m e = let r = in_map key_of ts e.0 in found_next a m e r.0 r.1 r.2
 
 -- ---- the rows of the next table
 

@@ -1,5 +1,5 @@
 -- Keeping each word one time: the turns of `keep_once`. Assumes nothing.
-use mathlib.Core.Path.{◌≡◌, refl, sym, ap, ◌∙◌}
+use mathlib.Core.Path.{◌≡◌, sym, ap, ◌∙◌}
 use mathlib.Core.List.{List}
 use Prim.Native.Nat.{ℕ, ◌+◌, ◌-◌, ◌≤◌, ◌<◌}
 use native.Mathlib.Omega.{arith}
@@ -7,7 +7,7 @@ use native.Mathlib.Decide.{dec_lt}
 use lib.ListN.{length, get_or, set, length-set}
 use lib.Seq.{get_or-set_same, get_or-set_other}
 use Rattle.words.specs.Sorting.{NeverFalls}
-use Rattle.joining.specs.Sets.{HeldTo, RisesTo, SetOf}
+use Rattle.joining.specs.Sets.{HeldTo, RisesTo}
 
 -- more numbers hold what fewer do
 pub held_more : {n m : ℕ} {ws : List ℕ} {w : ℕ} → n ≤ m → HeldTo n ws w → HeldTo m ws w
@@ -61,20 +61,6 @@ pub record Kept (s ws : List ℕ) (n i : ℕ) : Type 0 where
   pub rises : RisesTo n ws
   pub out : (w : ℕ) → HeldTo n ws w → HeldTo i s w
   pub back : (w : ℕ) → HeldTo i s w → HeldTo n ws w
-
-pub kept_start : (s : List ℕ) → 1 ≤ length s → Kept s s 1 1
-kept_start s h =
-    record {
-      long = refl;
-      some = omega arith;
-      few = omega arith;
-      in_words = h;
-      rest = λ k l. refl;
-      last = refl;
-      rises = λ i j l m. absurd (omega arith);
-      out = λ w p. p;
-      back = λ w p. p;
-    }
 
 module _ (s ws : List ℕ) (n i : ℕ) (v : Kept s ws n i) (l : i < length ws) where
   held_next : (w : ℕ) → HeldTo (i + 1) s w → ((w ≡ get_or s i 0) → HeldTo n ws w) → HeldTo n ws w
@@ -155,22 +141,3 @@ module _ (s ws : List ℕ) (n i : ℕ) (v : Kept s ws n i) (l : i < length ws) w
           out = on_out;
           back = on_back;
         }
-
-pub kept_end : (s ws : List ℕ) (n i : ℕ) → Kept s ws n i → length ws ≤ i → SetOf s n ws
-kept_end s ws n i v h =
-    let e : i ≡ length s = omega (arith, v.long, v.in_words) in
-    record {
-      within = omega (arith, v.few, v.in_words);
-      rises = v.rises;
-      out = λ w p. held_more (omega arith) (v.out w p);
-      back = λ w p. v.back w (held_more (omega arith) p);
-    }
-
-pub kept_none : (s : List ℕ) → length s < 1 → SetOf s 0 s
-kept_none s h =
-    record {
-      within = omega arith;
-      rises = λ i j l m. absurd (omega arith);
-      out = λ w p. absurd (omega (arith, p.within));
-      back = λ w p. absurd (omega (arith, p.within));
-    }

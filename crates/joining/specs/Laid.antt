@@ -1,25 +1,12 @@
 -- What laying out the tables of two books joined asks and answers. Assumes nothing.
-use Rattle.std.specs.Prelude.{ℕ, ◌+◌, ◌*◌, ◌≤◌, ◌<◌, ◌≡◌, ◌⊎◌, List, ◌++◌, length, take}
+use Rattle.std.specs.Prelude.{ℕ, ◌+◌, ◌*◌, ◌≤◌, ◌<◌, ◌≡◌, ◌⊎◌, List, ◌++◌, length, take, Result, Ok, Err}
 use Rattle.format.specs.Basics.{In}
 use Rattle.format.specs.Format.{Table, field_most, arity_limit, table_limit, row_limit, row_total, tables_bytes, book_of}
 use Rattle.format.specs.Writing.{book_limit}
 use Rattle.joining.specs.Words.{key_of, InEveryWord}
-use Rattle.joining.specs.Heads.{TablesIn, Headed}
 use Rattle.joining.specs.Sets.{HeldTo, RisesTo}
 use Rattle.joining.specs.declared.lay.Laid.{Laid}
-use Rattle.joining.specs.declared.lay.Laid.TheVariants.{Over, All}
-
--- two books, with the heads of their tables and room for their rows
-pub record BothHeaded (s hs t ks : List ℕ) (room : ℕ) : Type 0 where
-  pub first : Headed s hs room
-  pub second : Headed t ks room
-
--- two books, their numbers of tables, and room for their rows
-pub record BothIn (s : List ℕ) (n : ℕ) (t : List ℕ) (m room : ℕ) : Type 0 where
-  pub first : TablesIn s n
-  pub second : TablesIn t m
-  pub first_few : row_total (book_of s).tables ≤ room
-  pub second_few : row_total (book_of t).tables ≤ room
+use Rattle.joining.specs.declared.lay.Over.{Over}
 
 -- the tables of both
 abbrev pub both_tables : List ℕ → List ℕ → List Table
@@ -56,7 +43,7 @@ pub record AllLaid (cs : List Table) (end tables : ℕ) (o : List ℕ) : Type 0 
   pub end_is : end ≡ length (tables_bytes cs)
   pub there : take end o ≡ tables_bytes cs
 
--- the answer: too many tables or rows, or no room in memory that is shorter than a book may be; or all laid out
-abbrev pub LaidOut : List Table → Laid → List ℕ → Type 0
-LaidOut cs Over o = ((table_limit < length cs) ⊎ (row_limit < row_total cs)) ⊎ (length o < book_limit)
-LaidOut cs (All end tables) o = AllLaid cs end tables o
+-- the answer: all laid out; or too many tables or rows, or no room in memory that is shorter than a book may be
+abbrev pub LaidOut : List Table → Result Laid Over → List ℕ → Type 0
+LaidOut cs (Ok laid) o = AllLaid cs laid.end laid.tables o
+LaidOut cs (Err over) o = ((table_limit < length cs) ⊎ (row_limit < row_total cs)) ⊎ (length o < book_limit)

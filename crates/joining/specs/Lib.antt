@@ -4,4 +4,5 @@ pub mod Sets
 pub mod Puts
 pub mod Laid
 pub mod Ends
+pub mod Numbers
 pub mod Answers

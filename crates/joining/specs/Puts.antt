@@ -1,7 +1,7 @@
 -- What laying out bytes leaves in the memory lent. Assumes nothing.
-use Rattle.std.specs.Prelude.{ℕ, ◌+◌, ◌*◌, ◌≤◌, ◌<◌, ◌≡◌, List, ◌++◌, map, length, take}
+use Rattle.std.specs.Prelude.{ℕ, ◌+◌, ◌*◌, ◌≤◌, ◌≡◌, List, ◌++◌, map, length, take}
 use Rattle.format.specs.Format.{Table, arity_limit, row_limit}
-use Rattle.joining.specs.Words.{digits_of, key_arity, key_fields, no_key}
+use Rattle.joining.specs.Words.{digits_of, key_arity, key_fields}
 
 -- o' has what o has before at, then these bytes; r is the place behind them. What stands behind is left free
 pub record Put (o : List ℕ) (at : ℕ) (bytes o' : List ℕ) (r : ℕ) : Type 0 where
@@ -16,7 +16,5 @@ word_table k ws = record { fields = key_fields k; rows = map (digits_of (key_ari
 -- a table with this key and n rows has room at a place, and so have the four bytes of its last row
 pub record TableFits (key n at room : ℕ) : Type 0 where
   pub few : n ≤ row_limit
-  pub small : key < no_key
   pub fits : at + 3 + arity_limit + arity_limit * n + arity_limit ≤ room
-  pub some_fields : 1 ≤ key_arity key
   pub few_fields : key_arity key ≤ arity_limit

@@ -1,6 +1,6 @@
 -- Words in memory lent as sets: the first n of a list, rising. What is kept is said by its members, and these and the order determine it.
 -- Assumes nothing.
-use Rattle.std.specs.Prelude.{ℕ, ◌≤◌, ◌<◌, ◌≡◌, ◌⊎◌, List, length, get_or}
+use Rattle.std.specs.Prelude.{ℕ, ◌≤◌, ◌<◌, ◌≡◌, List, length, get_or, Option, Some, None}
 use Rattle.format.specs.Basics.{In}
 use Rattle.format.specs.Format.{Table}
 use Rattle.joining.specs.Words.{key_of, table_words, InEveryWord}
@@ -31,28 +31,24 @@ pub record Meets (xs ys : List ℕ) (n : ℕ) (ws : List ℕ) : Type 0 where
 
 -- ---- the words of every table on a set
 
--- in the place of a number of words: no table so far, and so every word
-abbrev pub every_word : ℕ
-every_word = 4097
+-- w is one of the words so far: every word where there is no table yet
+abbrev pub Means : Option ℕ → List ℕ → ℕ → Type 0
+Means None ws w = Unit {0}
+Means (Some n) ws w = HeldTo n ws w
 
--- w is one of the words so far
-abbrev pub Means : ℕ → List ℕ → ℕ → Type 0
-Means n ws w = (n ≡ every_word) ⊎ HeldTo n ws w
-
--- every word, or a set
-abbrev pub StateOk : ℕ → List ℕ → Type 0
-StateOk n ws = (n ≡ every_word) ⊎ ((n ≤ length ws) × RisesTo n ws)
+-- where there is one, the words so far are a set
+pub record Held (found : Option ℕ) (ws : List ℕ) : Type 0 where
+  pub few : (n : ℕ) → found ≡ Some n → n ≤ length ws
+  pub rises : (n : ℕ) → found ≡ Some n → RisesTo n ws
 
 -- of the words so far, those of table t
-pub record NarrowedBy (t : Table) (n : ℕ) (ws : List ℕ) (n' : ℕ) (ws' : List ℕ) : Type 0 where
-  pub few : n' ≤ length ws
-  pub rises : RisesTo n' ws'
-  pub out : (w : ℕ) → HeldTo n' ws' w → Means n ws w × In w (table_words t)
-  pub back : (w : ℕ) → Means n ws w → In w (table_words t) → HeldTo n' ws' w
+pub record NarrowedBy (t : Table) (n : Option ℕ) (ws : List ℕ) (n' : Option ℕ) (ws' : List ℕ) : Type 0 where
+  pub some : n' ≡ None → ⊥
+  pub out : (w : ℕ) → Means n' ws' w → Means n ws w × In w (table_words t)
+  pub back : (w : ℕ) → Means n ws w → In w (table_words t) → Means n' ws' w
 
 -- of the words so far, those of every one of these tables on the set with key k; every word yet where there is none
-pub record NarrowedTo (k : ℕ) (ts : List Table) (n : ℕ) (ws : List ℕ) (n' : ℕ) (ws' : List ℕ) : Type 0 where
-  pub state : StateOk n' ws'
+pub record NarrowedTo (k : ℕ) (ts : List Table) (n : Option ℕ) (ws : List ℕ) (n' : Option ℕ) (ws' : List ℕ) : Type 0 where
   pub out : (w : ℕ) → Means n' ws' w → Means n ws w × InEveryWord w k ts
   pub back : (w : ℕ) → Means n ws w → InEveryWord w k ts → Means n' ws' w
-  pub none : n' ≡ every_word → (n ≡ every_word) × ((t : Table) → In t ts → key_of t ≡ k → ⊥)
+  pub none : n' ≡ None → (n ≡ None) × ((t : Table) → In t ts → key_of t ≡ k → ⊥)

@@ -1,5 +1,5 @@
 -- Sets of fields and rows as words: the key of a set is the word of its field list. Assumes nothing.
-use Rattle.std.specs.Prelude.{ℕ, ◌/◌, ◌%◌, ◌≡◌, List, [], ◌∷◌, map, ◌&&◌, take, ltb, leb, eqb}
+use Rattle.std.specs.Prelude.{ℕ, ◌/◌, ◌%◌, ◌≤◌, ◌<◌, ◌≡◌, List, [], ◌∷◌, map, take, ◌⊎◌, eqb, Option, Some, None}
 use Rattle.format.specs.Basics.{pick, In}
 use Rattle.format.specs.Format.{Table}
 use Rattle.words.specs.RowWord.{row_word}
@@ -32,20 +32,15 @@ key_arity k = pick (eqb (k % 256) 0) (pick (eqb (k / 256 % 256) 0) (pick (eqb (k
 unfoldable pub key_fields : ℕ → List ℕ
 key_fields k = digits_of (key_arity k) k
 
--- ---- heads
+-- ---- keys
 
--- a head has the key above the place of its table
-abbrev pub key_in : ℕ → ℕ
-key_in h = h / 65536
+-- the least key from a on, where there is one
+abbrev pub Least : ℕ → List ℕ → Option ℕ → Type 0
+Least a ks None = (k : ℕ) → In k ks → k < a
+Least a ks (Some m) = In m ks × (a ≤ m) × ((k : ℕ) → In k ks → a ≤ k → m ≤ k)
 
-abbrev pub keys_in : List ℕ → List ℕ
-keys_in hs = map key_in hs
-
--- the least of these keys from a on that is below best, or best
-unfoldable pub least_from : ℕ → ℕ → List ℕ → ℕ
-least_from a best [] = best
-least_from a best (k ∷ ks) = least_from a (pick (leb a k && ltb k best) k best) ks
-
--- no key: one above every word
-abbrev pub no_key : ℕ
-no_key = 4294967296
+-- r is the lesser of two keys, where there are two
+abbrev pub LesserIs : Option ℕ → Option ℕ → Option ℕ → Type 0
+LesserIs None q r = r ≡ q
+LesserIs (Some k) None r = r ≡ Some k
+LesserIs (Some k) (Some l) r = ((k ≤ l) × (r ≡ Some k)) ⊎ ((l ≤ k) × (r ≡ Some l))

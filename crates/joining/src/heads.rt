@@ -1,52 +1,73 @@
 // The heads of a book's tables: for each the word of its field list, and its place. Gathered once, so that no table's bytes are read for another
 // set of fields.
-ghost use Rattle.std.specs.Prelude.{◌≡◌, ◌&&◌, ltb, leb, length};
-ghost use Rattle.format.specs.Basics.{pick};
-ghost use Rattle.joining.specs.Words.{keys_in, least_from};
-ghost use Rattle.joining.specs.Heads.{TablesIn, HeadsOf};
+ghost use Rattle.std.specs.Prelude.{◌≡◌, ◌≤◌, ◌<◌, map, length, take};
+ghost use Rattle.format.specs.Format.{book_of};
+ghost use Rattle.joining.specs.Words.{key_of, Least, LesserIs};
+ghost use Rattle.joining.specs.Heads.{HeadsOf};
 
-// A head has the word above the place, for which two bytes suffice.
-pub(crate) const PLACE_LIMIT: usize = 65536;
+use book::{Book, TABLE_LIMIT, Table};
 
-// The heads of the book's tables, as many as the list is long.
-pub(crate) fn gather_heads(book: &[u8], heads: &mut [usize])
-    requires { TablesIn book.now (length heads.old) }
-    ensures { HeadsOf book.now heads.new }
+// A table's key, and its place in the book.
+#[derive(Clone, Copy)]
+pub(crate) struct Head {
+    pub(crate) key: u32,
+    pub(crate) at: u32,
+}
+
+// What stands in memory lent for heads before they are gathered.
+pub(crate) const NO_HEAD: Head = Head { key: 0, at: 0 };
+
+// A book with the heads of its tables, in their order. There is room for its rows.
+#[derive(Clone, Copy)]
+pub(crate) struct Headed<'a, 'h, const ROWS: usize> {
+    pub(crate) book: Book<'a>,
+    pub(crate) heads: &'h [Head],
+    pub(crate) ghost headed: { HeadsOf book.bytes.now heads.now },
+    pub(crate) ghost few: { book.rows ≤ ROWS },
+}
+
+// The heads of the book's tables, in memory for as many as a book may have.
+pub(crate) fn gather_heads(book: Book<'_>, heads: &mut [Head; TABLE_LIMIT])
+    ensures { HeadsOf book.entry.bytes.now (take book.entry.tables heads.new) }
 {
-    let mut at = 0;
-    let mut i = 0;
-    while i < heads.len() {
-        let arity = book::byte(book, at);
-        let rows = book::pair(book, at + 1 + arity);
-        let key = book::row_word(book, at + 1, arity) as usize;
-        heads[i] = key * PLACE_LIMIT + at;
-        at = at + 3 + arity + rows * arity;
-        i += 1;
+    for table in book.tables() {
+        heads[table.index] = Head {
+            key: book::row_word(table.bytes, table.at + 1, table.arity),
+            at: table.at as u32,
+        };
     }
 }
 
-// A key from `from` on that is below the best, or the best.
-fn lower(from: usize, key: usize, best: usize) -> usize
-    ensures { result ≡ pick (leb from key && ltb key best) key best }
+// The lesser of two keys, where there are two.
+pub(crate) fn lesser(one: Option<u32>, other: Option<u32>) -> Option<u32>
+    ensures { LesserIs one other result }
 {
-    if from <= key {
-        if key < best {
-            return key;
+    match (one, other) {
+        (Some(best), Some(key)) => Some(best.min(key)),
+        _ => one.or(other),
+    }
+}
+
+impl<'a, 'h, const ROWS: usize> Headed<'a, 'h, ROWS> {
+    // Table i.
+    pub(crate) fn table(&self, i: usize) -> Table<'a>
+        requires { i < length self.now.heads.now }
+        ensures bytes { result.bytes ≡ self.now.book.bytes }
+        ensures index { result.index ≡ i }
+    {
+        self.book.table(i, self.heads[i].at as usize)
+    }
+
+    // The least key of its tables from `from` on.
+    pub(crate) fn least_key(&self, from: u32) -> Option<u32>
+        ensures { Least from (map key_of (book_of self.now.book.bytes.now).tables) result }
+    {
+        let mut least = None;
+        for head in self.heads {
+            if from <= head.key {
+                least = lesser(least, Some(head.key));
+            }
         }
-        return best;
+        least
     }
-    best
-}
-
-// The least key of these heads from `from` on that is below the best, or the best.
-pub(crate) fn least_key(heads: &[usize], from: usize, best: usize) -> usize
-    ensures { result ≡ least_from from best (keys_in heads.now) }
-{
-    let mut least = best;
-    let mut i = 0;
-    while i < heads.len() {
-        least = lower(from, heads[i] / PLACE_LIMIT, least);
-        i += 1;
-    }
-    least
 }

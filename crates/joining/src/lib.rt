@@ -2,47 +2,28 @@
 // as these words do. The next table is that of the least set left, and its rows are those in every table on it.
 #![tactic(auto)]
 
-ghost use Rattle.std.specs.Prelude.{◌≡◌, ◌≤◌, length, take};
-ghost use Rattle.format.specs.Format.{book_of};
-ghost use Rattle.format.specs.Writing.{into};
+ghost use Rattle.std.specs.Prelude.{◌≡◌, ◌≤◌, length};
+ghost use Rattle.format.specs.Format.{row_limit, book_of};
+ghost use Rattle.format.specs.Writing.{into, book_limit};
 ghost use Rattle.format.specs.Joining as model;
-ghost use Rattle.joining.specs.Answers.{joined_by, ViewedBy, BothViewed, SameViewed, Rooms, BookLaid};
+ghost use Rattle.joining.specs.Laid.{end_most};
+ghost use Rattle.joining.specs.Answers.{joined_by, JoinedIn};
 
-use book::{BOOK_LIMIT, Checked, ROW_LIMIT, Refusal};
+use book::{BOOK_LIMIT, Book, ROW_LIMIT, TABLE_LIMIT};
+use ends::{put_end, same_counts};
+use heads::{Headed, NO_HEAD, gather_heads};
+use lay::{Both, Over, lay_tables};
+use rows::Common;
 
 mod ends;
 mod heads;
 mod lay;
 mod puts;
+mod refusals;
 mod rows;
 mod sets;
 
-// What join answers: how many bytes it wrote; the reader's refusal of the first book, or else of the second, and its place; that the books'
-// code counts differ; that the joined book breaks a limit; or that fewer bytes are lent.
-#[derive(Clone, Copy)]
-pub enum Joined {
-    Bytes(usize),
-    Refused(Refusal, usize),
-    CountsDiffer,
-    OverLimit,
-    TooShort,
-}
-
-// The numbers of an accepted book, as checking it answers them.
-#[derive(Clone, Copy)]
-pub(crate) struct Numbers {
-    list: usize,
-    fields: usize,
-    tables: usize,
-    rows: usize,
-}
-
-// What laying out the joined book answers: that it breaks a limit, or has no room; or how many bytes it has.
-#[derive(Clone, Copy)]
-pub(crate) enum Whole {
-    Over,
-    Laid(usize),
-}
+pub use refusals::JoinRefusal;
 
 // Up to so many rows in each book are joined with little memory, which is soon cleared.
 const FEW: usize = 64;
@@ -50,131 +31,81 @@ const FEW: usize = 64;
 // The bytes that are kept for the joined book then.
 const SMALL: usize = 1024;
 
-// 18, then the bytes: the first n of those laid out.
-fn hand_out(laid: &[u8], n: usize, out: &mut [u8]) -> Joined
-    requires { n ≤ length laid.now }
-    ensures { joined_by result out.new ≡ into (take n laid.now) out.old }
+// 18, or else the bytes laid out.
+fn hand_out(laid: &[u8], out: &mut [u8]) -> Result<usize, JoinRefusal>
+    ensures { joined_by result out.new ≡ into laid.now out.old }
 {
+    let n = laid.len();
     if out.len() < n {
-        return Joined::TooShort;
+        return Err(JoinRefusal::Room);
     }
-    book::copy(&laid[..n], out);
-    Joined::Bytes(n)
+    out[..n].copy_from_slice(laid);
+    Ok(n)
 }
 
-// Lays out the joined book of two books with the same field list. The words and the spare ones are lent for rows.
-fn lay_book(
-    first: &[u8],
-    one: Numbers,
-    second: &[u8],
-    two: Numbers,
-    words: &mut [u32],
-    spare: &mut [u32],
-    laid: &mut [u8],
-) -> Whole
-    requires { SameViewed first.now one second.now two × Rooms one two words.old spare.old laid.old }
-    ensures { BookLaid (model.joined (book_of first.now) (book_of second.now)) result laid.new }
+// 18, or else the bytes of two books with the same field list, with memory of its own for so many rows of each and so many bytes; or that
+// a limit is broken, or that there is no room. The bytes are laid out apart from the memory lent, so that a refusal leaves it.
+#[inline(never)]
+fn join_in<'a, const ROWS: usize, const BYTES: usize>(
+    first: Book<'a>,
+    second: Book<'a>,
+    out: &mut [u8],
+) -> Result<Result<usize, JoinRefusal>, Over>
+    requires same { (book_of second.bytes.now).counts ≡ (book_of first.bytes.now).counts }
+    requires first { first.rows ≤ ROWS }
+    requires second { second.rows ≤ ROWS }
+    requires rows { ROWS ≤ row_limit }
+    requires end { end_most ≤ BYTES }
+    requires bytes { BYTES ≤ book_limit }
+    ensures { JoinedIn BYTES (book_of first.entry.bytes.now) (book_of second.entry.bytes.now) out.old out.new result }
 {
-    let answer = lay::lay_out(first, one.tables, second, two.tables, words, spare, laid);
-    match answer {
-        lay::Laid::Over => Whole::Over,
-        lay::Laid::All(end, tables) => {
-            Whole::Laid(ends::put_end(laid, end, first, one.list, one.fields, tables))
+    let mut heads = [NO_HEAD; TABLE_LIMIT];
+    let mut others = [NO_HEAD; TABLE_LIMIT];
+    let mut words = [0u32; ROWS];
+    let mut spare = [0u32; ROWS];
+    let mut laid = [0u8; BYTES];
+    gather_heads(first, &mut heads);
+    gather_heads(second, &mut others);
+    let one = Headed {
+        book: first,
+        heads: &heads[..first.tables],
+    };
+    let other = Headed {
+        book: second,
+        heads: &others[..second.tables],
+    };
+    let books = Both::of(one, other);
+    let mut common: Common<'_, ROWS> = Common {
+        words: &mut words,
+        spare: &mut spare,
+        found: None,
+    };
+    let tables = lay_tables(&books, &mut common, &mut laid)?;
+    let n = put_end(&mut laid, tables, first);
+    Ok(hand_out(&laid[..n], out))
+}
+
+// 26, then 18, of two books with the same field list. Few rows are joined with little memory; what has no room there is laid out once more.
+fn join_alike<'a>(first: Book<'a>, second: Book<'a>, out: &mut [u8]) -> Result<usize, JoinRefusal>
+    requires { (book_of second.bytes.now).counts ≡ (book_of first.bytes.now).counts }
+    ensures { joined_by result out.new ≡ model.joined_into (book_of first.entry.bytes.now) (book_of second.entry.bytes.now) out.old }
+{
+    if first.rows <= FEW && second.rows <= FEW {
+        if let Ok(answer) = join_in::<FEW, SMALL>(first, second, out) {
+            return answer;
         }
     }
-}
-
-// 26, then 18, of two books with the same field list. The bytes are laid out apart from the memory lent, so that a refusal leaves it.
-fn join_large(first: &[u8], one: Numbers, second: &[u8], two: Numbers, out: &mut [u8]) -> Joined
-    requires { SameViewed first.now one second.now two }
-    ensures { joined_by result out.new ≡ model.joined_into (book_of first.now) (book_of second.now) out.old }
-{
-    let mut words = [0u32; ROW_LIMIT];
-    let mut spare = [0u32; ROW_LIMIT];
-    let mut laid = [0u8; BOOK_LIMIT];
-    let answer = lay_book(first, one, second, two, &mut words, &mut spare, &mut laid);
-    match answer {
-        Whole::Over => Joined::OverLimit,
-        Whole::Laid(n) => hand_out(&laid, n, out),
-    }
-}
-
-// The same for few rows, with little memory of its own, which is soon cleared. What has no room there is laid out once more.
-fn join_small(first: &[u8], one: Numbers, second: &[u8], two: Numbers, out: &mut [u8]) -> Joined
-    requires { SameViewed first.now one second.now two × (one.rows ≤ 64) × (two.rows ≤ 64) }
-    ensures { joined_by result out.new ≡ model.joined_into (book_of first.now) (book_of second.now) out.old }
-{
-    let mut words = [0u32; FEW];
-    let mut spare = [0u32; FEW];
-    let mut laid = [0u8; SMALL];
-    let answer = lay_book(first, one, second, two, &mut words, &mut spare, &mut laid);
-    match answer {
-        Whole::Over => join_large(first, one, second, two, out),
-        Whole::Laid(n) => hand_out(&laid, n, out),
-    }
-}
-
-// 25, then the rest, of two accepted books.
-fn join_both(first: &[u8], one: Numbers, second: &[u8], two: Numbers, out: &mut [u8]) -> Joined
-    requires { BothViewed first.now one second.now two }
-    ensures { joined_by result out.new ≡ model.joined_into (book_of first.now) (book_of second.now) out.old }
-{
-    if ends::same_counts(first, one.list, one.fields, second, two.list, two.fields) {
-        if one.rows <= FEW {
-            if two.rows <= FEW {
-                return join_small(first, one, second, two, out);
-            }
-        }
-        return join_large(first, one, second, two, out);
-    }
-    Joined::CountsDiffer
-}
-
-// The second book's refusals, then the rest, where the first is accepted.
-fn join_second(first: &[u8], one: Numbers, second: &[u8], out: &mut [u8]) -> Joined
-    requires { ViewedBy first.now one }
-    ensures { joined_by result out.new ≡ model.joining first.now second.now out.old }
-{
-    let checked = book::check(second);
-    match checked {
-        Checked::Refused(kind, place) => Joined::Refused(kind, place),
-        Checked::Good {
-            list,
-            fields,
-            tables,
-            rows,
-        } => {
-            let two = Numbers {
-                list,
-                fields,
-                tables,
-                rows,
-            };
-            join_both(first, one, second, two, out)
-        }
-    }
+    join_in::<ROW_LIMIT, BOOK_LIMIT>(first, second, out).unwrap_or(Err(JoinRefusal::Limit))
 }
 
 // Writes the bytes of two books joined.
-pub fn join(first: &[u8], second: &[u8], out: &mut [u8]) -> Joined
+pub fn join(first: &[u8], second: &[u8], out: &mut [u8]) -> Result<usize, JoinRefusal>
     ensures { joined_by result out.new ≡ model.joining first.now second.now out.old }
 {
-    let checked = book::check(first);
-    match checked {
-        Checked::Refused(kind, place) => Joined::Refused(kind, place),
-        Checked::Good {
-            list,
-            fields,
-            tables,
-            rows,
-        } => {
-            let one = Numbers {
-                list,
-                fields,
-                tables,
-                rows,
-            };
-            join_second(first, one, second, out)
-        }
+    let first = Book::open(first)?;
+    let second = Book::open(second)?;
+    if !same_counts(first, second) {
+        return Err(JoinRefusal::Counts);
     }
+    join_alike(first, second, out)
 }

@@ -4,15 +4,22 @@ ghost use Rattle.format.specs.Format.{table_bytes, flat};
 ghost use Rattle.joining.specs.Words.{four_digits, digits_of, key_arity};
 ghost use Rattle.joining.specs.Puts.{Put, word_table, TableFits};
 
+// These bytes. Answers the place behind them.
+pub(crate) fn put_bytes(laid: &mut [u8], at: usize, bytes: &[u8]) -> usize
+    requires { at + length bytes.now ≤ length laid.old }
+    ensures { Put laid.old at bytes.now laid.new result }
+{
+    let end = at + bytes.len();
+    laid[at..end].copy_from_slice(bytes);
+    end
+}
+
 // The four bytes of a word. Of a row with fewer codes those behind its last are written over by what follows: each row takes one store.
 fn put_word(laid: &mut [u8], at: usize, word: u32)
     requires { at + 4 ≤ length laid.old }
     ensures { Put laid.old at (four_digits word) laid.new (at + 4) }
 {
-    laid[at] = (word / 16777216 % 256) as u8;
-    laid[at + 1] = (word / 65536 % 256) as u8;
-    laid[at + 2] = (word / 256 % 256) as u8;
-    laid[at + 3] = (word % 256) as u8;
+    put_bytes(laid, at, &word.to_be_bytes());
 }
 
 // The rows of arity codes that have these words. Answers the place behind them.
@@ -21,41 +28,41 @@ fn put_rows(laid: &mut [u8], at: usize, words: &[u32], arity: usize) -> usize
     ensures { Put laid.old at (flat (map (digits_of arity) words.now)) laid.new result }
 {
     let mut place = at;
-    let mut i = 0;
-    while i < words.len() {
-        put_word(laid, place, words[i]);
+    for &word in words {
+        put_word(laid, place, word);
         place += arity;
-        i += 1;
     }
     place
 }
 
 // How many fields the set with this key has: fields rise, so that none behind the first is 0.
-fn key_arity(key: usize) -> usize
+#[tactic(auto, unfolding(crate::specs::Words::key_arity))]
+fn key_arity(key: u32) -> usize
     ensures { result ≡ key_arity key }
 {
-    if key % 256 != 0 {
+    let [_, second, third, fourth] = key.to_be_bytes();
+    if fourth != 0 {
         return 4;
     }
-    if key / 256 % 256 != 0 {
+    if third != 0 {
         return 3;
     }
-    if key / 65536 % 256 != 0 {
+    if second != 0 {
         return 2;
     }
     1
 }
 
 // The table on the set with this key that has these rows. Answers the place behind it.
-pub(crate) fn put_table(laid: &mut [u8], at: usize, key: usize, words: &[u32]) -> usize
+pub(crate) fn put_table(laid: &mut [u8], at: usize, key: u32, words: &[u32]) -> usize
     requires { TableFits key (length words.now) at (length laid.old) }
     ensures { Put laid.old at (table_bytes (word_table key words.now)) laid.new result }
 {
     let arity = key_arity(key);
-    let rows = words.len();
+    let [low, high] = (words.len() as u16).to_le_bytes();
     laid[at] = arity as u8;
-    put_word(laid, at + 1, key as u32);
-    laid[at + 1 + arity] = (rows % 256) as u8;
-    laid[at + 2 + arity] = (rows / 256) as u8;
+    put_word(laid, at + 1, key);
+    laid[at + 1 + arity] = low;
+    laid[at + 2 + arity] = high;
     put_rows(laid, at + 3 + arity, words, arity)
 }

@@ -1,76 +1,80 @@
 // The rows in every table on a set of fields, as a set of words.
-ghost use Rattle.std.specs.Prelude.{◌≤◌, length};
-ghost use Rattle.format.specs.Format.{row_limit, table_at, book_of};
-ghost use Rattle.book.specs.Bounds.{RowsFit};
-ghost use Rattle.words.specs.RowWord.{words_at};
+ghost use Rattle.std.specs.Prelude.{◌≡◌, ◌≤◌, length, take};
+ghost use Rattle.format.specs.Format.{table_at};
 ghost use Rattle.joining.specs.Words.{table_words};
-ghost use Rattle.joining.specs.Heads.{TableIn, Headed, Lent};
-ghost use Rattle.joining.specs.Sets.{SetOf, StateOk, NarrowedBy, NarrowedTo};
+ghost use Rattle.joining.specs.Sets.{SetOf, Held};
 
-use super::heads::PLACE_LIMIT;
+use super::heads::Headed;
 use super::sets::{keep_common, keep_once};
-use book::ROW_LIMIT;
+use book::Table;
 
-// In the place of a number of words: no table on the set so far, so that every word is among them. A table has fewer rows.
-pub(crate) const EVERY_WORD: usize = ROW_LIMIT + 1;
+// The words that every table so far has: each word where there was no table yet, or else as many as were found, which rise. The spare
+// memory takes the words of one table.
+#[derive(Drop)]
+pub(crate) struct Common<'a, const ROWS: usize> {
+    pub(crate) words: &'a mut [u32],
+    pub(crate) spare: &'a mut [u32],
+    pub(crate) found: Option<usize>,
+    pub(crate) ghost lent: { (length words.now ≡ ROWS) × (length spare.now ≡ ROWS) },
+    pub(crate) ghost held: { Held found words.now },
+}
 
-// The rows of arity codes from start on, as many as the words lent, as a set of words. Many tables are written in order.
-fn row_set(book: &[u8], start: usize, arity: usize, words: &mut [u32]) -> usize
-    requires { RowsFit book.now arity start (length words.old) × (length words.old ≤ row_limit) }
-    ensures { SetOf (words_at book.now arity start (length words.old)) result words.new }
+// The rows of a table as a set of words, in memory for as many. Many tables are written in order.
+fn row_set(table: Table<'_>, words: &mut [u32]) -> usize
+    requires { length words.old ≡ table.rows }
+    ensures { SetOf (table_words (table_at table.entry.bytes.now table.entry.at)) result words.new }
 {
-    book::gather(book, start, arity, words);
-    if words::is_sorted(words) {
-        return keep_once(words);
+    book::gather(table.bytes, table.first, table.arity, words);
+    if !words::is_sorted(words) {
+        words::sort(words);
     }
-    words::sort(words);
     keep_once(words)
 }
 
-// The rows of the table at `at` as a set of words.
-fn table_set(book: &[u8], at: usize, words: &mut [u32]) -> usize
-    requires { TableIn book.now at (length words.old) × (length words.old ≤ row_limit) }
-    ensures { SetOf (table_words (table_at book.now at)) result words.new }
+// The same in memory for more.
+fn table_set(table: Table<'_>, words: &mut [u32]) -> usize
+    requires { table.rows ≤ length words.old }
+    ensures { SetOf (table_words (table_at table.entry.bytes.now table.entry.at)) result words.new }
 {
-    let arity = book::byte(book, at);
-    let rows = book::pair(book, at + 1 + arity);
-    row_set(book, at + 3 + arity, arity, &mut words[..rows])
+    row_set(table, &mut words[..table.rows])
 }
 
-// Of the first n words, keeps those of the table at `at`. The spare words are lent for its rows.
-fn narrow_by(book: &[u8], at: usize, words: &mut [u32], spare: &mut [u32], n: usize) -> usize
-    requires { TableIn book.now at (length words.old) × Lent words.old spare.old × StateOk n words.old }
-    ensures { NarrowedBy (table_at book.now at) n words.old result words.new }
-{
-    if n == EVERY_WORD {
-        return table_set(book, at, words);
-    }
-    let m = table_set(book, at, spare);
-    keep_common(&mut words[..n], &spare[..m])
-}
+impl<'a, const ROWS: usize> Common<'a, ROWS> {
+    ghost use Rattle.format.specs.Format.{book_of};
+    ghost use Rattle.joining.specs.Sets.{NarrowedBy, NarrowedTo};
 
-// Of the first n words, keeps those of every table of the book on the set with this key.
-pub(crate) fn narrow(
-    book: &[u8],
-    heads: &[usize],
-    key: usize,
-    words: &mut [u32],
-    spare: &mut [u32],
-    n: usize,
-) -> usize
-    requires { Headed book.now heads.now (length words.old) × Lent words.old spare.old × StateOk n words.old }
-    ensures { NarrowedTo key (book_of book.now).tables n words.old result words.new }
-{
-    let mut count = n;
-    let mut i = 0;
-    while i < heads.len() {
-        let head = heads[i];
-        if head / PLACE_LIMIT == key {
-            count = narrow_by(book, head % PLACE_LIMIT, words, spare, count);
-            i += 1;
-        } else {
-            i += 1;
+    // Keeps the words of one more table.
+    fn narrow_by(&mut self, table: Table<'_>)
+        requires { table.rows ≤ ROWS }
+        ensures { NarrowedBy (table_at table.entry.bytes.now table.entry.at)
+            self.old.found self.old.words.now self.new.found self.new.words.now }
+    {
+        match self.found {
+            None => self.found = Some(table_set(table, self.words)),
+            Some(n) => {
+                let m = table_set(table, self.spare);
+                self.found = Some(keep_common(&mut self.words[..n], &self.spare[..m]));
+            }
         }
     }
-    count
+
+    // Keeps the words of every table of the book on the set with this key.
+    pub(crate) fn narrow(&mut self, book: &Headed<'_, '_, ROWS>, key: u32)
+        ensures { NarrowedTo key (book_of book.now.book.bytes.now).tables
+            self.old.found self.old.words.now self.new.found self.new.words.now }
+    {
+        for i in 0..book.heads.len() {
+            if book.heads[i].key == key {
+                self.narrow_by(book.table(i));
+            }
+        }
+    }
+
+    // The first n words.
+    pub(crate) fn front(&self, n: usize) -> &[u32]
+        requires { n ≤ length self.now.words.now }
+        ensures { result.now ≡ take n self.now.words.now }
+    {
+        &self.words[..n]
+    }
 }

@@ -8,19 +8,15 @@ pub(crate) fn keep_once(words: &mut [u32]) -> usize
     requires { NeverFalls (length words.old) words.old }
     ensures { SetOf words.old result words.new }
 {
-    if words.len() < 1 {
+    if words.is_empty() {
         return 0;
     }
     let mut n = 1;
-    let mut i = 1;
-    while i < words.len() {
+    for i in 1..words.len() {
         let word = words[i];
-        if words[n - 1] == word {
-            i += 1;
-        } else {
+        if words[n - 1] != word {
             words[n] = word;
             n += 1;
-            i += 1;
         }
     }
     n
@@ -34,23 +30,19 @@ pub(crate) fn keep_common(words: &mut [u32], others: &[u32]) -> usize
     let mut n = 0;
     let mut i = 0;
     let mut j = 0;
-    while i < words.len() {
-        if others.len() <= j {
-            return n;
-        }
+    // No `for`, which is no plainer here: a turn goes on in the one list, or in the other, or in both.
+    while i < words.len() && j < others.len() {
         let word = words[i];
         let other = others[j];
         if word < other {
             i += 1;
+        } else if other < word {
+            j += 1;
         } else {
-            if other < word {
-                j += 1;
-            } else {
-                words[n] = word;
-                n += 1;
-                i += 1;
-                j += 1;
-            }
+            words[n] = word;
+            n += 1;
+            i += 1;
+            j += 1;
         }
     }
     n

@@ -1,13 +1,29 @@
--- `joining::join` meets its contract: both answers of the reader's check of the first book. Assumes nothing.
-use Rattle.book.proofs.Checks.{checks_bad, checks_viewed}
-use Rattle.joining.proofs.JoinCases.{first_refused}
+-- `joining::join` meets its contract. Assumes nothing.
+use borrow.Author.Rules.{rules}
+use Rattle.std.proofs.lemmas.Result.{err_from_is_err_and}
+use Rattle.format.specs.Format.{book_of}
+use Rattle.book.proofs.Checks.{opens_bad}
+use Rattle.joining.proofs.JoinCases.{first_refused, then_refused, both_accepted, counts_differ}
 use Rattle.joining.proofs.join.Goals as goal
 
-pub join_second-requires : goal.join_second-requires
-join_second-requires c = checks_viewed _ _ c.check-checked.ensures _ _ _ _ c.in-Good.is
+pub returns-in_err-first : goal.returns-in_err-first
+returns-in_err-first c =
+    let p = err_from_is_err_and c.from_residual.result c.from_residual.ensures.1 in
+    rw (p.1, p.2) (first_refused _ _ _ _ _ (opens_bad _ _ c.in_err-first.ensures.answer))
 
-pub returns-in-Refused : goal.returns-in-Refused
-returns-in-Refused c = first_refused _ _ _ _ _ (checks_bad _ _ c.check-checked.ensures _ _ c.in-Refused.is)
+pub returns-in_err-second : goal.returns-in_err-second
+returns-in_err-second c =
+    let p = err_from_is_err_and c.from_residual-in_err-second.result c.from_residual-in_err-second.ensures.1 in
+    rw (p.1, p.2)
+    (then_refused c.in_ok-first.first c.in_ok-first.first c.args.first c.args.second c.args.out.now c.in_ok-first.ensures.bytes _ _
+    (opens_bad _ _ c.in_err-second.ensures.answer))
 
-pub returns-in-Good : goal.returns-in-Good
-returns-in-Good c = c.join_second.ensures
+pub returns-then-not-same_counts : goal.returns-then-not-same_counts
+returns-then-not-same_counts c =
+    both_accepted c.in_ok-first.first c.in_ok-second.second c.args.first c.args.second c.args.out.now c.in_ok-first.ensures.bytes
+    c.in_ok-second.ensures.bytes _ (counts_differ (book_of c.in_ok-first.first.bytes.now) (book_of c.in_ok-second.second.bytes.now) c.args.out.now (search rules))
+
+pub returns : goal.returns
+returns c =
+    both_accepted c.in_ok-first.first c.in_ok-second.second c.args.first c.args.second c.args.out.now c.in_ok-first.ensures.bytes
+    c.in_ok-second.ensures.bytes _ c.join_alike.ensures

@@ -1,23 +1,9 @@
 -- `joining::ends::put_trailer` meets its contract. Assumes nothing.
-use lib.ListN.{length-set}
-use Rattle.joining.proofs.Ending.{six_put}
-use native.Mathlib.Omega.{arith}
+use borrow.Author.Rules.{rules}
+use Rattle.joining.proofs.Laying.{put_then}
+use Rattle.joining.proofs.Ending.{trailer_put}
 use Rattle.joining.proofs.ends.put_trailer.Goals as goal
 
-pub bounds-laid-at-2 : goal.bounds-laid-at-2
-bounds-laid-at-2 c = simp length-set (omega (arith, c.requires.fits))
-
-pub bounds-laid-at-3 : goal.bounds-laid-at-3
-bounds-laid-at-3 c = simp length-set (omega (arith, c.requires.fits))
-
-pub bounds-laid-at-4 : goal.bounds-laid-at-4
-bounds-laid-at-4 c = simp length-set (omega (arith, c.requires.fits))
-
-pub bounds-laid-at-5 : goal.bounds-laid-at-5
-bounds-laid-at-5 c = simp length-set (omega (arith, c.requires.fits))
-
-pub bounds-laid-at-6 : goal.bounds-laid-at-6
-bounds-laid-at-6 c = simp length-set (omega (arith, c.requires.fits))
-
 pub returns : goal.returns
-returns c = six_put _ _ _ _ _ _ _ _ c.requires.fits
+returns c =
+    trailer_put _ _ _ _ _ _ _ _ _ (search rules) (search rules) (put_then _ _ _ _ _ _ _ _ c.put_bytes-at.ensures c.put_bytes.ensures)

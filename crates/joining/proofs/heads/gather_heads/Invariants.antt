@@ -1,11 +1,7 @@
--- `joining::heads::gather_heads` meets its contract. The invariant: the first i heads are gathered, and table i stands at the place. Assumes nothing.
-use Prim.Native.Nat.{◌-◌}
-use lib.ListN.{length}
+-- `joining::heads::gather_heads` meets its contract. The invariant: the heads of the tables so far are gathered. Assumes nothing.
+use mathlib.Core.Path.{◌≡◌}
 use Rattle.joining.proofs.Heading.{HeadsTo}
 use Rattle.joining.proofs.heads.gather_heads.Given as goal
 
-abbrev pub invariant-loop-i : goal.invariant-loop-i
-invariant-loop-i l = HeadsTo l.book l.initial.heads l.heads l.at l.i
-
-abbrev pub decreases-loop-i : goal.decreases-loop-i
-decreases-loop-i l = length l.heads - l.i
+abbrev pub invariant-loop-table : goal.invariant-loop-table
+invariant-loop-table l = (l.table-iterator.book ≡ l.book) × HeadsTo l.book.bytes.now l.heads l.table-iterator.index

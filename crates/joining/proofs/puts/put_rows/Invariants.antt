@@ -1,11 +1,6 @@
--- `joining::puts::put_rows` meets its contract. The invariant: i rows are put. Assumes nothing.
-use Prim.Native.Nat.{◌-◌}
-use lib.ListN.{length}
+-- `joining::puts::put_rows` meets its contract. The invariant: the rows so far are put. Assumes nothing.
 use Rattle.joining.proofs.Laying.{RowsPut}
 use Rattle.joining.proofs.puts.put_rows.Given as goal
 
-abbrev pub invariant-loop-i : goal.invariant-loop-i
-invariant-loop-i l = RowsPut l.initial.laid l.at l.arity l.words l.laid l.place l.i
-
-abbrev pub decreases-loop-i : goal.decreases-loop-i
-decreases-loop-i l = length l.words - l.i
+abbrev pub invariant-loop-word : goal.invariant-loop-word
+invariant-loop-word l = RowsPut l.initial.laid l.at l.arity l.words l.laid l.place l.word-index
