@@ -8,7 +8,7 @@ use native.Mathlib.Omega.{arith}
 use lib.Dec.{T}
 use lib.ListN.{length, get_or, drop}
 use lib.Seq.{sets, sets-eq, length-sets}
-use Rattle.format.specs.Format.{code_limit, byte, book_of}
+use Rattle.format.specs.Format.{code_limit, book_of}
 use Rattle.format.proofs.Storing.{sets_append}
 use Rattle.format.proofs.Verdict.{verdict_promise}
 use Rattle.consistency.specs.Counting.{how_many}
@@ -22,7 +22,7 @@ use Rattle.filter.specs.Cases.{own_case}
 use Rattle.filter.proofs.Limits.{codes_few}
 use Rattle.filter.proofs.Agreement.{own_few}
 use Rattle.sheet.specs.Lists.{doubted, stands, lines_below, InMarks, Room, Passed}
-use Rattle.sheet.proofs.Openings.{fields_end, fields_few, fields_count, codes_at}
+use Rattle.sheet.proofs.Openings.{fields_few, fields_count}
 use Rattle.consistency.proofs.Elements.{answer_at}
 use Rattle.sheet.proofs.Upward.{many_more, many_same}
 use Rattle.sheet.proofs.Fields.{alternatives_of, field_lines, total_below, bytes_below, lifted, total_is, lines_are_below, length_bytes, SameBelow, total_more, bytes_more, other_same, unmended_same, total_rises}
@@ -49,10 +49,6 @@ module _ {bytes : List ℕ} {s : Sheet} {M : List ℕ} {empty list fields : ℕ}
       ∙ ap (λ (bs : List ℕ). bs ++ drop (2 * total (book_of bytes) s) o) (lines_are_below (book_of bytes) s f n)
 
   module _ {f : ℕ} (l : f < fields) where
-    -- its number of codes stands in the field list
-    pub field_byte_lem : list + f < length bytes
-    field_byte_lem = omega (arith, fields_end bytes list fields x.at)
-
     -- whether it is answered without a photograph stands on the sheet
     pub doubt_here : length s.answers ≡ places → {r : Bool} → r ≡ doubted (get_or s.answers f 0) (backed s f) → in_doubt s f ≡ r
     doubt_here long e =
@@ -95,11 +91,7 @@ module _ {bytes : List ℕ} {s : Sheet} {M : List ℕ} {empty list fields : ℕ}
       pub lines_without : (o : List ℕ) {out : List ℕ} → out ≡ sets o 0 (bytes_below (book_of bytes) s f) → out ≡ sets o 0 (bytes_below (book_of bytes) s (f + 1))
       lines_without o d = d ∙ ap (sets o 0) (sym h.bytes)
 
-    module _ {k n : ℕ} (case-is : k ≡ own_case s f) (codes_are : n ≡ byte bytes (list + f)) where
-      -- n is its number of codes
-      codes_is : n ≡ codes (book_of bytes) f
-      codes_is = codes_are ∙ sym (codes_at bytes list fields x.at f l)
-
+    module _ {k n : ℕ} (case-is : k ≡ own_case s f) (codes_is : n ≡ codes (book_of bytes) f) where
       -- its marks are there
       pub in_marks : InMarks k f n
       in_marks =

@@ -1,49 +1,56 @@
 -- An answer is told by what is shown of it: no two answers show the same number, place and counts. Assumes nothing.
 use mathlib.Core.Path.{◌≡◌, refl, sym, ap, ap₂, ◌∙◌}
-use mathlib.Core.List.{[], ◌∷◌}
+use mathlib.Core.List.{List, [], ◌∷◌}
 use Prim.Native.Nat.{ℕ, ◌≤◌}
 use native.Mathlib.Omega.{arith}
 use lib.ListN.{get_or}
+use Rattle.std.specs.Prelude.{Option, Some, None, Result, Ok, Err}
 use Rattle.format.specs.Reading.{Outcome}
-use Rattle.book.specs.declared.Refusal.TheVariants as book
-use Rattle.sheet.specs.Shown.{number_of, shown, shown_listing, shown_row, shown_reading}
-use Rattle.sheet.specs.declared.Reason.{Reason}
-use Rattle.sheet.specs.declared.Reason.TheVariants.{Book, Fault, Field, Code, NoAnswer, Room, Length, Table, Photographed, Readings, Form}
-use Rattle.sheet.specs.declared.Answer.{Answer}
-use Rattle.sheet.specs.declared.Answer.TheVariants.{Done, Refused}
-use Rattle.sheet.specs.declared.Listing.{Listing}
-use Rattle.sheet.specs.declared.Listing.TheVariants.{Listed, Unlisted}
-use Rattle.sheet.specs.declared.RowAnswer.{RowAnswer}
-use Rattle.sheet.specs.declared.RowAnswer.TheVariants.{Row, NoRow, Unshown}
-use Rattle.sheet.specs.declared.ReadingAnswer.{ReadingAnswer}
-use Rattle.sheet.specs.declared.ReadingAnswer.TheVariants.{Reading, NoReading, Unread}
+use Rattle.book.specs.declared.refusals.Refusal.TheVariants as book
+use Rattle.book.specs.declared.refusals.Refusal.{Refusal}
+use Rattle.sheet.specs.Numbers.{number_of, place_of}
+use Rattle.sheet.specs.Shown.{Counts, shown, shown_nothing, shown_listing, shown_row, shown_reading, counts_of_row, counts_of_reading}
+use Rattle.sheet.specs.declared.reasons.Reason.{Reason}
+use Rattle.sheet.specs.declared.reasons.Reason.TheVariants.{Book, Fault, Field, Code, NoAnswer, Room, Length, Table, Photographed, Readings, Form}
+use Rattle.sheet.specs.declared.handed.Alternatives.{Alternatives}
+use Rattle.sheet.specs.declared.handed.Suggestion.{Suggestion}
 
--- the reason of a number from 1 to 19 and from 21 to 24
-reason_of : ℕ → Reason
-reason_of n =
+-- the book's refusal of this kind and place
+of_book : Refusal → ℕ → Reason
+of_book kind place = Book (record { kind = kind; place = place })
+
+-- the reason of a number from 1 to 19 and from 21 to 24, with this place
+reason_of : ℕ → ℕ → Reason
+reason_of n place =
     get_or
-    (Length ∷ Book book.Length ∷ Book book.Closing ∷ Book book.Version ∷ Book book.FieldCount ∷ Book book.TableCount
-    ∷ Book book.ListPlace ∷ Book book.CodeCount ∷ Book book.Short ∷ Book book.Arity ∷ Book book.FieldNumber ∷ Book book.Code
-    ∷ Book book.RowCount ∷ Book book.LeftOver ∷ Fault ∷ Field ∷ Code ∷ NoAnswer ∷ Room ∷ Length ∷ Length ∷ Table ∷ Photographed ∷ Readings ∷ Form ∷ [])
+    (Length ∷ of_book book.Length place ∷ of_book book.Closing place ∷ of_book book.Version place ∷ of_book book.FieldCount place
+    ∷ of_book book.TableCount place ∷ of_book book.ListPlace place ∷ of_book book.CodeCount place ∷ of_book book.Short place
+    ∷ of_book book.Arity place ∷ of_book book.FieldNumber place ∷ of_book book.Code place ∷ of_book book.RowCount place
+    ∷ of_book book.LeftOver place ∷ Fault place ∷ Field ∷ Code ∷ NoAnswer ∷ Room ∷ Length ∷ Length ∷ Table ∷ Photographed ∷ Readings ∷ Form ∷ [])
     n Length
 
--- a reason's number is not 0, and tells the reason
-numbered : (r : Reason) → (1 ≤ number_of r) × (reason_of (number_of r) ≡ r)
-unfolding reason_of
-numbered (Book book.Length) = (omega arith, refl)
-numbered (Book book.Closing) = (omega arith, refl)
-numbered (Book book.Version) = (omega arith, refl)
-numbered (Book book.FieldCount) = (omega arith, refl)
-numbered (Book book.TableCount) = (omega arith, refl)
-numbered (Book book.ListPlace) = (omega arith, refl)
-numbered (Book book.CodeCount) = (omega arith, refl)
-numbered (Book book.Short) = (omega arith, refl)
-numbered (Book book.Arity) = (omega arith, refl)
-numbered (Book book.FieldNumber) = (omega arith, refl)
-numbered (Book book.Code) = (omega arith, refl)
-numbered (Book book.RowCount) = (omega arith, refl)
-numbered (Book book.LeftOver) = (omega arith, refl)
-numbered Fault = (omega arith, refl)
+-- the book's kinds, by their numbers
+booked : (kind : Refusal) (place : ℕ) → (1 ≤ number_of (of_book kind place)) × (reason_of (number_of (of_book kind place)) place ≡ of_book kind place)
+unfolding reason_of of_book
+booked book.Length place = (omega arith, refl)
+booked book.Closing place = (omega arith, refl)
+booked book.Version place = (omega arith, refl)
+booked book.FieldCount place = (omega arith, refl)
+booked book.TableCount place = (omega arith, refl)
+booked book.ListPlace place = (omega arith, refl)
+booked book.CodeCount place = (omega arith, refl)
+booked book.Short place = (omega arith, refl)
+booked book.Arity place = (omega arith, refl)
+booked book.FieldNumber place = (omega arith, refl)
+booked book.Code place = (omega arith, refl)
+booked book.RowCount place = (omega arith, refl)
+booked book.LeftOver place = (omega arith, refl)
+
+-- a reason's number is not 0, and number and place tell the reason
+numbered : (r : Reason) → (1 ≤ number_of r) × (reason_of (number_of r) (place_of r) ≡ r)
+unfolding reason_of of_book
+numbered (Book refused) = booked refused.kind refused.place
+numbered (Fault place) = (omega arith, refl)
 numbered Field = (omega arith, refl)
 numbered Code = (omega arith, refl)
 numbered NoAnswer = (omega arith, refl)
@@ -58,9 +65,9 @@ numbered Form = (omega arith, refl)
 pub number_some : (r : Reason) → 1 ≤ number_of r
 number_some r = (numbered r).0
 
--- no two reasons have the same number
-pub number_injective : (r q : Reason) → number_of r ≡ number_of q → r ≡ q
-number_injective r q e = sym (numbered r).1 ∙ ap reason_of e ∙ (numbered q).1
+-- no two reasons have the same number and place
+pub reason_injective : (r q : Reason) → number_of r ≡ number_of q → place_of r ≡ place_of q → r ≡ q
+reason_injective r q e d = sym (numbered r).1 ∙ ap₂ reason_of e d ∙ (numbered q).1
 
 -- the parts of what is shown
 numbers : {x y : Outcome} → x ≡ y → x.number ≡ y.number
@@ -69,43 +76,45 @@ numbers e = ap (λ (o : Outcome). o.number) e
 places : {x y : Outcome} → x ≡ y → x.place ≡ y.place
 places e = ap (λ (o : Outcome). o.place) e
 
-count : {x y : Outcome} (i : ℕ) → x ≡ y → get_or x.counts i 0 ≡ get_or y.counts i 0
-count i e = ap (λ (o : Outcome). get_or o.counts i 0) e
+counts : {x y : Outcome} → x ≡ y → x.counts ≡ y.counts
+counts e = ap (λ (o : Outcome). o.counts) e
+
+-- answers of calls whose counts tell what they count
+pub shown_injective : {T : Type 0} (k : Counts T) → ((x y : T) → k.of x ≡ k.of y → x ≡ y) → (x y : Result T Reason) → shown k x ≡ shown k y → x ≡ y
+shown_injective k tells (Ok x) (Ok y) e = ap Ok (tells x y (counts e))
+shown_injective k tells (Ok x) (Err r) e = absurd (omega (arith, numbers e, number_some r))
+shown_injective k tells (Err r) (Ok y) e = absurd (omega (arith, numbers e, number_some r))
+shown_injective k tells (Err r) (Err q) e = ap Err (reason_injective r q (numbers e) (places e))
 
 -- the answers of the calls that count nothing
-pub shown_injective : (x y : Answer) → shown x ≡ shown y → x ≡ y
-shown_injective Done Done e = refl
-shown_injective Done (Refused r p) e = absurd (omega (arith, numbers e, number_some r))
-shown_injective (Refused r p) Done e = absurd (omega (arith, numbers e, number_some r))
-shown_injective (Refused r p) (Refused r' p') e = ap₂ Refused (number_injective r r' (numbers e)) (places e)
+pub shown_nothing_injective : (x y : Result (Unit {0}) Reason) → shown shown_nothing x ≡ shown shown_nothing y → x ≡ y
+shown_nothing_injective = shown_injective shown_nothing (λ x y e. refl)
+
+-- a number in a list of counts
+at : {x y : List ℕ} (i : ℕ) → x ≡ y → get_or x i 0 ≡ get_or y i 0
+at i e = ap (λ (l : List ℕ). get_or l i 0) e
 
 -- the answers of alternatives
-pub shown_listing_injective : (x y : Listing) → shown_listing x ≡ shown_listing y → x ≡ y
-shown_listing_injective (Listed t n) (Listed t' n') e = ap₂ Listed (count 0 e) (count 1 e)
-shown_listing_injective (Listed t n) (Unlisted r p) e = absurd (omega (arith, numbers e, number_some r))
-shown_listing_injective (Unlisted r p) (Listed t n) e = absurd (omega (arith, numbers e, number_some r))
-shown_listing_injective (Unlisted r p) (Unlisted r' p') e = ap₂ Unlisted (number_injective r r' (numbers e)) (places e)
+pub shown_listing_injective : (x y : Result Alternatives Reason) → shown shown_listing x ≡ shown shown_listing y → x ≡ y
+shown_listing_injective =
+    shown_injective shown_listing (λ x y e. ap₂ (λ (t n : ℕ). record { total = t; struck = n }) (at 0 e) (at 1 e))
 
 -- the answers of row
-pub shown_row_injective : (x y : RowAnswer) → shown_row x ≡ shown_row y → x ≡ y
-shown_row_injective (Row n) (Row n') e = ap Row (count 1 e)
-shown_row_injective (Row n) NoRow e = let d : ◌≡◌ {A = ℕ} 1 0 = count 0 e in absurd (omega arith)
-shown_row_injective (Row n) (Unshown r p) e = absurd (omega (arith, numbers e, number_some r))
-shown_row_injective NoRow (Row n) e = let d : ◌≡◌ {A = ℕ} 0 1 = count 0 e in absurd (omega arith)
-shown_row_injective NoRow NoRow e = refl
-shown_row_injective NoRow (Unshown r p) e = absurd (omega (arith, numbers e, number_some r))
-shown_row_injective (Unshown r p) (Row n) e = absurd (omega (arith, numbers e, number_some r))
-shown_row_injective (Unshown r p) NoRow e = absurd (omega (arith, numbers e, number_some r))
-shown_row_injective (Unshown r p) (Unshown r' p') e = ap₂ Unshown (number_injective r r' (numbers e)) (places e)
+row_tells : (x y : Option ℕ) → counts_of_row x ≡ counts_of_row y → x ≡ y
+row_tells (Some n) (Some n') e = ap Some (at 1 e)
+row_tells (Some n) None e = let d : ◌≡◌ {A = ℕ} 1 0 = at 0 e in absurd (omega arith)
+row_tells None (Some n) e = let d : ◌≡◌ {A = ℕ} 0 1 = at 0 e in absurd (omega arith)
+row_tells None None e = refl
+
+pub shown_row_injective : (x y : Result (Option ℕ) Reason) → shown shown_row x ≡ shown shown_row y → x ≡ y
+shown_row_injective = shown_injective shown_row row_tells
 
 -- the answers of nearest
-pub shown_reading_injective : (x y : ReadingAnswer) → shown_reading x ≡ shown_reading y → x ≡ y
-shown_reading_injective (Reading d w) (Reading d' w') e = ap₂ Reading (count 1 e) (count 2 e)
-shown_reading_injective (Reading d w) NoReading e = let z : ◌≡◌ {A = ℕ} 1 0 = count 0 e in absurd (omega arith)
-shown_reading_injective (Reading d w) (Unread r p) e = absurd (omega (arith, numbers e, number_some r))
-shown_reading_injective NoReading (Reading d w) e = let z : ◌≡◌ {A = ℕ} 0 1 = count 0 e in absurd (omega arith)
-shown_reading_injective NoReading NoReading e = refl
-shown_reading_injective NoReading (Unread r p) e = absurd (omega (arith, numbers e, number_some r))
-shown_reading_injective (Unread r p) (Reading d w) e = absurd (omega (arith, numbers e, number_some r))
-shown_reading_injective (Unread r p) NoReading e = absurd (omega (arith, numbers e, number_some r))
-shown_reading_injective (Unread r p) (Unread r' p') e = ap₂ Unread (number_injective r r' (numbers e)) (places e)
+reading_tells : (x y : Option Suggestion) → counts_of_reading x ≡ counts_of_reading y → x ≡ y
+reading_tells (Some s) (Some t) e = ap₂ (λ (d w : ℕ). Some (record { differing = d; written = w })) (at 1 e) (at 2 e)
+reading_tells (Some s) None e = let d : ◌≡◌ {A = ℕ} 1 0 = at 0 e in absurd (omega arith)
+reading_tells None (Some s) e = let d : ◌≡◌ {A = ℕ} 0 1 = at 0 e in absurd (omega arith)
+reading_tells None None e = refl
+
+pub shown_reading_injective : (x y : Result (Option Suggestion) Reason) → shown shown_reading x ≡ shown shown_reading y → x ≡ y
+shown_reading_injective = shown_injective shown_reading reading_tells

@@ -1,42 +1,36 @@
 -- What is known where book and sheet pass 1 to 14, and what every call on a sheet answers by them. Assumes nothing.
-use mathlib.Core.Path.{◌≡◌, sym, ap, subst, ◌∙◌}
+use mathlib.Core.Path.{◌≡◌, sym, ap, ap₂, subst, ◌∙◌}
 use mathlib.Core.List.{List}
 use Prim.Native.Nat.{ℕ, ◌+◌, ◌≤◌, ◌<◌}
 use native.Mathlib.Omega.{arith}
 use lib.Dec.{ltb}
-use lib.ListN.{length, get_or-eq_default}
-use borrow.Author.Tests.{lt-ltb, le-ltb, ltb-false}
-use Rattle.format.specs.Format.{Book, code_limit, byte, version_of, book_of}
-use Rattle.format.specs.Reading.{Verdict, pass, fail, and_then, verdict, checking}
+use lib.ListN.{length}
+use borrow.Author.Tests.{ltb-false}
+use Rattle.std.proofs.Common.{Bor}
+use Rattle.format.specs.Format as format
+use Rattle.format.specs.Format.{code_limit, byte, version_of, book_of}
+use Rattle.format.specs.Reading.{Outcome, refused, Verdict, pass, fail, and_then, verdict, outcome, checking}
 use Rattle.format.proofs.Limits.{limit_most}
 use Rattle.format.proofs.Picks.{pick_first, pick_second}
 use Rattle.format.proofs.Trailer.{fail≢pass}
 use Rattle.format.proofs.Verdict.{verdict_promise, promise_verdict}
 use Rattle.format.proofs.Views.{counts_count, counts_view}
-use Rattle.book.specs.Shown.{shown_check}
+use Rattle.book.specs.Numbers.{number_of}
 use Rattle.book.specs.View.{Viewed}
-use Rattle.book.specs.declared.Checked.{Checked}
-use Rattle.book.specs.declared.Checked.TheVariants.{Good}
-use Rattle.book.proofs.Checks.{checks_viewed}
+use Rattle.book.specs.declared.refusals.Refused.{Refused}
+use Rattle.book.specs.declared.view.Book.{Book}
+use Rattle.book.proofs.Injective.{number_some}
 use Rattle.consistency.specs.Consistency.{places, Sheet, codes}
-use Rattle.calls.specs.Calls.{Result, turned, fault_of, with_book, fault_then, on_sheet}
-use Rattle.sheet.specs.Shown.{number_of}
-use Rattle.sheet.specs.Opened.{fault_test, opening, opening_of, FieldsAt, Finds, Opens}
-use Rattle.sheet.specs.declared.Reason.{Reason}
-use Rattle.sheet.specs.declared.opened.Opened.{Opened}
-use Rattle.sheet.specs.declared.opened.Opened.TheVariants.{Ready, Turned}
+use Rattle.calls.specs.Calls as calls
+use Rattle.calls.specs.Calls.{turned, fault_of, with_book, fault_then, on_sheet}
+use Rattle.sheet.specs.Opened.{fault_test, opening, FieldsAt}
 
--- ---- what the reader's check answers
+-- ---- what the reader answers
 
 -- a view of a book finds its fields
 pub fields_at : {bytes : List ℕ} {list fields tables rows : ℕ} → Viewed bytes list fields tables rows → FieldsAt bytes list fields
 fields_at {bytes} v =
     record { passes = promise_verdict bytes v.numbers.promise; list_is = v.numbers.list_is; fields_is = v.numbers.fields_is }
-
-module _ (bytes : List ℕ) (r : Checked) (is : shown_check r ≡ checking bytes) where
-  -- where it accepts the book, its numbers find the fields
-  pub checks_good : (list fields tables rows : ℕ) → r ≡ Good list fields tables rows → FieldsAt bytes list fields
-  checks_good list fields tables rows e = fields_at (checks_viewed bytes r is list fields tables rows e)
 
 -- ---- the fields of a book that passes, by places in its bytes
 
@@ -64,10 +58,6 @@ module _ (bytes : List ℕ) (list fields : ℕ) (at : FieldsAt bytes list fields
       let few = ((verdict_promise bytes at.passes).sized f (omega (arith, at.fields_is))).1 in
       subst (λ (l : ℕ). byte bytes (l + f) ≤ code_limit) (sym at.list_is) few
 
-  -- what is no field has no codes
-  pub codes_none : (f : ℕ) → fields ≤ f → codes (book_of bytes) f ≡ 0
-  codes_none f h = get_or-eq_default (book_of bytes).counts 0 (omega (arith, fields_count))
-
 -- ---- 1 to 13, then 14
 
 module _ (bytes : List ℕ) (s : Sheet) where
@@ -76,16 +66,12 @@ module _ (bytes : List ℕ) (s : Sheet) where
   unfolding opening
   opening_book number place e = simp (← e)
 
-  module _ (e : verdict bytes ≡ pass) (fault : ℕ) (is : fault ≡ fault_of (book_of bytes) s) where
-    -- a place is at fault
-    pub opening_fault : fault < places → fail 14 fault ≡ opening bytes s
-    unfolding opening
-    opening_fault h = simp (e, ← is, lt-ltb)
-
-    -- no place is at fault
-    pub opening_pass : places ≤ fault → pass ≡ opening bytes s
-    unfolding opening
-    opening_pass h = simp (e, ← is, le-ltb)
+  -- it is not: 14 decides
+  pub opening_then : (book : Book) → book.bytes.now ≡ bytes → {v : Verdict} → v ≡ fault_test (fault_of (book_of book.bytes.now) s) → v ≡ opening bytes s
+  unfolding opening
+  opening_then book is e =
+      let passes : verdict bytes ≡ pass = subst (λ (l : List ℕ). verdict l ≡ pass) is (fields_at book.viewed).passes in
+      e ∙ ap (λ (l : List ℕ). fault_test (fault_of (book_of l) s)) is ∙ rw passes
 
   -- where both pass, no place is at fault
   pub opening_good : pass ≡ opening bytes s → places ≤ fault_of (book_of bytes) s
@@ -102,7 +88,7 @@ module _ (bytes : List ℕ) (s : Sheet) where
 -- ---- what a call answers by them
 
 -- by the book's verdict and the first place at fault
-module _ (bytes : List ℕ) (s : Sheet) (refuse : ℕ → ℕ → Result) (go : Book → Result) where
+module _ (bytes : List ℕ) (s : Sheet) (refuse : ℕ → ℕ → calls.Result) (go : format.Book → calls.Result) where
   -- all pass
   go_on : (v : Verdict) → pass ≡ and_then v (fault_test (fault_of (book_of bytes) s))
       → go (book_of bytes) ≡ with_book bytes refuse v (λ b. fault_then refuse (fault_of b s) (go b))
@@ -118,9 +104,9 @@ module _ (bytes : List ℕ) (s : Sheet) (refuse : ℕ → ℕ → Result) (go : 
   stop_here (fail number' place') number place e = cc
 
 -- a call on sheet s that counts k things, with o lent
-module _ (k : ℕ) (bytes : List ℕ) (s : Sheet) (o : List ℕ) (go : Book → Result) where
+module _ (k : ℕ) (bytes : List ℕ) (s : Sheet) (o : List ℕ) (go : format.Book → calls.Result) where
   -- where all pass it goes on with the book
-  pub on_ready : pass ≡ opening bytes s → (r : Result) → r ≡ go (book_of bytes) → r ≡ on_sheet k bytes s o go
+  pub on_ready : pass ≡ opening bytes s → (r : calls.Result) → r ≡ go (book_of bytes) → r ≡ on_sheet k bytes s o go
   unfolding opening
   on_ready e r d = d ∙ go_on bytes s (turned k s o) go (verdict bytes) e
 
@@ -131,21 +117,15 @@ module _ (k : ℕ) (bytes : List ℕ) (s : Sheet) (o : List ℕ) (go : Book → 
 
 -- ---- what the code's answer says
 
--- book and sheet pass, and the field list is here
-pub record IsOpen (bytes : List ℕ) (s : Sheet) (list fields : ℕ) : Type 0 where
+-- the book opened is that of the bytes, and passes with the sheet
+pub record IsOpen (bytes : List ℕ) (s : Sheet) (book : Book) : Type 0 where
   pub passes : pass ≡ opening bytes s
-  pub at : FieldsAt bytes list fields
+  pub is : book.bytes.now ≡ bytes
+  pub at : FieldsAt bytes book.list book.fields
 
-module _ (bytes : List ℕ) (s : Sheet) (r : Opened) (o : Opens bytes s r) where
-  module _ (list fields tables rows : ℕ) (e : r ≡ Ready list fields tables rows) where
-    -- it is ready: the numbers are those of a view
-    pub opens_viewed : Viewed bytes list fields tables rows
-    opens_viewed = subst (Finds bytes) e o.finds
+-- a book of these bytes has its field list and its number of fields here
+pub fields_of : (book : Book) {bytes : Bor (List ℕ)} → book.bytes ≡ bytes → FieldsAt bytes.now book.list book.fields
+fields_of book d = subst (λ (b : Bor (List ℕ)). FieldsAt b.now book.list book.fields) d (fields_at book.viewed)
 
-    -- and both pass
-    pub opens_ready : IsOpen bytes s list fields
-    opens_ready = record { passes = sym (ap opening_of e) ∙ o.answers; at = fields_at opens_viewed }
-
-  -- it is turned down: its reason is the first refusal
-  pub opens_turned : (reason : Reason) (place : ℕ) → r ≡ Turned reason place → fail (number_of reason) place ≡ opening bytes s
-  opens_turned reason place e = sym (ap opening_of e) ∙ o.answers
+pub is_open : {s : Sheet} (book : Book) {bytes : Bor (List ℕ)} → pass ≡ opening bytes.now s → book.bytes ≡ bytes → IsOpen bytes.now s book
+is_open book e d = record { passes = e; is = ap (λ (b : Bor (List ℕ)). b.now) d; at = fields_of book d }

@@ -1,17 +1,16 @@
--- One turn over the bytes of a list of calls, and its end. Assumes nothing.
+-- One turn over the bytes of a list of calls, and its end; the sheet that one call hands back. Assumes nothing.
 use mathlib.Core.Path.{◌≡◌, refl, sym, ap, ◌∙◌}
 use mathlib.Core.Bool.{Bool, true, false}
-use mathlib.Core.List.{List, [], ◌∷◌}
-use Prim.Native.Nat.{ℕ, ◌+◌, ◌-◌, ◌≤◌, ◌<◌}
+use mathlib.Core.List.{List, [], ◌∷◌, ◌++◌}
+use Prim.Native.Nat.{ℕ, ◌<◌}
 use native.Mathlib.Omega.{arith}
 use lib.Dec.{eqb}
-use lib.ListN.{length, get_or, drop}
+use lib.ListN.{length, get_or}
 use Rattle.format.specs.Basics.{pick}
-use borrow.Author.Tests.{eq-eqb, ne_eqb}
+use borrow.Author.Tests.{ne_eqb}
 use Rattle.consistency.specs.Consistency.{Sheet}
 use Rattle.calls.specs.Calls.{Result, entered, withdrawn, photographed, cleared}
-use Rattle.calls.specs.Histories.{Call, enter, withdraw, photograph, clear, add_call, calls_in, sheet_through, sheet_after}
-use Rattle.calls.proofs.Written.{calls_next, calls_end}
+use Rattle.calls.specs.Histories.{Call, enter, withdraw, photograph, clear, add_call, calls_in, sheet_through}
 
 -- a call, if it is any, and the calls behind it on the sheet that it hands back
 through_call : (bytes : List ℕ) (s : Sheet) (kind f c : ℕ) (calls : List Call)
@@ -29,45 +28,57 @@ through_call bytes s kind f c calls = each (eqb kind 0) (eqb kind 1) (eqb kind 2
     each false false false true = refl
     each false false false false = refl
 
-module _ (bytes l : List ℕ) where
+-- three bytes are a call, or none, before the calls behind them
+chunk_next : (x rest : List ℕ) → length x ≡ 3 → calls_in (x ++ rest) ≡ add_call (get_or x 0 0) (get_or x 1 0) (get_or x 2 0) (calls_in rest)
+unfolding calls_in
+chunk_next [] rest e = absurd (omega arith)
+chunk_next (k ∷ []) rest e = absurd (omega arith)
+chunk_next (k ∷ f ∷ []) rest e = absurd (omega arith)
+chunk_next (k ∷ f ∷ c ∷ []) rest e = refl
+chunk_next (k ∷ f ∷ c ∷ d ∷ x) rest e = absurd (omega arith)
+
+-- fewer are none
+no_chunk : (rest : List ℕ) → length rest < 3 → calls_in rest ≡ []
+unfolding calls_in
+no_chunk [] h = refl
+no_chunk (k ∷ []) h = refl
+no_chunk (k ∷ f ∷ []) h = refl
+no_chunk (k ∷ f ∷ c ∷ rest) h = absurd (omega arith)
+
+module _ (bytes : List ℕ) (s : Sheet) where
   -- one call more
-  pub called_on : (s : Sheet) {r : Sheet} (i : ℕ) → i ≤ length l → 3 ≤ length l - i
-      → r ≡ sheet_through bytes s (add_call (get_or l i 0) (get_or l (i + 1) 0) (get_or l (i + 2) 0) [])
-      → sheet_through bytes s (calls_in (drop i l)) ≡ sheet_after bytes (calls_in l)
-      → sheet_through bytes r (calls_in (drop (i + 3) l)) ≡ sheet_after bytes (calls_in l)
-  called_on s i k h e d =
-      ap (λ (x : Sheet). sheet_through bytes x (calls_in (drop (i + 3) l))) e
-      ∙ sym (through_call bytes s (get_or l i 0) (get_or l (i + 1) 0) (get_or l (i + 2) 0) (calls_in (drop (i + 3) l)))
-      ∙ ap (sheet_through bytes s) (sym (calls_next l i (omega arith))) ∙ d
+  pub called_on : {r : Sheet} {l : List ℕ} (x rest : List ℕ) → l ≡ x ++ rest → length x ≡ 3
+      → r ≡ sheet_through bytes s (add_call (get_or x 0 0) (get_or x 1 0) (get_or x 2 0) [])
+      → sheet_through bytes r (calls_in rest) ≡ sheet_through bytes s (calls_in l)
+  called_on {r} {l} x rest d n e =
+      ap (λ (y : Sheet). sheet_through bytes y (calls_in rest)) e
+      ∙ sym (through_call bytes s (get_or x 0 0) (get_or x 1 0) (get_or x 2 0) (calls_in rest))
+      ∙ ap (sheet_through bytes s) (sym (ap calls_in d ∙ chunk_next x rest n))
 
   -- no call more
-  pub called_all : {s : Sheet} (i : ℕ) → length l - i < 3 → sheet_through bytes s (calls_in (drop i l)) ≡ sheet_after bytes (calls_in l)
-      → s ≡ sheet_after bytes (calls_in l)
+  pub called_all : (l : List ℕ) → length l < 3 → sheet_through bytes s (calls_in l) ≡ s
   unfolding sheet_through
-  called_all {s} i h d = sym (ap (sheet_through bytes s) (calls_end l i (omega arith))) ∙ d
+  called_all l h = ap (sheet_through bytes s) (no_chunk l h)
 
 -- the sheet that one call hands back, by its kind
 module _ (bytes : List ℕ) (s : Sheet) (kind f c : ℕ) where
-  pub called_enter : {r : Result} → kind ≡ 0 → r ≡ entered bytes s f c → r.sheet ≡ sheet_through bytes s (add_call kind f c [])
+  pub called_enter : {r : Result} {f' c' : ℕ} → kind ≡ 0 → f' ≡ f → c' ≡ c → r ≡ entered bytes s f' c' → r.sheet ≡ sheet_through bytes s (add_call kind f c [])
   unfolding sheet_through
-  called_enter e d = simp (eq-eqb kind 0 e) (ap (λ (x : Result). x.sheet) d)
+  called_enter e g h d = rw (e, ← g, ← h) (ap (λ (x : Result). x.sheet) d)
 
-  module _ (n : kind ≡ 0 → ⊥) where
-    pub called_withdraw : {r : Result} → kind ≡ 1 → r ≡ withdrawn bytes s f → r.sheet ≡ sheet_through bytes s (add_call kind f c [])
-    unfolding sheet_through
-    called_withdraw e d = simp (ne_eqb kind 0 n, eq-eqb kind 1 e) (ap (λ (x : Result). x.sheet) d)
+  pub called_withdraw : {r : Result} {f' : ℕ} → kind ≡ 1 → f' ≡ f → r ≡ withdrawn bytes s f' → r.sheet ≡ sheet_through bytes s (add_call kind f c [])
+  unfolding sheet_through
+  called_withdraw e g d = rw (e, ← g) (ap (λ (x : Result). x.sheet) d)
 
-    module _ (m : kind ≡ 1 → ⊥) where
-      pub called_clear : {r : Result} → kind ≡ 2 → r ≡ cleared s → r.sheet ≡ sheet_through bytes s (add_call kind f c [])
-      unfolding sheet_through
-      called_clear e d = simp (ne_eqb kind 0 n, ne_eqb kind 1 m, eq-eqb kind 2 e) (ap (λ (x : Result). x.sheet) d)
+  pub called_clear : {r : Result} → kind ≡ 2 → r ≡ cleared s → r.sheet ≡ sheet_through bytes s (add_call kind f c [])
+  unfolding sheet_through
+  called_clear e d = rw e (ap (λ (x : Result). x.sheet) d)
 
-      module _ (k : kind ≡ 2 → ⊥) where
-        pub called_photograph : {r : Result} → kind ≡ 3 → r ≡ photographed bytes s f → r.sheet ≡ sheet_through bytes s (add_call kind f c [])
-        unfolding sheet_through
-        called_photograph e d = simp (ne_eqb kind 0 n, ne_eqb kind 1 m, ne_eqb kind 2 k, eq-eqb kind 3 e) (ap (λ (x : Result). x.sheet) d)
+  pub called_photograph : {r : Result} {f' : ℕ} → kind ≡ 3 → f' ≡ f → r ≡ photographed bytes s f' → r.sheet ≡ sheet_through bytes s (add_call kind f c [])
+  unfolding sheet_through
+  called_photograph e g d = rw (e, ← g) (ap (λ (x : Result). x.sheet) d)
 
-        -- no call hands the sheet on
-        pub called_none : (kind ≡ 3 → ⊥) → s ≡ sheet_through bytes s (add_call kind f c [])
-        unfolding sheet_through
-        called_none l = simp (ne_eqb kind 0 n, ne_eqb kind 1 m, ne_eqb kind 2 k, ne_eqb kind 3 l)
+  -- no call hands the sheet on
+  pub called_none : (kind ≡ 0 → ⊥) → (kind ≡ 1 → ⊥) → (kind ≡ 2 → ⊥) → (kind ≡ 3 → ⊥) → s ≡ sheet_through bytes s (add_call kind f c [])
+  unfolding sheet_through
+  called_none n m k l = simp (ne_eqb kind 0 n, ne_eqb kind 1 m, ne_eqb kind 2 k, ne_eqb kind 3 l)

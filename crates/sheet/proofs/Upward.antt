@@ -11,10 +11,8 @@ use lib.ListN.{length, set, length-map}
 use lib.Seq.{sets, length-sets}
 use Rattle.format.specs.Basics.{pick}
 use Rattle.format.proofs.Storing.{sets_append}
-use Rattle.format.proofs.Booleans.{true_T, T_true}
-use Rattle.consistency.specs.Counting.{any_below, how_many, those, sum_over}
+use Rattle.consistency.specs.Counting.{how_many, those, sum_over}
 use Rattle.consistency.specs.Counts.{Line, line_bytes}
-use Rattle.consistency.proofs.Booleans.{any_in}
 use Rattle.consistency.proofs.Sums.{length_those}
 use Rattle.consistency.proofs.Lines.{length_line_bytes}
 use Rattle.sheet.specs.Lists.{lines_below}
@@ -33,14 +31,6 @@ module _ (p : ℕ → Bool) (n : ℕ) where
 
   pub those_same : p n ≡ false → those (n + 1) p ≡ those n p
   those_same e = rw (add-one, e) (append-nil (those n p))
-
-  -- it holds of none below n, and not of n
-  pub none_more : any_below n p ≡ false → p n ≡ false → any_below (n + 1) p ≡ false
-  none_more e d = rw (add-one n, e, d)
-
--- it holds of a number below m
-pub one_found : (p : ℕ → Bool) (m n : ℕ) → n < m → p n ≡ true → true ≡ any_below m p
-one_found p m n l e = sym (T_true (any_in m p n l (true_T e)))
 
 -- what does not fall from a number to the next does not fall at all
 pub rises : (g : ℕ → ℕ) → ((n : ℕ) → g n ≤ g (suc n)) → (m n : ℕ) → m ≤ n → g m ≤ g n

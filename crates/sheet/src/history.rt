@@ -9,23 +9,15 @@ use super::Sheet;
 fn called(sheet: Sheet, book: &[u8], kind: u8, field: u8, code: u8) -> Sheet
     ensures { held_by result ≡ sheet_through book.now (held_by sheet) (add_call kind field code []) }
 {
-    if kind == 0 {
-        let entered = sheet.enter(book, field as usize, code as usize);
-        return entered.sheet;
+    match kind {
+        0 => sheet
+            .enter(book, usize::from(field), usize::from(code))
+            .sheet,
+        1 => sheet.withdraw(book, usize::from(field)).sheet,
+        2 => sheet.clear().sheet,
+        3 => sheet.photograph(book, usize::from(field)).sheet,
+        _ => sheet,
     }
-    if kind == 1 {
-        let withdrawn = sheet.withdraw(book, field as usize);
-        return withdrawn.sheet;
-    }
-    if kind == 2 {
-        let cleared = sheet.clear();
-        return cleared.sheet;
-    }
-    if kind == 3 {
-        let photographed = sheet.photograph(book, field as usize);
-        return photographed.sheet;
-    }
-    sheet
 }
 
 // The sheet after all calls, from a fresh one. Bytes behind the last whole call are none.
@@ -33,13 +25,8 @@ pub(crate) fn after(book: &[u8], calls: &[u8]) -> Sheet
     ensures { held_by result ≡ sheet_after book.now (calls_in calls.now) }
 {
     let mut sheet = Sheet::fresh();
-    let mut at = 0;
-    while 3 <= calls.len() - at {
-        let kind = calls[at];
-        let field = calls[at + 1];
-        let code = calls[at + 2];
-        sheet = called(sheet, book, kind, field, code);
-        at += 3;
+    for call in calls.chunks_exact(3) {
+        sheet = called(sheet, book, call[0], call[1], call[2]);
     }
     sheet
 }

@@ -3,30 +3,35 @@ ghost use Rattle.std.specs.Prelude.{◌≡◌, ◌+◌, ◌*◌, ◌≤◌, ◌+
 ghost use Rattle.std.proofs.lemmas.List.Edits.{sets};
 ghost use Rattle.format.specs.Format.{code_limit, book_of};
 ghost use Rattle.consistency.specs.Counting.{how_many};
-ghost use Rattle.consistency.specs.Consistency.{places, sheet_with};
+ghost use Rattle.consistency.specs.Consistency.{places};
 ghost use Rattle.consistency.specs.Counts.{total, lines, line_bytes};
+ghost use Rattle.sheet.specs.Shown.{held_by};
 ghost use Rattle.sheet.specs.Lists.{doubted, stands, lines_below, InMarks, Room, Passed};
 
-use book::{CODES, PLACES};
+use super::Sheet;
+use super::opened::codes;
+use book::{Book, CODES};
 use filter::WORDS;
+
+// The marks of the one pass over a book and a sheet, and the cases in which some field of the book is empty.
+#[derive(Clone, Copy)]
+pub(crate) struct Marked<'a> {
+    pub(crate) book: Book<'a>,
+    pub(crate) sheet: &'a Sheet,
+    pub(crate) marks: &'a [u64; WORDS],
+    pub(crate) empty: u64,
+    ghost long: { length sheet.now.answers ≡ places },
+    ghost passed: { Passed book.bytes.now (held_by sheet.now) marks.now empty book.list book.fields },
+}
 
 // The own case of the first field in doubt, behind the case with nothing relaxed.
 const FIRST_OWN: u64 = 1;
-
-pub(crate) fn wide(x: u8) -> usize
-    ensures { result ≡ x }
-{
-    x as usize
-}
 
 // Whether an answer may be put in doubt: there is one, and no photograph backs it.
 fn in_doubt(answer: u8, photographed: bool) -> bool
     ensures { result ≡ doubted answer photographed }
 {
-    if answer == 255 {
-        return false;
-    }
-    !photographed
+    answer != 255 && !photographed
 }
 
 // How many of the codes below n of field f stand in case k.
@@ -35,12 +40,10 @@ fn count_codes(marks: &[u64; WORDS], k: u64, f: usize, n: usize) -> usize
     ensures { (result ≡ how_many n (stands marks.now k f)) × (result ≤ n) }
 {
     let mut count = 0;
-    let mut c = 0;
-    while c < n {
+    for c in 0..n {
         if (marks[f * CODES + c] >> k) % 2 == 1 {
             count += 1;
         }
-        c += 1;
     }
     count
 }
@@ -51,78 +54,54 @@ fn write_field(marks: &[u64; WORDS], k: u64, f: usize, n: usize, out: &mut [u8],
     ensures { (result ≡ at + 2 * how_many n (stands marks.now k f)) × (out.new ≡ sets out.old at (line_bytes (lines_below n (stands marks.now k f) f))) }
 {
     let mut next = at;
-    let mut c = 0;
-    while c < n {
+    for c in 0..n {
         if (marks[f * CODES + c] >> k) % 2 == 1 {
             out[next] = f as u8;
             out[next + 1] = c as u8;
             next += 2;
         }
-        c += 1;
     }
     next
 }
 
-// The number of alternatives of the answered fields without a photograph: of those whose own case is not one of the cases `empty`.
-pub(crate) fn count_lines(
-    book: &[u8],
-    answers: [u8; PLACES],
-    photographed: [bool; PLACES],
-    marks: &[u64; WORDS],
-    empty: u64,
-    list: usize,
-    fields: usize,
-) -> usize
-    requires { Passed book.now (sheet_with answers photographed) marks.now empty list fields }
-    ensures { (result ≡ total (book_of book.now) (sheet_with answers photographed)) × (result ≤ places * code_limit) }
-{
-    let mut sum = 0;
-    let mut k = FIRST_OWN;
-    let mut f = 0;
-    while f < fields {
-        if !in_doubt(answers[f], photographed[f]) {
-            f += 1;
-        } else if (empty >> k) % 2 == 1 {
-            k += 1;
-            f += 1;
-        } else {
-            let n = wide(book[list + f]);
-            sum += count_codes(marks, k, f, n);
-            k += 1;
-            f += 1;
+impl<'a> Marked<'a> {
+    // The number of alternatives of the answered fields without a photograph: of those whose own case leaves no field empty.
+    pub(crate) fn total(self) -> usize
+        ensures { (result ≡ total (book_of self.entry.book.bytes.now) (held_by self.entry.sheet.now)) × (result ≤ places * code_limit) }
+    {
+        let mut sum = 0;
+        let mut next = FIRST_OWN;
+        for f in 0..self.book.fields {
+            if !in_doubt(self.sheet.answers[f], self.sheet.photographed[f]) {
+                continue;
+            }
+            let k = next;
+            next += 1;
+            if (self.empty >> k) % 2 == 1 {
+                continue;
+            }
+            sum += count_codes(self.marks, k, f, codes(self.book, f));
         }
+        sum
     }
-    sum
-}
 
-// All lines, written from the first byte on.
-pub(crate) fn write_lines(
-    book: &[u8],
-    answers: [u8; PLACES],
-    photographed: [bool; PLACES],
-    marks: &[u64; WORDS],
-    empty: u64,
-    list: usize,
-    fields: usize,
-    out: &mut [u8],
-)
-    requires { Passed book.now (sheet_with answers photographed) marks.now empty list fields × (2 * total (book_of book.now) (sheet_with answers photographed) ≤ length out.old) }
-    ensures { out.new ≡ line_bytes (lines (book_of book.now) (sheet_with answers photographed)) ++ drop (2 * total (book_of book.now) (sheet_with answers photographed)) out.old }
-{
-    let mut next = 0;
-    let mut k = FIRST_OWN;
-    let mut f = 0;
-    while f < fields {
-        if !in_doubt(answers[f], photographed[f]) {
-            f += 1;
-        } else if (empty >> k) % 2 == 1 {
-            k += 1;
-            f += 1;
-        } else {
-            let n = wide(book[list + f]);
-            next = write_field(marks, k, f, n, out, next);
-            k += 1;
-            f += 1;
+    // All their lines, written from the first byte on.
+    pub(crate) fn write_lines(self, out: &mut [u8])
+        requires { 2 * total (book_of self.book.bytes.now) (held_by self.sheet.now) ≤ length out.old }
+        ensures { out.new ≡ line_bytes (lines (book_of self.entry.book.bytes.now) (held_by self.entry.sheet.now)) ++ drop (2 * total (book_of self.entry.book.bytes.now) (held_by self.entry.sheet.now)) out.old }
+    {
+        let mut at = 0;
+        let mut next = FIRST_OWN;
+        for f in 0..self.book.fields {
+            if !in_doubt(self.sheet.answers[f], self.sheet.photographed[f]) {
+                continue;
+            }
+            let k = next;
+            next += 1;
+            if (self.empty >> k) % 2 == 1 {
+                continue;
+            }
+            at = write_field(self.marks, k, f, codes(self.book, f), out, at);
         }
     }
 }

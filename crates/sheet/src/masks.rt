@@ -1,47 +1,25 @@
 // The numbers that plain filtering writes.
-ghost use Rattle.std.specs.Prelude.{◌≡◌, ◌++◌, ◌≤◌, length, take, drop};
+ghost use Rattle.std.specs.Prelude.{◌≡◌, List, ℕ};
 ghost use Rattle.format.specs.Format.{book_of};
-ghost use Rattle.book.specs.View.{Viewed};
-ghost use Rattle.consistency.specs.Consistency.{places};
+ghost use Rattle.consistency.specs.Consistency.{Sheet};
 ghost use Rattle.calls.specs.Calls.{masks_into};
-ghost use Rattle.sheet.specs.Shown.{held_by, result_of};
+ghost use Rattle.sheet.specs.Shown.{shown_nothing, left};
 
-use super::{Answer, Handed, Reason, Sheet, refuse};
-use book::PLACES;
+use super::Reason;
+use book::{Book, PLACES};
 
-// Copies the first n numbers. What stands behind them in out stays.
-fn copy_numbers(from: [u32; PLACES], n: usize, out: &mut [u32])
-    requires { (n ≤ places) × (n ≤ length out.old) }
-    ensures { out.new ≡ take n from ++ drop n out.old }
-{
-    let mut i = 0;
-    while i < n {
-        out[i] = from[i];
-        i += 1;
-    }
-}
-
-// 18, then the masks under these answers, one for each field; the sheet comes back as given.
+// 18, then the masks under these answers, one for each field. What stands behind them in out stays.
 pub(crate) fn write_masks(
-    sheet: Sheet,
-    book: &[u8],
-    list: usize,
-    fields: usize,
-    tables: usize,
-    rows: usize,
-    answers: [u8; PLACES],
+    book: Book<'_>,
+    answers: &[u8; PLACES],
     out: &mut [u32],
-) -> Handed
-    requires { Viewed book.now list fields tables rows }
-    ensures { result_of result out.new ≡ masks_into (book_of book.now) (held_by sheet) answers out.old }
+) -> Result<(), Reason>
+    ensures { (s : Sheet) → left shown_nothing result s out.new ≡ masks_into (book_of book.entry.bytes.now) s answers.now out.old }
 {
-    if out.len() < fields {
-        return refuse(sheet, Reason::Room, 0);
+    if out.len() < book.fields {
+        return Err(Reason::Room);
     }
-    let numbers = filter::plain(book, list, fields, tables, rows, &answers);
-    copy_numbers(numbers, fields, out);
-    Handed {
-        answer: Answer::Done,
-        sheet: sheet,
-    }
+    let numbers = filter::plain(book, answers);
+    out[..book.fields].copy_from_slice(&numbers[..book.fields]);
+    Ok(())
 }

@@ -1,24 +1,13 @@
-// The refusals with which every call on a sheet and a book begins: 1 to 13 of the book, then 14 of the sheet.
-ghost use Rattle.std.specs.Prelude.{◌≡◌};
-ghost use Rattle.format.specs.Format.{book_of};
-ghost use Rattle.consistency.specs.Consistency.{Sheet, sheet_with};
+// The tests with which calls on a sheet and a book begin: 1 to 13 of the book, 14 of the sheet, then 15 to 17 of a field.
+ghost use Rattle.std.specs.Prelude.{◌≡◌, ◌≤◌, ◌<◌, IfOk, OnOk};
+ghost use Rattle.format.specs.Format.{code_limit, book_of};
+ghost use Rattle.consistency.specs.Consistency.{places, codes};
 ghost use Rattle.calls.specs.Calls.{fault_of};
-ghost use Rattle.sheet.specs.Opened.{seen_byte, seen_bytes, fits, code_counts, FieldsAt, Opens};
+ghost use Rattle.sheet.specs.Shown.{held_by};
+ghost use Rattle.sheet.specs.Opened.{seen_byte, seen_bytes, fits, code_counts, fault_at, fault_test, code_test, answer_test, opening, verdict_of};
 
-use super::Reason;
-use book::{Checked, PLACES};
-
-// A book and a sheet that pass, with the numbers of a view of the book; or the first refusal and its place.
-#[derive(Clone, Copy)]
-pub enum Opened {
-    Ready {
-        list: usize,
-        fields: usize,
-        tables: usize,
-        rows: usize,
-    },
-    Turned(Reason, usize),
-}
+use super::{Reason, Sheet};
+use book::{Book, PLACES};
 
 // What 14 looks at in a place: its byte; for a photograph without an answer 254, which no place may hold.
 fn seen(byte: u8, photographed: bool) -> u8
@@ -33,79 +22,104 @@ fn seen(byte: u8, photographed: bool) -> u8
     255
 }
 
-// The same of all places. Each call makes them for itself and not in `open`, which then is short enough to stand in each call.
-pub fn seen_bytes(answers: [u8; PLACES], photographed: [bool; PLACES]) -> [u8; PLACES]
-    ensures { result ≡ seen_bytes (sheet_with answers photographed) }
-{
-    let mut bytes = [0; PLACES];
-    for p in 0..PLACES {
-        bytes[p] = seen(answers[p], photographed[p]);
-    }
-    bytes
-}
-
 // Whether a place may hold what is seen there: 255, or a code of its field, which has so many.
 fn may_hold(byte: u8, count: u8) -> bool
     ensures { result ≡ fits byte count }
 {
-    if byte == 255 {
-        return true;
-    }
-    byte < count
+    byte == 255 || byte < count
+}
+
+// The number of codes of a field.
+pub(crate) fn codes(book: Book<'_>, field: usize) -> usize
+    requires { field < book.fields }
+    ensures is { result ≡ codes (book_of book.entry.bytes.now) field }
+    ensures few { result ≤ code_limit }
+{
+    usize::from(book.bytes[book.list + field])
 }
 
 // The number of codes of each place's field; 0 for a place without one.
-fn code_counts(book: &[u8], list: usize, fields: usize) -> [u8; PLACES]
-    requires { FieldsAt book.now list fields }
-    ensures { result ≡ code_counts (book_of book.now) }
+fn code_counts(book: Book<'_>) -> [u8; PLACES]
+    ensures { result ≡ code_counts (book_of book.entry.bytes.now) }
 {
     let mut counts = [0; PLACES];
-    for p in 0..fields {
-        counts[p] = book[list + p];
-    }
+    counts[..book.fields].copy_from_slice(&book.bytes[book.list..book.list + book.fields]);
     counts
 }
 
-// The first place that holds neither 255 nor a code of its field, or has a photograph and no answer; or the number of places. The loop
-// compares two arrays and looks at nothing else, so that several places are tested at a time.
-pub(crate) fn first_fault(book: &[u8], list: usize, fields: usize, bytes: [u8; PLACES]) -> usize
-    requires { FieldsAt book.now list fields }
-    ensures { (s : Sheet) → bytes ≡ seen_bytes s → result ≡ fault_of (book_of book.now) s }
+// 15, no such field; 16, no such code.
+pub(crate) fn has_code(book: Book<'_>, field: usize, code: usize) -> Result<(), Reason>
+    ensures verdict { verdict_of result ≡ code_test (book_of book.entry.bytes.now) field code }
+    ensures field { OnOk result (field < places) }
+    ensures code { OnOk result (code < code_limit) }
 {
-    let counts = code_counts(book, list, fields);
-    let mut p = 0;
-    while p < PLACES {
-        if !may_hold(bytes[p], counts[p]) {
-            return p;
-        }
-        p += 1;
+    if book.fields <= field {
+        return Err(Reason::Field);
     }
-    p
+    if codes(book, field) <= code {
+        return Err(Reason::Code);
+    }
+    Ok(())
 }
 
-// 1 to 13, then 14 of the sheet in which these bytes are seen.
-pub fn open(book: &[u8], bytes: [u8; PLACES]) -> Opened
-    ensures { (s : Sheet) → bytes ≡ seen_bytes s → Opens book.now s result }
-{
-    let checked = book::check(book);
-    match checked {
-        Checked::Refused(kind, place) => Opened::Turned(Reason::Book(kind), place),
-        Checked::Good {
-            list,
-            fields,
-            tables,
-            rows,
-        } => {
-            let fault = first_fault(book, list, fields, bytes);
-            if fault < PLACES {
-                return Opened::Turned(Reason::Fault, fault);
-            }
-            Opened::Ready {
-                list: list,
-                fields: fields,
-                tables: tables,
-                rows: rows,
+impl Sheet {
+    // What 14 looks at in each place.
+    fn seen_bytes(&self) -> [u8; PLACES]
+        ensures { result ≡ seen_bytes (held_by self.now) }
+    {
+        let mut bytes = [0; PLACES];
+        for place in 0..PLACES {
+            bytes[place] = seen(self.answers[place], self.photographed[place]);
+        }
+        bytes
+    }
+
+    // The first place that holds neither 255 nor a code of its field, or has a photograph and no answer. The loop compares two arrays and
+    // looks at nothing else, so that several places are tested at a time.
+    fn first_fault(&self, book: Book<'_>) -> Option<usize>
+        ensures { result ≡ fault_at (fault_of (book_of book.entry.bytes.now) (held_by self.now)) }
+    {
+        let counts = code_counts(book);
+        let bytes = self.seen_bytes();
+        for p in 0..PLACES {
+            if !may_hold(bytes[p], counts[p]) {
+                return Some(p);
             }
         }
+        None
+    }
+
+    // 14.
+    pub(crate) fn has_no_fault(&self, book: Book<'_>) -> Result<(), Reason>
+        ensures { verdict_of result ≡ fault_test (fault_of (book_of book.entry.bytes.now) (held_by self.now)) }
+    {
+        match self.first_fault(book) {
+            Some(place) => Err(Reason::Fault(place)),
+            None => Ok(()),
+        }
+    }
+
+    // 1 to 13, then 14.
+    pub fn open<'a>(&self, bytes: &'a [u8]) -> Result<Book<'a>, Reason>
+        ensures answer { verdict_of result ≡ opening bytes.entry.now (held_by self.now) }
+        ensures bytes { IfOk result (λ book. book.bytes ≡ bytes.entry) }
+    {
+        let book = Book::open(bytes)?;
+        self.has_no_fault(book)?;
+        Ok(book)
+    }
+
+    // 15, no such field; 17, it has no answer.
+    pub(crate) fn has_answer(&self, book: Book<'_>, field: usize) -> Result<(), Reason>
+        ensures verdict { verdict_of result ≡ answer_test (book_of book.entry.bytes.now) (held_by self.now) field }
+        ensures field { OnOk result (field < places) }
+    {
+        if book.fields <= field {
+            return Err(Reason::Field);
+        }
+        if self.answers[field] == 255 {
+            return Err(Reason::NoAnswer);
+        }
+        Ok(())
     }
 }

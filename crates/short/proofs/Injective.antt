@@ -1,19 +1,13 @@
 -- An answer is told by what is shown of it: no two answers of the calls that write a form show the same number, place and count. Assumes nothing.
-use mathlib.Core.Path.{◌≡◌, ap, ap₂}
-use native.Mathlib.Omega.{arith}
+use mathlib.Core.Path.{◌≡◌, ap}
+use mathlib.Core.List.{List}
+use Prim.Native.Nat.{ℕ}
 use lib.ListN.{get_or}
-use Rattle.format.specs.Reading.{Outcome}
-use Rattle.sheet.proofs.Injective.{number_some, number_injective}
+use Rattle.std.specs.Prelude.{Result}
+use Rattle.sheet.specs.Shown.{shown}
+use Rattle.sheet.specs.declared.reasons.Reason.{Reason}
+use Rattle.sheet.proofs.Injective.{shown_injective}
 use Rattle.short.specs.Shown.{shown_form}
-use Rattle.short.specs.declared.Written.{Written}
-use Rattle.short.specs.declared.Written.TheVariants.{Bytes, Unwritten}
 
--- equal outcomes have equal parts
-numbers : {x y : Outcome} → x ≡ y → x.number ≡ y.number
-numbers e = ap (λ (o : Outcome). o.number) e
-
-pub shown_form_injective : (x y : Written) → shown_form x ≡ shown_form y → x ≡ y
-shown_form_injective (Bytes n) (Bytes m) e = ap Bytes (ap (λ (o : Outcome). get_or o.counts 0 0) e)
-shown_form_injective (Bytes n) (Unwritten r p) e = absurd (omega (arith, numbers e, number_some r))
-shown_form_injective (Unwritten r p) (Bytes n) e = absurd (omega (arith, numbers e, number_some r))
-shown_form_injective (Unwritten r p) (Unwritten r' p') e = ap₂ Unwritten (number_injective r r' (numbers e)) (ap (λ (o : Outcome). o.place) e)
+pub shown_form_injective : (x y : Result ℕ Reason) → shown shown_form x ≡ shown shown_form y → x ≡ y
+shown_form_injective = shown_injective shown_form (λ n m e. ap (λ (l : List ℕ). get_or l 0 0) e)

@@ -8,16 +8,16 @@ use native.Mathlib.Omega.{arith}
 use borrow.Author.Tests.{ne_eqb}
 use lib.ListN.{length, get_or, take, drop}
 use lib.Seq.{length-take-le}
+use Rattle.std.specs.Prelude.{Result as Answer}
 use Rattle.format.specs.Basics.{pick}
 use Rattle.format.specs.Format.{book_of}
-use Rattle.format.specs.Reading.{Outcome, accepted}
+use Rattle.format.specs.Reading.{accepted}
 use Rattle.format.specs.Writing.{Reply, declined, into}
 use Rattle.format.proofs.Accepted.{verdict_accepted}
-use Rattle.format.proofs.Copying.{copied_whole}
 use Rattle.format.proofs.Replies.{into_short, into_whole}
 use Rattle.consistency.specs.Counting.{any_below}
 use Rattle.consistency.specs.Consistency.{places, Sheet, backed}
-use Rattle.calls.specs.Calls.{Result, any_backed, loaded}
+use Rattle.calls.specs.Calls.{Result, turned, done, any_backed, loaded}
 use Rattle.calls.specs.Short.{short_of, sheet_from_short, loaded_short, moved, shortened, lengthened}
 use Rattle.calls.specs.Conditions.{ShortLayout, NoFault}
 use Rattle.calls.specs.ShortForms.{fields_of}
@@ -27,69 +27,67 @@ use Rattle.calls.proofs.Stored as stored
 use Rattle.calls.proofs.ShortForms.{read_fine}
 use Rattle.calls.proofs.ShortLayouts.{layout_of}
 use Rattle.calls.proofs.ShortCalls.{Reads, load_accepted, loaded_sheet, there, back, shorten_on, lengthen_on}
-use Rattle.sheet.specs.Shown.{number_of, held_by, shown, result_of}
-use Rattle.sheet.specs.declared.Reason.{Reason}
-use Rattle.sheet.specs.declared.Answer.TheVariants.{Done, Refused}
-use Rattle.sheet.specs.declared.Handed.{Handed}
+use Rattle.sheet.specs.Numbers.{number_of, place_of}
+use Rattle.sheet.specs.Shown.{held_by, shown_nothing, left, result_of}
+use Rattle.sheet.specs.declared.reasons.Reason.{Reason}
+use Rattle.sheet.specs.declared.handed.Handed.{Handed}
 use Rattle.sheet.proofs.Injective.{number_some}
 
--- ---- what a load handed back
+-- ---- what a load answered
 
-module _ (h : Handed) (r : Result) (is : result_of h [] ≡ r) where
-  told : r.outcome ≡ shown h.answer
-  told = ap (λ (x : Result). x.outcome) (sym is)
+-- it accepted the form
+number_0 : {s : Sheet} {r : Result} → done [] s [] ≡ r → r.outcome.number ≡ 0
+number_0 e = sym (ap (λ (x : Result). x.outcome.number) e)
 
-  -- it accepted the form
-  pub load_done : h.answer ≡ Done → r.outcome.number ≡ 0
-  load_done e = ap (λ (x : Outcome). x.number) (told ∙ ap shown e)
+-- the sheet that the form says
+sheet_is : {s : Sheet} {r : Result} → done [] s [] ≡ r → s ≡ r.sheet
+sheet_is e = ap (λ (x : Result). x.sheet) e
 
-  -- the sheet that the form says
-  pub load_sheet : held_by h.sheet ≡ r.sheet
-  load_sheet = ap (λ (x : Result). x.sheet) is
+-- it refused the form, and so does the call that moves it
+refused_too : {s : Sheet} (r : Result) (reason : Reason) → turned 0 s [] (number_of reason) (place_of reason) ≡ r → (o : List ℕ) (go : Sheet → Reply)
+    → declined o (number_of reason) (place_of reason) ≡ moved r o go
+refused_too r reason e o go =
+    let number : r.outcome.number ≡ number_of reason = sym (ap (λ (x : Result). x.outcome.number) e) in
+    let at : r.outcome.place ≡ place_of reason = sym (ap (λ (x : Result). x.outcome.place) e) in
+    let no : r.outcome.number ≢ 0 = (λ z. omega (arith, z, number, number_some reason)) in
+    ap₂ (declined o) (sym number) (sym at)
+    ∙ ap (λ (t : Bool). pick t (go r.sheet) (declined o r.outcome.number r.outcome.place)) (sym (ne_eqb r.outcome.number 0 no))
 
-  -- it refused the form, and so does the call that moves it
-  pub load_refused : (reason : Reason) (place : ℕ) → h.answer ≡ Refused reason place → (o : List ℕ) (go : Sheet → Reply)
-      → declined o (number_of reason) place ≡ moved r o go
-  load_refused reason place e o go =
-      let number : r.outcome.number ≡ number_of reason = ap (λ (x : Outcome). x.number) (told ∙ ap shown e) in
-      let at : r.outcome.place ≡ place = ap (λ (x : Outcome). x.place) (told ∙ ap shown e) in
-      let no : r.outcome.number ≢ 0 = (λ z. omega (arith, z, number, number_some reason)) in
-      ap₂ (declined o) (sym number) (sym at)
-      ∙ ap (λ (t : Bool). pick t (go r.sheet) (declined o r.outcome.number r.outcome.place)) (sym (ne_eqb r.outcome.number 0 no))
+-- the same of an answer beside its sheet
+pub of_answer : {h : Handed (Unit {0})} {r : Result} (answer : Answer (Unit {0}) Reason) → h.answer ≡ answer → result_of shown_nothing h [] ≡ r
+    → left shown_nothing answer (held_by h.sheet) [] ≡ r
+of_answer {h} answer d e = ap (λ (a : Answer (Unit {0}) Reason). left shown_nothing a (held_by h.sheet) []) (sym d) ∙ e
 
 -- ---- to the short form
 
-module _ (bytes form o : List ℕ) (h : Handed) (is : result_of h [] ≡ loaded bytes form) where
-  pub shorten_refused : (reason : Reason) (place : ℕ) → h.answer ≡ Refused reason place → declined o (number_of reason) place ≡ shortened bytes form o
+module _ (bytes form o : List ℕ) {s : Sheet} where
+  pub shorten_refused : (reason : Reason) → turned 0 s [] (number_of reason) (place_of reason) ≡ loaded bytes form
+      → declined o (number_of reason) (place_of reason) ≡ shortened bytes form o
   unfolding shortened
-  shorten_refused reason place e = load_refused h (loaded bytes form) is reason place e o (there bytes o)
+  shorten_refused reason e = refused_too (loaded bytes form) reason e o (there bytes o)
 
-  module _ (d : h.answer ≡ Done) where
+  module _ (e : done [] s [] ≡ loaded bytes form) where
     loads : stored.Loads bytes form (loaded bytes form)
-    loads = stored.load_accepted bytes form (load_done h (loaded bytes form) is d)
+    loads = stored.load_accepted bytes form (number_0 e)
 
     -- a byte a field
     pub form_few : length form ≤ places
     form_few = omega (arith, loads.whole, (accepted_within bytes (verdict_accepted bytes loads.passes)).few)
 
-    pub shorten_into : into (short_of (length form) (held_by h.sheet)) o ≡ shortened bytes form o
-    shorten_into =
-        ap₂ (λ (n : ℕ) (s : Sheet). into (short_of n s) o) loads.whole (load_sheet h (loaded bytes form) is)
-        ∙ sym (shorten_on bytes form o (load_done h (loaded bytes form) is d))
+    pub shorten_into : into (short_of (length form) s) o ≡ shortened bytes form o
+    shorten_into = ap₂ (λ (n : ℕ) (t : Sheet). into (short_of n t) o) loads.whole (sheet_is e) ∙ sym (shorten_on bytes form o (number_0 e))
 
 -- ---- and back
 
-module _ (bytes form o : List ℕ) (h : Handed) (is : result_of h [] ≡ loaded_short bytes form) where
-  pub lengthen_refused : (reason : Reason) (place : ℕ) → h.answer ≡ Refused reason place → declined o (number_of reason) place ≡ lengthened bytes form o
+module _ (bytes form o : List ℕ) (s : Sheet) where
+  pub lengthen_refused : (reason : Reason) → turned 0 s [] (number_of reason) (place_of reason) ≡ loaded_short bytes form
+      → declined o (number_of reason) (place_of reason) ≡ lengthened bytes form o
   unfolding lengthened
-  lengthen_refused reason place e = load_refused h (loaded_short bytes form) is reason place e o (back bytes o)
+  lengthen_refused reason e = refused_too (loaded_short bytes form) reason e o (back bytes o)
 
-  module _ (d : h.answer ≡ Done) where
-    abbrev s : Sheet
-    s = held_by h.sheet
-
+  module _ (e : done [] s [] ≡ loaded_short bytes form) where
     accepts : (loaded_short bytes form).outcome.number ≡ 0
-    accepts = load_done h (loaded_short bytes form) is d
+    accepts = number_0 e
 
     reads : Reads bytes form
     reads = (load_accepted bytes form accepts).reads
@@ -108,29 +106,29 @@ module _ (bytes form o : List ℕ) (h : Handed) (is : result_of h [] ≡ loaded_
     fine : NoFault (book_of bytes) s
     fine =
         let within = accepted_within bytes (verdict_accepted bytes reads.passes) in
-        let said : s ≡ sheet_from_short form = load_sheet h (loaded_short bytes form) is ∙ loaded_sheet bytes form accepts in
+        let said : s ≡ sheet_from_short form = sheet_is e ∙ loaded_sheet bytes form accepts in
         subst (NoFault (book_of bytes)) (sym said)
         (fault_free (book_of bytes) (sheet_from_short form) (omega (arith, read_fine (book_of bytes) within form reads.ok reads.fine)))
 
     -- what the rest answers
     rest : back bytes o s ≡ lengthened bytes form o
-    rest = ap (back bytes o) (load_sheet h (loaded_short bytes form) is) ∙ sym (lengthen_on bytes form o accepts)
+    rest = ap (back bytes o) (sheet_is e) ∙ sym (lengthen_on bytes form o accepts)
 
     -- its last byte is the number of fields
     module _ (fields : ℕ) (last : fields ≡ get_or form (length form - 1) 0) where
       fields_is : fields_of bytes ≡ fields
       fields_is =
-          let e : length form - 1 ≡ 3 * layout.many + 1 = omega (arith, layout.size) in
-          sym layout.fields ∙ sym (ap (λ (i : ℕ). get_or form i 0) e) ∙ sym last
+          let i : length form - 1 ≡ 3 * layout.many + 1 = omega (arith, layout.size) in
+          sym layout.fields ∙ sym (ap (λ (k : ℕ). get_or form k 0) i) ∙ sym last
 
       pub fields_fit : fields ≤ places
       fields_fit = omega (arith, few, fields_is)
 
       -- by whether some field has a photograph
       back_as : {t : Bool} → any_below fields (backed s) ≡ t → pick t (declined o 22 0) (into (take fields s.answers) o) ≡ lengthened bytes form o
-      back_as {t} e =
+      back_as {t} q =
           let all : any_backed s ≡ t =
-          sym (any_known (book_of bytes) s fine few) ∙ ap (λ (n : ℕ). any_below n (backed s)) fields_is ∙ e in
+          sym (any_known (book_of bytes) s fine few) ∙ ap (λ (n : ℕ). any_below n (backed s)) fields_is ∙ q in
           ap₂ (λ (x : Bool) (n : ℕ). pick x (declined o 22 0) (into (take n s.answers) o)) (sym all) (sym fields_is) ∙ rest
 
       pub lengthen_22 : any_below fields (backed s) ≡ true → declined o 22 0 ≡ lengthened bytes form o
@@ -146,9 +144,10 @@ module _ (bytes form o : List ℕ) (h : Handed) (is : result_of h [] ≡ loaded_
         pub lengthen_18 : length o < fields → declined o 18 0 ≡ lengthened bytes form o
         lengthen_18 l = sym (into_short xs o (omega (arith, size))) ∙ back_as plain
 
-        -- the bytes of the fields are written, where o' is o with them copied
-        pub lengthen_done : fields ≤ length o → (o' : List ℕ) → o' ≡ take (length o) xs ++ drop (length xs) o
-            → record { outcome = accepted (fields ∷ []); buffer = o' } ≡ lengthened bytes form o
-        lengthen_done l o' e =
-            ap₂ (λ (n : ℕ) (q : List ℕ). record { outcome = accepted (n ∷ []); buffer = q }) (sym size) (e ∙ copied_whole xs o (omega (arith, size)))
+        -- the bytes of the fields are written, ys being they
+        pub lengthen_done : fields ≤ length o → (ys : List ℕ) → ys ≡ xs
+            → record { outcome = accepted (fields ∷ []); buffer = ys ++ drop fields o } ≡ lengthened bytes form o
+        lengthen_done l ys q =
+            ap (λ (zs : List ℕ). record { outcome = accepted (fields ∷ []); buffer = zs ++ drop fields o }) q
+            ∙ ap (λ (n : ℕ). record { outcome = accepted (n ∷ []); buffer = xs ++ drop n o }) (sym size)
             ∙ sym (into_whole xs o (omega (arith, size))) ∙ back_as plain

@@ -3,12 +3,15 @@ use mathlib.Core.Path.{◌≡◌, refl, sym, ap, ap₂, ◌∙◌}
 use mathlib.Core.Logic.{◌⊎◌, inl, inr}
 use mathlib.Core.Bool.{Bool, true, false, not}
 use mathlib.Core.List.{List, [], ◌∷◌, ◌++◌, append-nil}
+use Rattle.std.specs.List.{count_by}
+use Rattle.std.proofs.lemmas.List.Sums.{count_by_more_yes, count_by_more_no}
 use Prim.Native.Nat.{ℕ, zero, suc, ◌+◌, ◌*◌, ◌≤◌, ◌<◌}
-use native.Mathlib.Nat.{eq-or-lt_of_le}
+use native.Mathlib.Nat.{eq-or-lt_of_le, add-zero}
 use native.Mathlib.Numerals.{add-one}
 use native.Mathlib.Omega.{arith}
 use borrow.Author.Tests.{ne_eqb, eq-eqb}
-use lib.ListN.{length, get_or, set, length-append}
+use lib.ListN.{length, get_or, set, take, length-append}
+use lib.Dec.{eqb}
 use lib.Seq.{sets, length-sets}
 use mir.Val.{bool_byte}
 use Rattle.format.specs.Basics.{pick}
@@ -30,12 +33,6 @@ use Rattle.short.specs.Forms.{Fits, Wrote}
 two_sets : (o : List ℕ) (i x y : ℕ) → set (set o i x) (i + 1) y ≡ sets o i (x ∷ y ∷ [])
 two_sets o i x y = ap (λ (k : ℕ). set (set o i x) k y) (add-one i)
 
-pub three_sets : (o : List ℕ) (i x y z : ℕ) → set (set (set o i x) (i + 1) y) (i + 2) z ≡ sets o i (x ∷ y ∷ z ∷ [])
-three_sets o i x y z = ap₂ (λ (k m : ℕ). set (set (set o i x) k y) m z) (add-one i) (two_on i)
-  where
-    two_on : (i : ℕ) → i + 2 ≡ suc (suc i)
-    two_on i = omega arith
-
 -- a photograph as a byte
 pub flag_is : (p : Bool) → bool_byte p ≡ flag_byte p
 flag_is true = refl
@@ -54,12 +51,20 @@ module _ (a : List ℕ) (long : length a ≡ places) (f : ℕ) (l : f < places) 
   many_next : {t : Bool} → answered a f ≡ t → how_many (suc f) (answered a) ≡ how_many f (answered a) + pick t 1 0
   many_next e = ap (λ (t : Bool). how_many f (answered a) + pick t 1 0) e
 
-  -- the bytes of the form so far
-  pub size_skip : (bytes : ℕ) → bytes ≡ 3 * how_many f (answered a) + 2 → get_or a f 0 ≡ 255 → bytes ≡ 3 * how_many (f + 1) (answered a) + 2
-  size_skip bytes e u = rw (add-one f) (omega (arith, e, many_next (unanswered u)))
+-- the bytes that are answers, of the fields below n
+pub answers_taken : (a : List ℕ) → length a ≡ places → (n : ℕ) → n ≤ places → count_by (λ x. not (eqb x 255)) (take n a) ≡ how_many n (answered a)
+answers_taken a long zero l = refl
+answers_taken a long (suc n) l = by (answered a n) refl (answers_taken a long n (omega arith))
+  where
+    same : not (eqb (get_or a n 0) 255) ≡ answered a n
+    same = ap (λ (x : ℕ). not (eqb x 255)) (answer_at a n (omega arith))
 
-  pub size_more : (bytes : ℕ) → bytes ≡ 3 * how_many f (answered a) + 2 → (get_or a f 0 ≡ 255 → ⊥) → bytes + 3 ≡ 3 * how_many (f + 1) (answered a) + 2
-  size_more bytes e n = rw (add-one f) (omega (arith, e, many_next (has_answer n)))
+    by : (t : Bool) → answered a n ≡ t → count_by (λ x. not (eqb x 255)) (take n a) ≡ how_many n (answered a)
+        → count_by (λ x. not (eqb x 255)) (take (suc n) a) ≡ how_many n (answered a) + pick (answered a n) 1 0
+    by true e before =
+        rw (e, ← add-one n) (count_by_more_yes (λ x. not (eqb x 255)) a n 0 (omega arith) (same ∙ e) ∙ ap (λ (k : ℕ). k + 1) before)
+    by false e before =
+        rw (e, ← add-one n) (count_by_more_no (λ x. not (eqb x 255)) a n 0 (omega arith) (same ∙ e) ∙ before ∙ sym (add-zero (how_many n (answered a))))
 
 -- below a smaller bound a test holds less often
 many_grows : (p : ℕ → Bool) (f n : ℕ) → f ≤ n → how_many f p ≤ how_many n p

@@ -1,17 +1,16 @@
 // The short form of a sheet, written where there is room for it.
-ghost use Rattle.std.specs.Prelude.{◌≡◌, ◌≤◌, ◌+◌, ◌*◌, [], ◌∷◌, length};
+ghost use Rattle.std.specs.Prelude.{◌≡◌, ◌≤◌, ◌+◌, ◌*◌, ◌==◌, not, [], ◌∷◌, length, count_by};
 ghost use Rattle.std.proofs.lemmas.List.Edits.{sets};
 ghost use Rattle.format.specs.Writing.{into};
 ghost use Rattle.consistency.specs.Counting.{how_many};
-ghost use Rattle.consistency.specs.Consistency.{places, sheet_with};
+ghost use Rattle.consistency.specs.Consistency.{places};
 ghost use Rattle.consistency.specs.Counts.{answered};
 ghost use Rattle.calls.specs.Short.{short_of};
+ghost use Rattle.sheet.specs.Shown.{held_by};
 ghost use Rattle.short.specs.Forms.{Fits, Wrote};
 ghost use Rattle.short.specs.Shown.{reply_of};
 
-use super::Written;
-use book::PLACES;
-use sheet::Reason;
+use sheet::{Reason, Sheet};
 
 // Three bytes from `at` on. Answers the place behind them.
 fn put_entry(out: &mut [u8], at: usize, field: u8, code: u8, photographed: u8) -> usize
@@ -24,46 +23,40 @@ fn put_entry(out: &mut [u8], at: usize, field: u8, code: u8, photographed: u8) -
     at + 3
 }
 
-// The number of bytes of the form under a book of this many fields.
-fn size(answers: [u8; PLACES], fields: usize) -> usize
-    requires { fields ≤ places }
-    ensures { result ≡ 3 * how_many fields (answered answers) + 2 }
+// How many of these bytes are answers.
+fn answers_in(bytes: &[u8]) -> usize
+    ensures { result ≡ count_by (λ byte. not (byte == 255)) bytes.now }
 {
-    let mut bytes = 2;
-    let mut f = 0;
-    while f < fields {
-        if answers[f] == 255 {
-            f += 1;
-        } else {
-            bytes += 3;
-            f += 1;
-        }
-    }
-    bytes
+    bytes.iter().filter(|byte| **byte != 255).count()
+}
+
+// The number of bytes of the form under a book of this many fields.
+fn size(sheet: &Sheet, fields: usize) -> usize
+    requires { fields ≤ places }
+    ensures { result ≡ 3 * how_many fields (answered (held_by sheet.now).answers) + 2 }
+{
+    3 * answers_in(&sheet.answers[..fields]) + 2
 }
 
 // The form, from the first byte on. Answers how many bytes it has.
-fn write(
-    answers: [u8; PLACES],
-    photographed: [bool; PLACES],
-    fields: usize,
-    out: &mut [u8],
-) -> usize
-    requires { Fits fields (sheet_with answers photographed) out.old }
-    ensures { Wrote fields (sheet_with answers photographed) out.old out.new result }
+fn write(sheet: &Sheet, fields: usize, out: &mut [u8]) -> usize
+    requires { Fits fields (held_by sheet.now) out.old }
+    ensures { Wrote fields (held_by sheet.now) out.old out.new result }
 {
     let mut next = 0;
     let mut many: u8 = 0;
-    let mut f = 0;
-    while f < fields {
-        if answers[f] == 255 {
-            f += 1;
-        } else {
-            let flag = photographed[f] as u8;
-            next = put_entry(out, next, f as u8, answers[f], flag);
-            many += 1;
-            f += 1;
+    for f in 0..fields {
+        if sheet.answers[f] == 255 {
+            continue;
         }
+        next = put_entry(
+            out,
+            next,
+            f as u8,
+            sheet.answers[f],
+            u8::from(sheet.photographed[f]),
+        );
+        many += 1;
     }
     out[next] = many;
     out[next + 1] = fields as u8;
@@ -71,18 +64,12 @@ fn write(
 }
 
 // 18, or the form.
-pub(crate) fn put(
-    answers: [u8; PLACES],
-    photographed: [bool; PLACES],
-    fields: usize,
-    out: &mut [u8],
-) -> Written
+pub(crate) fn put(sheet: &Sheet, fields: usize, out: &mut [u8]) -> Result<usize, Reason>
     requires { fields ≤ places }
-    ensures { reply_of result out.new ≡ into (short_of fields (sheet_with answers photographed)) out.old }
+    ensures { reply_of result out.new ≡ into (short_of fields (held_by sheet.now)) out.old }
 {
-    if out.len() < size(answers, fields) {
-        return Written::Unwritten(Reason::Room, 0);
+    if out.len() < size(sheet, fields) {
+        return Err(Reason::Room);
     }
-    let bytes = write(answers, photographed, fields, out);
-    Written::Bytes(bytes)
+    Ok(write(sheet, fields, out))
 }

@@ -11,5 +11,5 @@ use Rattle.sheet.proofs.replay.Goals as goal
 pub returns : goal.returns
 returns c = let book : List ℕ = c.args.book.now in
     let o : List ℕ = c.args.out.now in
-    let e = c.alternatives.ensures ∙ ap (λ (s : Sheet). alternatives book s o) c.after-sheet.ensures in
+    let e = c.alternatives.ensures ∙ ap (λ (s : Sheet). alternatives book s o) c.after.ensures in
     record { answer = e; condition3 = replayed book (calls_in c.args.calls.now) o _ e }

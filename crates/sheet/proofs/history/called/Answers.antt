@@ -1,18 +1,20 @@
 -- `called` meets its contract: each kind of call, and no call. Assumes nothing.
+use mathlib.Core.Path.{◌≡◌}
+use native.Mathlib.Omega.{arith}
 use Rattle.sheet.proofs.Replays.{called_enter, called_withdraw, called_clear, called_photograph, called_none}
 use Rattle.sheet.proofs.history.called.Goals as goal
 
-pub returns-then-kind-eq0 : goal.returns-then-kind-eq0
-returns-then-kind-eq0 c = called_enter _ _ _ _ _ c.if-kind-eq0.true c.enter-entered.ensures
+pub returns-in-0 : goal.returns-in-0
+returns-in-0 c = called_enter _ _ _ _ _ c.in-0.is c.from.ensures c.from-in-0.ensures c.enter.ensures
 
-pub returns-then-kind-eq1 : goal.returns-then-kind-eq1
-returns-then-kind-eq1 c = called_withdraw _ _ _ _ _ c.if-kind-eq0.false c.if-kind-eq1.true c.withdraw-withdrawn.ensures
+pub returns-in-1 : goal.returns-in-1
+returns-in-1 c = called_withdraw _ _ _ _ _ c.in-1.is c.from-in-1.ensures c.withdraw.ensures
 
-pub returns-then-kind-eq2 : goal.returns-then-kind-eq2
-returns-then-kind-eq2 c = called_clear _ _ _ _ _ c.if-kind-eq0.false c.if-kind-eq1.false c.if-kind-eq2.true c.clear-cleared.ensures
+pub returns-in-2 : goal.returns-in-2
+returns-in-2 c = called_clear _ _ _ _ _ c.in-2.is c.clear.ensures
 
-pub returns-then-kind-eq3 : goal.returns-then-kind-eq3
-returns-then-kind-eq3 c = called_photograph _ _ _ _ _ c.if-kind-eq0.false c.if-kind-eq1.false c.if-kind-eq2.false c.if-kind-eq3.true c.photograph-photographed.ensures
+pub returns-in-3 : goal.returns-in-3
+returns-in-3 c = called_photograph _ _ _ _ _ c.in-3.is c.from-in-3.ensures c.photograph.ensures
 
-pub returns : goal.returns
-returns c = called_none _ _ _ _ _ c.if-kind-eq0.false c.if-kind-eq1.false c.if-kind-eq2.false c.if-kind-eq3.false
+pub returns-in_default : goal.returns-in_default
+returns-in_default c = called_none _ _ c.args.kind _ _ (λ (e : c.args.kind ≡ 0). omega arith) (λ (e : c.args.kind ≡ 1). omega arith) (λ (e : c.args.kind ≡ 2). omega arith) (λ (e : c.args.kind ≡ 3). omega arith)

@@ -1,23 +1,45 @@
-use mathlib.Core.Path.{refl}
+use mathlib.Core.Path.{sym, ap, subst, ◌∙◌}
+use Prim.Native.Nat.{ℕ}
 use native.Mathlib.Omega.{arith}
-use Rattle.sheet.proofs.Openings.{fields_end}
-use Rattle.short.proofs.ReadTurns.{rest_start, rest_next, rest_field, fault_here, fault_on, fault_last}
+use Rattle.std.specs.Slice.Iter.{chunks_exact_rest, chunks_exact_size}
+use Rattle.std.specs.declared.slice.ChunksExact.{ChunksExact}
+use Rattle.format.specs.Format.{book_of}
+use Rattle.calls.specs.Short.{code_fault}
+use Rattle.sheet.proofs.Openings.{fields_at, fields_end}
+use Rattle.short.proofs.ReadTurns.{RestOk, rest_start, rest_next, rest_field, fault_here, fault_on, fault_last}
 use Rattle.short.proofs.forms.code_fault.Goals as goal
 
-pub loop-at-init : goal.loop-at-init
-loop-at-init c = (omega arith, (rest_start _ _ c.requires.1, refl))
+pub loop-entry-init : goal.loop-entry-init
+loop-entry-init c = let e = ap (λ (i : ChunksExact ℕ). chunks_exact_rest i) c.into_iter-entry-iterator.ensures.into_iter_gives ∙ c.chunks_exact-entry-items.ensures.rest in
+    let size = ap (λ (i : ChunksExact ℕ). chunks_exact_size i) c.into_iter-entry-iterator.ensures.into_iter_gives ∙ c.chunks_exact-entry-items.ensures.size in (
+      size,
+      subst (RestOk c.args.book.fields) (sym e) (rest_start c.args.book.fields c.requires),
+      ap (code_fault (book_of c.args.book.bytes.now)) e,
+    )
 
-pub overflow_add-list : goal.overflow_add-list
-overflow_add-list c = omega (arith, fields_end _ _ _ c.requires.0, c.wide-field.ensures, rest_field _ c.args.form.now c.loop-at.at c.loop-at.invariant.1.0 c.loop-at.invariant.0 c.loop-at-test.true)
+pub overflow_add-book : goal.overflow_add-book
+overflow_add-book c = let steps = c.in-Some.ensures.steps in
+    let three = steps.1.1 ∙ c.loop-entry.invariant.0 in
+    omega (arith, fields_end _ _ _ (fields_at c.args.book.viewed), c.from-field.ensures, rest_field c.args.book.fields c.loop-entry.invariant.1 c.in-Some.entry.now (chunks_exact_rest c.next.new.self) steps.1.0 three)
 
-pub bounds-book-list : goal.bounds-book-list
-bounds-book-list c = omega (arith, fields_end _ _ _ c.requires.0, c.wide-field.ensures, rest_field _ c.args.form.now c.loop-at.at c.loop-at.invariant.1.0 c.loop-at.invariant.0 c.loop-at-test.true)
+pub bounds-book-book : goal.bounds-book-book
+bounds-book-book c = let steps = c.in-Some.ensures.steps in
+    let three = steps.1.1 ∙ c.loop-entry.invariant.0 in
+    omega (arith, fields_end _ _ _ (fields_at c.args.book.viewed), c.from-field.ensures, rest_field c.args.book.fields c.loop-entry.invariant.1 c.in-Some.entry.now (chunks_exact_rest c.next.new.self) steps.1.0 three)
 
-pub returns-then-book-list : goal.returns-then-book-list
-returns-then-book-list c = fault_here c.args.book.now c.args.list c.args.fields c.requires.0 c.args.form.now c.loop-at.at _ c.loop-at.invariant.1.1 c.loop-at.invariant.1.0 c.loop-at.invariant.0 c.loop-at-test.true _ c.wide-field.ensures c.if-book-list.true
+pub returns-then-book-field : goal.returns-then-book-field
+returns-then-book-field c = let steps = c.in-Some.ensures.steps in
+    let three = steps.1.1 ∙ c.loop-entry.invariant.0 in
+    fault_here c.args.book _ c.loop-entry.invariant.2 c.loop-entry.invariant.1 c.in-Some.entry.now (chunks_exact_rest c.next.new.self) steps.1.0 three _ c.from-field.ensures c.if-book-field.true
 
-pub loop-at-preserved : goal.loop-at-preserved
-loop-at-preserved c = (omega arith, (rest_next _ c.args.form.now c.loop-at.at c.loop-at.invariant.1.0 c.loop-at.invariant.0 c.loop-at-test.true, fault_on c.args.book.now c.args.list c.args.fields c.requires.0 c.args.form.now c.loop-at.at _ c.loop-at.invariant.1.1 c.loop-at.invariant.1.0 c.loop-at.invariant.0 c.loop-at-test.true _ c.wide-field.ensures c.if-book-list.false))
+pub loop-entry-preserved : goal.loop-entry-preserved
+loop-entry-preserved c = let steps = c.in-Some.ensures.steps in
+    let three = steps.1.1 ∙ c.loop-entry.invariant.0 in (
+      steps.0 ∙ c.loop-entry.invariant.0,
+      rest_next c.args.book.fields c.loop-entry.invariant.1 c.in-Some.entry.now (chunks_exact_rest c.next.new.self) steps.1.0 three,
+      fault_on c.args.book _ c.loop-entry.invariant.2 c.loop-entry.invariant.1 c.in-Some.entry.now (chunks_exact_rest c.next.new.self) steps.1.0 three _ c.from-field.ensures c.if-book-field.false,
+    )
 
 pub returns : goal.returns
-returns c = fault_last c.args.book.now c.args.list c.args.fields c.requires.0 c.args.form.now c.loop-at.at _ c.loop-at.invariant.1.1 c.loop-at.invariant.1.0 c.loop-at.invariant.0 (omega arith)
+returns c = let steps = c.in-None.ensures.steps in
+    fault_last c.args.book _ c.loop-entry.invariant.2 (omega (arith, steps.1.0, c.loop-entry.invariant.0))

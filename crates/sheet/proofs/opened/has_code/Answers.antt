@@ -1,0 +1,20 @@
+-- `has_code` meets its contract: each way through its tests. Assumes nothing.
+use native.Mathlib.Omega.{arith}
+use Rattle.sheet.proofs.Openings.{fields_at, fields_few}
+use Rattle.sheet.proofs.Tests.{code_15, code_16, code_ok}
+use Rattle.sheet.proofs.opened.has_code.Goals as goal
+
+pub returns-then-book-field : goal.returns-then-book-field
+returns-then-book-field c = record { verdict = code_15 (fields_at c.args.book.viewed) _ _ c.if-book-field.true; field = tt; code = tt }
+
+pub returns-then-codes-code : goal.returns-then-codes-code
+returns-then-codes-code c =
+    record { verdict = code_16 (fields_at c.args.book.viewed) _ _ c.if-book-field.false c.codes.ensures.is c.if-codes-code.true; field = tt; code = tt }
+
+pub returns : goal.returns
+returns c =
+    record {
+      verdict = code_ok (fields_at c.args.book.viewed) _ _ c.if-book-field.false c.codes.ensures.is c.if-codes-code.false;
+      field = omega (arith, c.if-book-field.false, fields_few _ _ _ (fields_at c.args.book.viewed));
+      code = omega arith;
+    }
