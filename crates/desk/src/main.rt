@@ -3,7 +3,7 @@
 
 ghost use Rattle.std.specs.Counts.{IsPrefixLen};
 
-use report::{Printed, TEXT_LIMIT};
+use report::TEXT_LIMIT;
 use std::fs::File;
 use std::io;
 use std::io::{Read, Write};
@@ -15,6 +15,7 @@ const BOOK_BYTES: usize = 32769;
 const SHEET_BYTES: usize = 64;
 
 // Fills the buffer from the file as far as it goes, and answers how many bytes that are. A read that fails ends the file.
+// (a) A `while`, since a read moves by as many bytes as it gives: `read_to_end` needs a heap, and `read_exact` a known length.
 fn read_full(file: &mut File, buffer: &mut [u8]) -> usize
     ensures { IsPrefixLen result buffer.new }
 {
@@ -28,25 +29,22 @@ fn read_full(file: &mut File, buffer: &mut [u8]) -> usize
     count
 }
 
-// Reads a file, and answers how many bytes it has: 0 where it cannot be opened.
-fn read_file(rt: &HostRuntime, path: &str, buffer: &mut [u8]) -> usize
-    ensures { IsPrefixLen result buffer.new }
-{
-    let mut file = match File::open(rt, path) {
-        Ok(file) => file,
-        Err(_) => return 0,
+// A file's bytes, as far as the buffer has room: none where it cannot be opened.
+fn read_file<'a>(rt: &HostRuntime, path: &str, buffer: &'a mut [u8]) -> &'a [u8] {
+    let count = match File::open(rt, path) {
+        Ok(mut file) => read_full(&mut file, buffer),
+        Err(_) => 0,
     };
-    read_full(&mut file, buffer)
+    &buffer[..count]
 }
 
 fn main(rt: HostRuntime) -> io::Result<()> {
     let mut book = [0; BOOK_BYTES];
     let mut form = [0; SHEET_BYTES];
     let mut text = [0; TEXT_LIMIT];
-    let book_length = read_file(&rt, "book.bin", &mut book);
-    let form_length = read_file(&rt, "sheet.bin", &mut form);
-    let printed = report::report(&book[..book_length], &form[..form_length], &mut text);
-    if let Printed::Written(length) = printed {
+    let book = read_file(&rt, "book.bin", &mut book);
+    let form = read_file(&rt, "sheet.bin", &mut form);
+    if let Ok(length) = report::report(book, form, &mut text) {
         io::writer(&rt).write_all(&text[..length])?;
     }
     Ok(())

@@ -1,19 +1,19 @@
 -- What alternatives and plain filtering write, read again: the pairs are the lines, and the masks of the unanswered fields are the open lines.
 -- Assumes nothing.
-use mathlib.Core.Path.{◌≡◌, refl, sym, ap, ap₂, ◌∙◌}
+use mathlib.Core.Path.{◌≡◌, refl, ap, ap₂, ◌∙◌}
 use mathlib.Core.Logic.{⊎_elim}
 use mathlib.Core.Bool.{Bool, true, false, not}
 use mathlib.Core.List.Memᴰ
-use mathlib.Core.List.{List, [], ◌∷◌, ◌++◌, append_assoc, append-nil, map}
-use Prim.Native.Nat.{ℕ, zero, suc, ◌+◌, ◌*◌, ◌≤◌, ◌<◌}
+use mathlib.Core.List.{List, [], ◌∷◌, ◌++◌, append-nil, map}
+use Prim.Native.Nat.{ℕ, zero, suc, ◌≤◌, ◌<◌}
 use native.Mathlib.Nat.{eq-or-lt_of_le}
 use native.Mathlib.Omega.{arith}
-use lib.ListN.{length, get_or, length-append, get_or-append}
-use lib.Seq.{get_or-append_seam, get_or-append-add}
+use lib.ListN.{length, get_or, take, get_or-append}
+use Rattle.std.specs.Simd.{first_chunks}
 use lib.Dec.{T}
 use Rattle.format.specs.Basics.{pick, In}
 use Rattle.format.specs.Format.{Book, code_limit}
-use Rattle.consistency.specs.Counting.{those, join_over, tabulate}
+use Rattle.consistency.specs.Counting.{those, join_over}
 use Rattle.consistency.specs.Consistency.{codes}
 use Rattle.consistency.specs.Largest.{largest}
 use Rattle.consistency.specs.Counts.{answered, Line, lines_of, line_bytes, bit, masks}
@@ -23,32 +23,16 @@ use Rattle.consistency.proofs.Masks.{length_masks, masks_bit}
 use Rattle.consistency.proofs.Largest.{largest_is}
 use Rattle.calls.proofs.Sheets.{Within}
 use Rattle.report.specs.Text.{open_lines}
-use Rattle.report.specs.Writes.{line_at, pair_lines, mask_lines, open_in}
+use Rattle.report.specs.Writes.{pair_lines, mask_lines, open_in}
 
 -- ---- pairs
 
--- the pair behind k pairs
-pair_at : (pre rest : List ℕ) (k f c : ℕ) → length pre ≡ 2 * k → line_at (pre ++ (f ∷ c ∷ rest)) k ≡ record { field = f; code = c }
-pair_at pre rest k f c e =
-    let first : get_or (pre ++ (f ∷ c ∷ rest)) (2 * k) 0 ≡ f = rw (← e) (get_or-append_seam pre f (c ∷ rest) 0) in
-    let second : get_or (pre ++ (f ∷ c ∷ rest)) (2 * k + 1) 0 ≡ c = rw (← e) (get_or-append-add pre (f ∷ c ∷ rest) 1 0) in
-    ap₂ (λ (x y : ℕ). record { field = x; code = y }) first second
-
--- the lines behind k pairs
-pairs_from : (ls : List Line) (pre rest : List ℕ) (k : ℕ) → length pre ≡ 2 * k
-    → tabulate (line_at (pre ++ (line_bytes ls ++ rest))) (length ls) k ≡ ls
-unfolding tabulate
-pairs_from [] pre rest k e = refl
-pairs_from (l ∷ ls) pre rest k e =
-    let more : pre ++ (l.field ∷ l.code ∷ (line_bytes ls ++ rest)) ≡ (pre ++ (l.field ∷ l.code ∷ [])) ++ (line_bytes ls ++ rest) =
-    sym (append_assoc pre (l.field ∷ l.code ∷ []) (line_bytes ls ++ rest)) in
-    ap₂ (λ (x : Line) (xs : List Line). x ∷ xs) (pair_at pre (line_bytes ls ++ rest) k l.field l.code e)
-    (ap (λ (bytes : List ℕ). tabulate (line_at bytes) (length ls) (suc k)) more
-    ∙ pairs_from ls (pre ++ (l.field ∷ l.code ∷ [])) rest (suc k) (omega (arith, length-append pre (l.field ∷ l.code ∷ []))))
-
--- the pairs of lines are these lines
-pub pairs_are : (ls : List Line) (rest : List ℕ) → pair_lines (line_bytes ls ++ rest) (length ls) ≡ ls
-pairs_are ls rest = pairs_from ls [] rest 0 refl
+-- the pairs of lines are these lines, whatever stands behind them
+pub pairs_are : (ls : List Line) (rest : List ℕ) (n : ℕ) → length ls ≤ n
+    → pair_lines (take (length ls) (first_chunks 2 n (line_bytes ls ++ rest))) ≡ ls
+pairs_are [] rest n h = refl
+pairs_are (l ∷ ls) rest zero h = absurd (omega arith)
+pairs_are (l ∷ ls) rest (suc n) h = ap (λ (xs : List Line). l ∷ xs) (pairs_are ls rest n (omega arith))
 
 -- ---- masks
 

@@ -1,31 +1,38 @@
 -- What alternatives and plain filtering answer for a book and a sheet that pass, and the sheet's text by what they wrote. Assumes nothing.
-use mathlib.Core.Path.{◌≡◌, sym, ap, ap₂, ◌∙◌, subst}
+use mathlib.Core.Path.{◌≡◌, refl, sym, ap, ap₂, ◌∙◌}
+use mathlib.Core.Bool.{not}
+use Rattle.std.specs.Simd.{first_chunks}
 use mathlib.Core.List.{List, [], ◌∷◌, ◌++◌}
-use Prim.Native.Nat.{ℕ, ◌*◌, ◌≤◌}
+use Prim.Native.Nat.{ℕ, ◌*◌, ◌/◌, ◌≤◌, ◌<◌}
 use native.Mathlib.Omega.{arith}
 use borrow.Author.Tests.{le-ltb}
-use lib.ListN.{length, get_or, drop, replicate, length-append, length-drop, length-replicate}
+use lib.Dec.{eqb}
+use Rattle.std.proofs.lemmas.List.{length-take-le, get_or-take}
+use lib.ListN.{length, get_or, take, drop, replicate, length-append, length-drop, length-replicate}
 use Rattle.format.specs.Format.{Book, code_limit, book_of}
 use Rattle.format.specs.Reading.{Outcome, accepted}
 use Rattle.format.proofs.Accepted.{verdict_accepted}
 use Rattle.consistency.specs.Consistency.{places, Sheet}
-use Rattle.consistency.specs.Counts.{total, struck, lines, line_bytes, masks}
+use Rattle.consistency.specs.Counting.{how_many, join_over}
+use Rattle.consistency.specs.Counts.{answered, total, struck, lines, line_bytes, masks}
+use Rattle.consistency.proofs.Sums.{many_ext, those_ext}
 use Rattle.consistency.proofs.Lines.{length_lines, length_line_bytes}
-use Rattle.consistency.proofs.Masks.{length_masks}
 use Rattle.consistency.proofs.Limits.{total_few}
-use Rattle.calls.specs.Calls.{Result, done, filtered, alternatives}
+use Rattle.std.specs.Prelude.{Result, Ok, Err, IsOk}
+use Rattle.calls.specs.Calls as calls
+use Rattle.calls.specs.Calls.{done, filtered, alternatives}
 use Rattle.calls.proofs.CallLaws.{sheet_go}
 use Rattle.calls.proofs.Listing.{listing, list_accepts}
 use Rattle.calls.proofs.Sheets.{Within, accepted_within}
-use Rattle.sheet.specs.Shown.{number_of, shown_listing, result_of, list_result_of}
-use Rattle.sheet.specs.declared.Reason.{Reason}
-use Rattle.sheet.specs.declared.Listing.TheVariants.{Listed, Unlisted}
-use Rattle.sheet.specs.declared.Handed.{Handed}
-use Rattle.sheet.specs.declared.HandedList.{HandedList}
-use Rattle.sheet.proofs.Injective.{number_some}
+use Rattle.sheet.specs.Numbers.{number_of}
+use Rattle.sheet.specs.Shown.{shown, shown_nothing, shown_listing, result_of}
+use Rattle.sheet.specs.declared.reasons.Reason.{Reason}
+use Rattle.sheet.specs.declared.handed.Handed.{Handed}
+use Rattle.sheet.specs.declared.handed.Alternatives.{Alternatives}
 use Rattle.report.specs.Text.{open_lines, sheet_text}
-use Rattle.report.specs.Writes.{Room, Puts, pair_lines, open_in, ListsFit, sheet_part}
+use Rattle.report.specs.Writes.{pair_lines, mask_lines, open_in, sheet_part}
 use Rattle.report.specs.Held.{Stands}
+use Rattle.sheet.proofs.Injective.{number_some}
 use Rattle.report.proofs.Contents.{pairs_are, masks_are}
 
 -- the buffers lent, each of zeros
@@ -51,6 +58,10 @@ module _ (bytes : List ℕ) (s : Sheet) (fields : ℕ) (st : Stands bytes s fiel
   within : Within book
   within = accepted_within bytes (verdict_accepted bytes st.passes)
 
+  -- the sheet has a place for each field
+  pub fields_fit : fields ≤ places
+  fields_fit = omega (arith, st.fields_are, within.few)
+
   -- the lines are listed: room for 1,920 pairs is enough
   listed : alternatives bytes s no_pairs ≡ listing book s no_pairs
   listed =
@@ -65,64 +76,80 @@ module _ (bytes : List ℕ) (s : Sheet) (fields : ℕ) (st : Stands bytes s fiel
       sheet_go 0 bytes s no_masks _ st.passes st.no_fault ∙ rw (le-ltb (length no_masks) (length book.counts) few)
 
   -- what alternatives left
-  module _ (r : HandedList) (pairs : List ℕ) (left : list_result_of r pairs ≡ alternatives bytes s no_pairs) where
+  module _ (r : Handed Alternatives) (pairs : List ℕ) (left : result_of shown_listing r pairs ≡ alternatives bytes s no_pairs) where
     -- it does not refuse
-    pub lists_accept : (reason : Reason) (place : ℕ) → r.answer ≡ Unlisted reason place → ⊥
-    lists_accept reason place e =
-        let z : number_of reason ≡ 0 =
-        ap (λ (o : Outcome). o.number) (sym (ap shown_listing e) ∙ ap (λ (x : Result). x.outcome) (left ∙ listed)) in
-        omega (arith, number_some reason)
+    pub lists_accept : IsOk r.answer
+    lists_accept = at r.answer refl
+      where
+        at : (a : Result Alternatives Reason) → a ≡ r.answer → IsOk a
+        at (Ok x) e = refl
+        at (Err reason) e =
+            let z : number_of reason ≡ 0 =
+            ap (λ (o : Outcome). o.number) (ap (shown shown_listing) e ∙ ap (λ (x : calls.Result). x.outcome) (left ∙ listed)) in
+            absurd (omega (arith, number_some reason))
 
     -- the pairs that it wrote
     pairs_is : pairs ≡ line_bytes (lines book s) ++ drop (2 * total book s) no_pairs
-    pairs_is = ap (λ (x : Result). x.buffer) (left ∙ listed)
+    pairs_is = ap (λ (x : calls.Result). x.buffer) (left ∙ listed)
 
     -- its total and its number struck, and what plain filtering left
-    module _ (t k : ℕ) (e : r.answer ≡ Listed t k) (r' : Handed) (ms : List ℕ) (left' : result_of r' ms ≡ filtered bytes s 255 no_masks) where
+    module _ (x : Alternatives) (e : r.answer ≡ Ok x) (r' : Handed (Unit {0})) (ms : List ℕ)
+        (left' : result_of shown_nothing r' ms ≡ filtered bytes s 255 no_masks) where
       -- the two numbers are the definitions'
-      counts : accepted (t ∷ k ∷ []) ≡ accepted (total book s ∷ struck book s ∷ [])
-      counts = sym (ap shown_listing e) ∙ ap (λ (x : Result). x.outcome) (left ∙ listed)
+      counts : accepted (x.total ∷ x.struck ∷ []) ≡ accepted (total book s ∷ struck book s ∷ [])
+      counts = sym (ap (shown shown_listing) e) ∙ ap (λ (x : calls.Result). x.outcome) (left ∙ listed)
 
-      total_is : t ≡ total book s
+      total_is : x.total ≡ total book s
       total_is = ap (λ (o : Outcome). get_or o.counts 0 0) counts
 
-      struck_is : k ≡ struck book s
+      struck_is : x.struck ≡ struck book s
       struck_is = ap (λ (o : Outcome). get_or o.counts 1 0) counts
 
       -- the masks that plain filtering wrote
       masks_is : ms ≡ masks book s.answers ++ drop (length book.counts) no_masks
-      masks_is = ap (λ (x : Result). x.buffer) (left' ∙ masked)
+      masks_is = ap (λ (x : calls.Result). x.buffer) (left' ∙ masked)
 
-      -- so the buffers hold the lines of the text
-      alts_is : pair_lines pairs t ≡ lines book s
-      alts_is =
-          ap₂ pair_lines pairs_is (total_is ∙ sym (length_lines book s)) ∙ pairs_are (lines book s) (drop (2 * total book s) no_pairs)
+      -- the pairs of all that was lent
+      module _ (chunks : List (List ℕ)) (e' : chunks ≡ first_chunks 2 (length pairs / 2) pairs) (n : length chunks ≡ length pairs / 2) where
+        pairs_long : length pairs ≡ 2 * (places * code_limit)
+        pairs_long =
+            ap length pairs_is ∙ simp (length-append, length-drop, pairs_lent, length_line_bytes, length_lines) (omega (arith, total_few book within.small within.few s))
 
-      opens_is : open_in ms s.answers fields ≡ open_lines book s.answers
-      opens_is =
-          ap₂ (λ (m : List ℕ) (n : ℕ). open_in m s.answers n) masks_is st.fields_are
-          ∙ masks_are book within s.answers (drop (length book.counts) no_masks)
+        -- so many as were listed are there
+        pub lines_fit : x.total ≡ length (take x.total chunks)
+        lines_fit = sym (length-take-le x.total chunks (omega (arith, n, pairs_long, total_few book within.small within.few s, total_is)))
 
-      part_is : sheet_part s.answers fields pairs t k ms ≡ sheet_text s book
-      part_is = rw (alts_is, opens_is, st.fields_are, total_is, struck_is)
+        -- and they are the lines
+        alts_is : pair_lines (take x.total chunks) ≡ lines book s
+        alts_is =
+            let many : x.total ≡ length (lines book s) = total_is ∙ sym (length_lines book s) in
+            let m : ℕ = length pairs / 2 in
+            let enough : length (lines book s) ≤ m = omega (arith, many, pairs_long, total_few book within.small within.few s, total_is) in
+            ap₂ (λ (i : ℕ) (cs : List (List ℕ)). pair_lines (take i cs)) many e'
+            ∙ ap (λ (x : List ℕ). pair_lines (take (length (lines book s)) (first_chunks 2 m x))) pairs_is
+            ∙ pairs_are (lines book s) (drop (2 * total book s) no_pairs) m enough
 
-      -- and are long enough for them
-      pub lists_fit : length s.answers ≡ places → ListsFit s.answers fields pairs t ms
-      lists_fit long =
-          let pairs_long : length pairs ≡ 2 * (places * code_limit) =
-          ap length pairs_is ∙ simp (length-append, length-drop, pairs_lent, length_line_bytes, length_lines) (omega (arith, total_few book within.small within.few s)) in
-          let masks_long : length ms ≡ places =
-          ap length masks_is ∙ simp (length-append, length-drop, masks_lent, length_masks) (omega (arith, within.few)) in
-          record {
-            in_answers = omega (arith, st.fields_are, within.few);
-            in_pairs = omega (arith, total_few book within.small within.few s, total_is);
-            in_masks = omega (arith, st.fields_are, within.few);
-          }
+        module _ (long : length s.answers ≡ places) where
+          -- the answers of the fields alone
+          pub fields_long : length (take fields s.answers) ≡ fields
+          fields_long = length-take-le fields s.answers (omega (arith, fields_fit, long))
 
-      -- the room for the text, and the text once it is written
-      module _ (o : List ℕ) (at : ℕ) where
-        pub part_room : Room o at (sheet_text s book) → Room o at (sheet_part s.answers fields pairs t k ms)
-        part_room = subst (Room o at) (sym part_is)
+          same : (f : ℕ) → f < fields → answered (take fields s.answers) f ≡ answered s.answers f
+          same f l = ap (λ (x : ℕ). not (eqb x 255)) (get_or-take fields s.answers f 255 l)
 
-        pub part_puts : {o' : List ℕ} {r : ℕ} → Puts o at (sheet_part s.answers fields pairs t k ms) o' r → Puts o at (sheet_text s book) o' r
-        part_puts {o'} {r} = subst (λ (x : List ℕ). Puts o at x o' r) part_is
+          -- the masks are the open lines
+          opens_is : open_in ms (take fields s.answers) (length (take fields s.answers)) ≡ open_lines book s.answers
+          opens_is =
+              ap (open_in ms (take fields s.answers)) fields_long
+              ∙ ap (λ (fs : List ℕ). join_over fs (λ f. mask_lines f (get_or ms f 0) code_limit)) (those_ext fields _ _ (λ f l. ap not (same f l)))
+              ∙ ap₂ (λ (m : List ℕ) (i : ℕ). open_in m s.answers i) masks_is st.fields_are
+              ∙ masks_are book within s.answers (drop (length book.counts) no_masks)
+
+          -- and the answers are counted
+          answered_is : how_many (length (take fields s.answers)) (answered (take fields s.answers)) ≡ how_many (length book.counts) (answered s.answers)
+          answered_is =
+              ap (λ (i : ℕ). how_many i (answered (take fields s.answers))) fields_long ∙ many_ext fields _ _ same
+              ∙ ap (λ (i : ℕ). how_many i (answered s.answers)) st.fields_are
+
+          pub part_is : sheet_part (take fields s.answers) (take x.total chunks) x.struck ms ≡ sheet_text s book
+          part_is = rw (alts_is, opens_is, answered_is, ← lines_fit, total_is, struck_is)

@@ -1,7 +1,5 @@
 pub mod E1Text
 pub mod Digits
-pub mod Writing
-pub mod Numbers
 pub mod Lines
 pub mod Turns
 pub mod Places
@@ -9,7 +7,6 @@ pub mod Pieces
 pub mod OpenLines
 pub mod Counts
 pub mod Sizes
-pub mod SheetPart
 pub mod Contents
 pub mod Texts
 pub mod HeldTexts

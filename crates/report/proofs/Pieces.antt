@@ -1,19 +1,17 @@
--- The lines that buffers of pairs and of masks hold, as a loop writes them: one more pair, one more code of a field, one more field. Assumes nothing.
+-- The lines that masks stand for, as a loop writes them: one more code of a field, one more field. Assumes nothing.
 use mathlib.Core.Path.{◌≡◌, refl, sym, ap, ◌∙◌, subst}
 use mathlib.Core.Bool.{Bool, true, false, not}
 use mathlib.Core.List.{List, [], ◌∷◌, ◌++◌, append_assoc, append-nil, map, map-append}
-use Prim.Native.Nat.{ℕ, zero, suc, ◌+◌, ◌*◌, ◌/◌, ◌%◌, ◌^◌, ◌<◌}
-use native.Mathlib.Nat.{add-zero, zero-add}
-use native.Mathlib.Omega.{arith}
+use Prim.Native.Nat.{ℕ, suc, ◌+◌, ◌/◌, ◌%◌, ◌^◌, ◌<◌}
 use borrow.Author.Tests.{eq-eqb, ne_eqb}
 use lib.ListN.{length, get_or}
 use Rattle.format.specs.Basics.{pick}
 use Rattle.format.specs.Format.{code_limit}
-use Rattle.consistency.specs.Counting.{those, join_over, tabulate}
+use Rattle.consistency.specs.Counting.{those, join_over}
 use Rattle.consistency.specs.Counts.{answered, Line, bit}
 use Rattle.consistency.proofs.Members.{join_append}
 use Rattle.report.specs.Text.{spaced, lines_text}
-use Rattle.report.specs.Writes.{Room, Puts, pair_lines, mask_lines, open_in}
+use Rattle.report.specs.Writes.{HasRoom, mask_lines, open_in}
 use Rattle.consistency.proofs.Elements.{answer_at}
 use Rattle.report.proofs.Turns.{piece_room, piece_on, piece_none}
 
@@ -29,34 +27,6 @@ lines_append w (l ∷ ls) ms =
 -- one line
 lines_one : (w : List ℕ) (l : Line) → lines_text w (l ∷ []) ≡ w ++ spaced (l.field ∷ l.code ∷ [])
 lines_one w l = append-nil (w ++ spaced (l.field ∷ l.code ∷ []))
-
--- the last of n + 1 values
-tabulate_last : {A : Type 0} (g : ℕ → A) (n i : ℕ) → tabulate g (suc n) i ≡ tabulate g n i ++ (g (i + n) ∷ [])
-unfolding tabulate
-tabulate_last g zero i = ap (λ (k : ℕ). g k ∷ []) (sym (add-zero i))
-tabulate_last g (suc n) i =
-    let e : suc i + n ≡ i + suc n = omega arith in
-    ap (λ t. g i ∷ t) (tabulate_last g n (suc i) ∙ ap (λ (k : ℕ). tabulate g n (suc i) ++ (g k ∷ [])) e)
-
--- ---- the lines of pairs
-
--- the text of pair i
-abbrev pair_piece : List ℕ → List ℕ → ℕ → List ℕ
-pair_piece w bytes i = w ++ spaced (get_or bytes (2 * i) 0 ∷ get_or bytes (2 * i + 1) 0 ∷ [])
-
--- one pair more
-pair_more : (w bytes : List ℕ) (i : ℕ) → lines_text w (pair_lines bytes (suc i)) ≡ lines_text w (pair_lines bytes i) ++ pair_piece w bytes i
-pair_more w bytes i =
-    ap (lines_text w) (tabulate_last _ i 0) ∙ lines_append w (pair_lines bytes i) _
-    ∙ ap (λ (t : List ℕ). lines_text w (pair_lines bytes i) ++ t) (lines_one w _ ∙ ap (pair_piece w bytes) (zero-add i))
-
--- a loop that has written the first i pairs: room for the next, and the text with it
-module _ (w bytes : List ℕ) {o : List ℕ} {at : ℕ} (i : ℕ) {o' : List ℕ} {r : ℕ} (p : Puts o at (lines_text w (pair_lines bytes i)) o' r) where
-  pub pair_room : (n : ℕ) → i < n → Room o at (lines_text w (pair_lines bytes n)) → Room o' r (pair_piece w bytes i)
-  pair_room = piece_room (λ k. lines_text w (pair_lines bytes k)) (pair_piece w bytes) (pair_more w bytes) i p
-
-  pub pair_on : {o'' : List ℕ} {r' : ℕ} → Puts o' r (pair_piece w bytes i) o'' r' → Puts o at (lines_text w (pair_lines bytes (i + 1))) o'' r'
-  pair_on q = piece_on (λ k. lines_text w (pair_lines bytes k)) (pair_piece w bytes) (pair_more w bytes) i p q
 
 -- ---- the lines of a mask
 
@@ -78,23 +48,25 @@ mask_more w f m c =
     last false = refl
 
 -- a loop that has written the codes below c: room for code c, and the text with it
-module _ (w : List ℕ) (f m : ℕ) {o : List ℕ} {at : ℕ} (c : ℕ) {o' : List ℕ} {r : ℕ} (p : Puts o at (lines_text w (mask_lines f m c)) o' r) where
+module _ (w : List ℕ) (f m : ℕ) (start : List ℕ) (c : ℕ) (page : List ℕ) (p : page ≡ start ++ lines_text w (mask_lines f m c)) where
   -- the bit is set
   module _ (e : m / 2 ^ c % 2 ≡ 1) where
     there : code_piece w f m c ≡ w ++ spaced (f ∷ c ∷ [])
     there = rw (eq-eqb (m / 2 ^ c % 2) 1 e)
 
-    pub code_room : c < code_limit → Room o at (lines_text w (mask_lines f m code_limit)) → Room o' r (w ++ spaced (f ∷ c ∷ []))
-    code_room l h = subst (Room o' r) there (piece_room (λ k. lines_text w (mask_lines f m k)) (code_piece w f m) (mask_more w f m) c p code_limit l h)
+    pub code_room : c < code_limit → HasRoom start (lines_text w (mask_lines f m code_limit)) → HasRoom page (w ++ spaced (f ∷ c ∷ []))
+    code_room l h =
+        subst (HasRoom page) there (piece_room (λ k. lines_text w (mask_lines f m k)) (code_piece w f m) (mask_more w f m) start c page p code_limit l h)
 
-    pub code_on : {o'' : List ℕ} {r' : ℕ} → Puts o' r (w ++ spaced (f ∷ c ∷ [])) o'' r' → Puts o at (lines_text w (mask_lines f m (c + 1))) o'' r'
-    code_on {o''} {r'} q =
-        piece_on (λ k. lines_text w (mask_lines f m k)) (code_piece w f m) (mask_more w f m) c p
-        (subst (λ (t : List ℕ). Puts o' r t o'' r') (sym there) q)
+    pub code_on : (page' : List ℕ) → page' ≡ page ++ (w ++ spaced (f ∷ c ∷ [])) → page' ≡ start ++ lines_text w (mask_lines f m (c + 1))
+    code_on page' q =
+        piece_on (λ k. lines_text w (mask_lines f m k)) (code_piece w f m) (mask_more w f m) start c page p page'
+        (q ∙ sym (ap (λ (t : List ℕ). page ++ t) there))
 
   -- it is not set
-  pub code_none : (m / 2 ^ c % 2 ≡ 1 → ⊥) → Puts o at (lines_text w (mask_lines f m (c + 1))) o' r
-  code_none n = piece_none (λ k. lines_text w (mask_lines f m k)) (code_piece w f m) (mask_more w f m) c p (rw (ne_eqb (m / 2 ^ c % 2) 1 n))
+  pub code_none : (m / 2 ^ c % 2 ≡ 1 → ⊥) → page ≡ start ++ lines_text w (mask_lines f m (c + 1))
+  code_none n =
+      piece_none (λ k. lines_text w (mask_lines f m k)) (code_piece w f m) (mask_more w f m) start c page p (rw (ne_eqb (m / 2 ^ c % 2) 1 n))
 
 -- ---- the open lines
 
@@ -119,25 +91,25 @@ open_more w masks a f =
     last false = refl
 
 -- a loop that has written the fields below f: room for field f, and the text with it
-module _ (w masks a : List ℕ) {o : List ℕ} {at : ℕ} (f : ℕ) {o' : List ℕ} {r : ℕ}
-    (p : Puts o at (lines_text w (open_in masks a f)) o' r) (l : f < length a) where
+module _ (w masks a start : List ℕ) (f : ℕ) (page : List ℕ) (p : page ≡ start ++ lines_text w (open_in masks a f)) (l : f < length a) where
   -- it has no answer
   module _ (e : get_or a f 0 ≡ 255) where
     unanswered : field_piece w masks a f ≡ lines_text w (mask_lines f (get_or masks f 0) code_limit)
     unanswered = rw (eq-eqb (get_or a f 255) 255 (sym (answer_at a f l) ∙ e))
 
-    pub field_room : (n : ℕ) → f < n → Room o at (lines_text w (open_in masks a n)) → Room o' r (lines_text w (mask_lines f (get_or masks f 0) code_limit))
-    field_room n k h =
-        subst (Room o' r) unanswered (piece_room (λ k. lines_text w (open_in masks a k)) (field_piece w masks a) (open_more w masks a) f p n k h)
+    pub field_room : HasRoom start (lines_text w (open_in masks a (length a))) → HasRoom page (lines_text w (mask_lines f (get_or masks f 0) code_limit))
+    field_room h =
+        subst (HasRoom page) unanswered
+        (piece_room (λ k. lines_text w (open_in masks a k)) (field_piece w masks a) (open_more w masks a) start f page p (length a) l h)
 
-    pub field_on : {o'' : List ℕ} {r' : ℕ} → Puts o' r (lines_text w (mask_lines f (get_or masks f 0) code_limit)) o'' r'
-        → Puts o at (lines_text w (open_in masks a (f + 1))) o'' r'
-    field_on {o''} {r'} q =
-        piece_on (λ k. lines_text w (open_in masks a k)) (field_piece w masks a) (open_more w masks a) f p
-        (subst (λ (t : List ℕ). Puts o' r t o'' r') (sym unanswered) q)
+    pub field_on : (page' : List ℕ) → page' ≡ page ++ lines_text w (mask_lines f (get_or masks f 0) code_limit)
+        → page' ≡ start ++ lines_text w (open_in masks a (f + 1))
+    field_on page' q =
+        piece_on (λ k. lines_text w (open_in masks a k)) (field_piece w masks a) (open_more w masks a) start f page p page'
+        (q ∙ sym (ap (λ (t : List ℕ). page ++ t) unanswered))
 
   -- it has an answer
-  pub field_none : (get_or a f 0 ≡ 255 → ⊥) → Puts o at (lines_text w (open_in masks a (f + 1))) o' r
+  pub field_none : (get_or a f 0 ≡ 255 → ⊥) → page ≡ start ++ lines_text w (open_in masks a (f + 1))
   field_none n =
-      piece_none (λ k. lines_text w (open_in masks a k)) (field_piece w masks a) (open_more w masks a) f p
+      piece_none (λ k. lines_text w (open_in masks a k)) (field_piece w masks a) (open_more w masks a) start f page p
       (rw (ne_eqb (get_or a f 255) 255 (λ q. n (answer_at a f l ∙ q))))

@@ -1,27 +1,35 @@
--- The answers at the places of a sheet, and how many fields have one. Assumes nothing.
-use mathlib.Core.Path.{◌≡◌, sym, ap, ◌∙◌}
-use mathlib.Core.Bool.{not}
+-- How many fields have an answer. Assumes nothing.
+use mathlib.Core.Path.{◌≡◌, refl, sym, ap, ◌∙◌}
+use mathlib.Core.Bool.{Bool, true, false, not}
 use mathlib.Core.List.{List}
-use Prim.Native.Nat.{ℕ, ◌+◌, ◌≤◌, ◌<◌}
+use Prim.Native.Nat.{ℕ, zero, suc, ◌+◌, ◌≤◌}
+use native.Mathlib.Nat.{add-zero}
 use native.Mathlib.Omega.{arith}
-use borrow.Author.Tests.{eq-eqb, ne_eqb}
-use lib.ListN.{length, get_or}
+use native.Mathlib.Numerals.{add-one}
+use lib.Dec.{eqb}
+use lib.ListN.{length, take}
+use Rattle.std.proofs.Common.{take_all}
+use Rattle.std.specs.List.{count_by}
+use Rattle.std.proofs.lemmas.List.Sums.{count_by_more_no, count_by_more_yes}
+use Rattle.format.specs.Basics.{pick}
 use Rattle.consistency.specs.Counting.{how_many}
-use Rattle.consistency.specs.Consistency.{answer}
 use Rattle.consistency.specs.Counts.{answered}
-use Rattle.consistency.proofs.Elements.{answer_at}
-use Rattle.sheet.proofs.Upward.{many_more, many_same}
 
-module _ (a : List ℕ) (f count : ℕ) (l : f < length a) (e : count ≡ how_many f (answered a)) where
-  -- field f has no answer
-  pub count_same : get_or a f 0 ≡ 255 → count ≡ how_many (f + 1) (answered a)
-  count_same h = e ∙ sym (many_same (answered a) f (ap not (eq-eqb (answer a f) 255 (sym (answer_at a f l) ∙ h))))
+-- of the first n
+answered_first : (a : List ℕ) (n : ℕ) → n ≤ length a → count_by (λ x. not (eqb x 255)) (take n a) ≡ how_many n (answered a)
+answered_first a zero l = refl
+answered_first a (suc n) l = at (answered a n) refl (answered_first a n (omega arith))
+  where
+    at : (x : Bool) → answered a n ≡ x → count_by (λ x. not (eqb x 255)) (take n a) ≡ how_many n (answered a)
+        → count_by (λ x. not (eqb x 255)) (take (suc n) a) ≡ how_many (suc n) (answered a)
+    at true e h =
+        ap (λ (k : ℕ). count_by (λ x. not (eqb x 255)) (take k a)) (sym (add-one n)) ∙ count_by_more_yes _ a n 255 (omega arith) e
+        ∙ ap (◌+ 1) h ∙ ap (λ (x : Bool). how_many n (answered a) + pick x 1 0) (sym e)
+    at false e h =
+        ap (λ (k : ℕ). count_by (λ x. not (eqb x 255)) (take k a)) (sym (add-one n)) ∙ count_by_more_no _ a n 255 (omega arith) e
+        ∙ h ∙ sym (add-zero (how_many n (answered a))) ∙ ap (λ (x : Bool). how_many n (answered a) + pick x 1 0) (sym e)
 
-  -- field f has one
-  pub count_more : (get_or a f 0 ≡ 255 → ⊥) → count + 1 ≡ how_many (f + 1) (answered a)
-  count_more h =
-      ap (◌+ 1) e ∙ sym (many_more (answered a) f (ap not (ne_eqb (answer a f) 255 (λ q. h (answer_at a f l ∙ q)))))
-
--- no field is left
-pub count_end : (a : List ℕ) (f n count : ℕ) → f ≤ n → n ≤ f → count ≡ how_many f (answered a) → count ≡ how_many n (answered a)
-count_end a f n count l h e = let same : f ≡ n = omega arith in e ∙ ap (λ (k : ℕ). how_many k (answered a)) same
+-- of all
+pub answered_all : (a : List ℕ) → count_by (λ x. not (eqb x 255)) a ≡ how_many (length a) (answered a)
+answered_all a =
+    ap (count_by (λ x. not (eqb x 255))) (sym (take_all (length a) a (omega arith))) ∙ answered_first a (length a) (omega arith)

@@ -1,13 +1,12 @@
 -- A loop that writes a text piece by piece: the room for the next piece, and the text with it. Assumes nothing.
-use mathlib.Core.Path.{◌≡◌, sym, ap, ◌∙◌, subst}
-use mathlib.Core.List.{List, [], ◌++◌, append-nil}
+use mathlib.Core.Path.{◌≡◌, sym, ap, ◌∙◌}
+use mathlib.Core.List.{List, [], ◌++◌, append-nil, append_assoc}
 use Prim.Native.Nat.{ℕ, suc, ◌+◌, ◌≤◌, ◌<◌}
 use native.Mathlib.Numerals.{add-one}
 use native.Mathlib.Omega.{arith}
 use lib.ListN.{length, length-append}
 use Rattle.sheet.proofs.Upward.{rises}
-use Rattle.report.specs.Writes.{Room, Puts}
-use Rattle.report.proofs.Writing.{puts_then, puts_length}
+use Rattle.report.specs.Writes.{HasRoom}
 
 -- the text of k pieces is T k, and piece k is U k
 module _ (T U : ℕ → List ℕ) (more : (k : ℕ) → T (suc k) ≡ T k ++ U k) where
@@ -15,23 +14,16 @@ module _ (T U : ℕ → List ℕ) (more : (k : ℕ) → T (suc k) ≡ T k ++ U k
   grows : (i n : ℕ) → i ≤ n → length (T i) ≤ length (T n)
   grows = rises (λ k. length (T k)) (λ k. omega (arith, ap length (more k), length-append (T k) (U k)))
 
-  module _ {o : List ℕ} {at : ℕ} (i : ℕ) {o' : List ℕ} {r : ℕ} (p : Puts o at (T i) o' r) where
+  module _ (start : List ℕ) (i : ℕ) (page : List ℕ) (p : page ≡ start ++ T i) where
     -- where all n pieces have room, the next has
-    pub piece_room : (n : ℕ) → i < n → Room o at (T n) → Room o' r (U i)
+    pub piece_room : (n : ℕ) → i < n → HasRoom start (T n) → HasRoom page (U i)
     piece_room n l h =
-        omega (arith, grows (suc i) n l, ap length (more i), length-append (T i) (U i), puts_length p, p.behind)
+        omega (arith, grows (suc i) n l, ap length (more i), length-append (T i) (U i), ap length p, length-append start (T i))
 
     -- the next piece
-    pub piece_on : {o'' : List ℕ} {r' : ℕ} → Puts o' r (U i) o'' r' → Puts o at (T (i + 1)) o'' r'
-    piece_on q = rw (add-one i, more i) (puts_then p q)
+    pub piece_on : (page' : List ℕ) → page' ≡ page ++ U i → page' ≡ start ++ T (i + 1)
+    piece_on page' q = rw (add-one i, more i) (q ∙ ap (λ (t : List ℕ). t ++ U i) p ∙ append_assoc start (T i) (U i))
 
     -- an empty piece
-    pub piece_none : U i ≡ [] → Puts o at (T (i + 1)) o' r
-    piece_none e =
-        let same : T (i + 1) ≡ T i = ap T (add-one i) ∙ more i ∙ ap (λ (u : List ℕ). T i ++ u) e ∙ append-nil (T i) in
-        subst (λ (t : List ℕ). Puts o at t o' r) (sym same) p
-
--- a loop's end: it has gone as far as it may
-pub all_pieces : (T : ℕ → List ℕ) {o : List ℕ} {at : ℕ} (i n : ℕ) {o' : List ℕ} {r : ℕ} → i ≤ n → n ≤ i → Puts o at (T i) o' r
-    → Puts o at (T n) o' r
-all_pieces T {o} {at} i n {o'} {r} l h p = let e : i ≡ n = omega arith in subst (λ (k : ℕ). Puts o at (T k) o' r) e p
+    pub piece_none : U i ≡ [] → page ≡ start ++ T (i + 1)
+    piece_none e = piece_on page (sym (ap (λ (t : List ℕ). page ++ t) e ∙ append-nil page))

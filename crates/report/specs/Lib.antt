@@ -1,4 +1,4 @@
 pub mod Text
-pub mod Writes
 pub mod Report
+pub mod Writes
 pub mod Held

@@ -1,6 +1,6 @@
 -- What the printed lines say: the open lines are exactly the unanswered fields' codes in the largest arc-consistent subdomain, each once, by
 -- field then code, and the total is the number of alt lines. How long a text can be, and what report leaves. Assumes nothing.
-use Rattle.std.specs.Prelude.{ℕ, ◌+◌, ◌*◌, ◌≤◌, ◌<◌, ◌≡◌, ◌↔◌, not, List, [], ◌∷◌, length, T}
+use Rattle.std.specs.Prelude.{ℕ, ◌+◌, ◌*◌, ◌≤◌, ◌<◌, ◌≡◌, ◌↔◌, not, List, [], ◌∷◌, length, T, Result, Ok, Err}
 use Rattle.format.specs.Basics.{In}
 use Rattle.format.specs.Format.{Book, code_limit}
 use Rattle.format.specs.Reading.{accepted}
@@ -9,8 +9,7 @@ use Rattle.consistency.specs.Consistency.{places, Subdomain, Sheet, IsLargest}
 use Rattle.consistency.specs.Counts.{answered, Line, lines, total}
 use Rattle.consistency.specs.Order.{InOrder}
 use Rattle.report.specs.Text.{open_lines, report_text}
-use Rattle.report.specs.declared.Printed.{Printed}
-use Rattle.report.specs.declared.Printed.TheVariants.{Written, TooShort}
+use Rattle.report.specs.declared.NoRoom.{NoRoom}
 
 -- "Each open: unanswered field and standing code, by field then code": whatever S is the largest, its codes and no others
 pub record ShowsOpen (b : Book) (s : Sheet) (ls : List Line) : Type 0 where
@@ -35,9 +34,9 @@ abbrev pub TextFits : Type 0
 TextFits = (bytes form : List ℕ) → length (report_text bytes form) ≤ text_limit
 
 -- the answer of report, with the buffer's contents
-abbrev pub shown : Printed → List ℕ → Reply
-shown (Written n) o = record { outcome = accepted (n ∷ []); buffer = o }
-shown TooShort o = declined o 18 0
+abbrev pub shown : Result ℕ NoRoom → List ℕ → Reply
+shown (Ok n) o = record { outcome = accepted (n ∷ []); buffer = o }
+shown (Err e) o = declined o 18 0
 
 -- where text_limit bytes are lent, 18 does not happen
 abbrev pub ReportSuffices : Type 0

@@ -1,21 +1,23 @@
 // The whole text that the desk prints. Document 01, "Examples to hold".
 #![tactic(auto)]
 
-ghost use Rattle.std.specs.Prelude.{◌≡◌, ◌≤◌, length};
+ghost use Rattle.std.specs.Prelude.{◌≡◌, ◌++◌, []};
 ghost use Rattle.format.specs.Format.{book_of};
 ghost use Rattle.format.specs.Writing.{into};
 ghost use Rattle.sheet.specs.Shown.{held_by};
 ghost use Rattle.report.specs.Text.{sheet_text, report_text};
-ghost use Rattle.report.specs.Report.{text_limit, shown};
-ghost use Rattle.report.specs.Writes.{Room, Puts};
-ghost use Rattle.report.specs.Held.{Stands};
+ghost use Rattle.report.specs.Report.{shown};
+ghost use Rattle.report.specs.Writes.{HasRoom};
+ghost use Rattle.report.specs.Held.{Stands, Told};
 
-use book::{CODES, PLACES, Reading};
-use sheet::{Answer, Listing, Sheet};
+use book::{CODES, Counts, PLACES, Refuses};
+use sheet::{Alternatives, Reason, Sheet};
 
 mod lists;
+mod page;
 mod parts;
-mod writers;
+
+use page::Page;
 
 // No text is longer: the lines of the book and of the sheet, and a line for each code.
 pub const TEXT_LIMIT: usize = 21 + 21 + 11 * (PLACES * CODES);
@@ -23,85 +25,79 @@ pub const TEXT_LIMIT: usize = 21 + 21 + 11 * (PLACES * CODES);
 // As many alternatives as a book has codes, two bytes each.
 pub const PAIR_BYTES: usize = 2 * (PLACES * CODES);
 
+// (a) The C interface names the field to relax by a number, and none by this one.
 const NONE_RELAXED: usize = 255;
 
-// The length of the text that was written; or 18, too few bytes lent.
+// A buffer with fewer bytes than the text has.
 #[derive(Clone, Copy)]
-pub enum Printed {
-    Written(usize),
-    TooShort,
+pub struct NoRoom;
+
+impl Refuses for NoRoom {
+    ghost number_of = { λ _. 18 };
+
+    ghost place_of = { λ _. 0 };
+
+    fn number(self) -> u64 {
+        18
+    }
+
+    fn place(self) -> usize {
+        0
+    }
+}
+
+// What is counted in the book, and the sheet: both pass, or the first refusal says why not.
+fn accept(book: &[u8], form: &[u8]) -> Result<(Counts, Sheet), Reason>
+    ensures { Told book.now form.now result }
+{
+    let counts = book::read(book)?;
+    let loaded = sheet::load(book, form);
+    loaded.answer?;
+    Ok((counts, loaded.sheet))
 }
 
 // The sheet's line, the lines of alternatives and the open lines, of a book and a sheet that pass.
-fn put_held(out: &mut [u8], at: usize, book: &[u8], held: Sheet, fields: usize) -> usize
-    requires { Stands book.now (held_by held) fields × Room out.old at (sheet_text (held_by held) (book_of book.now)) }
-    ensures { Puts out.old at (sheet_text (held_by held) (book_of book.now)) out.new result }
+#[tactic(auto, using(crate::proofs::HeldTexts::fields_fit))]
+fn put_held(page: &mut Page, book: &[u8], held: Sheet, fields: usize)
+    requires stands { Stands book.now (held_by held) fields }
+    requires room { HasRoom page.old (sheet_text (held_by held) (book_of book.now)) }
+    ensures { page.new ≡ page.old ++ sheet_text (held_by held) (book_of book.now) }
 {
     let mut pairs = [0; PAIR_BYTES];
     let mut masks = [0; PLACES];
     let listed = held.alternatives(book, &mut pairs);
     held.filtered(book, NONE_RELAXED, &mut masks);
-    let answers = held.answers;
-    let listing = listed.answer;
-    match listing {
-        // never: the book and the sheet pass, and there is room for all pairs
-        Listing::Unlisted(_, _) => at,
-        Listing::Listed { total, struck } => parts::put_sheet(
-            out,
-            at,
-            &answers,
-            fields,
-            &pairs,
-            total,
-            struck as usize,
-            &masks,
-        ),
-    }
+    // The book and the sheet pass, and there is room for all pairs: it is never a refusal.
+    let Alternatives { total, struck } = listed.answer.unwrap();
+    let answers = &held.answers[..fields];
+    let (pairs, _) = pairs.as_chunks();
+    page.put_sheet(answers, &pairs[..total], struck as usize, &masks);
 }
 
-// Writes the text at the start of a buffer that has room for any.
-fn put_text(out: &mut [u8], book: &[u8], form: &[u8]) -> usize
-    requires { text_limit ≤ length out.old }
-    ensures { Puts out.old 0 (report_text book.now form.now) out.new result }
+// Writes the whole text on an empty page.
+fn put_text(page: &mut Page, book: &[u8], form: &[u8])
+    requires { page.old ≡ [] }
+    ensures { page.new ≡ report_text book.now form.now }
 {
-    let reading = book::read(book);
-    match reading {
-        Reading::Refused(kind, byte) => {
-            let number = book::number(kind) as usize;
-            parts::put_refused(out, number, byte)
-        }
-        Reading::Accepted {
-            fields,
-            tables,
-            rows,
-            different,
-        } => {
-            let loaded = sheet::load(book, form);
-            let answer = loaded.answer;
-            let held = loaded.sheet;
-            match answer {
-                Answer::Refused(reason, place) => {
-                    let number = sheet::number(reason) as usize;
-                    parts::put_refused(out, number, place)
-                }
-                Answer::Done => {
-                    let at = parts::put_book(out, fields, tables, rows, different);
-                    put_held(out, at, book, held, fields)
-                }
-            }
+    match accept(book, form) {
+        Err(refused) => page.put_refused(refused),
+        Ok((counts, held)) => {
+            page.put_book(counts);
+            put_held(page, book, held, counts.fields);
         }
     }
 }
 
-// Prints what the desk says of a book and of a stored sheet. A text that does not fit is not written.
-pub fn report(book: &[u8], form: &[u8], out: &mut [u8]) -> Printed
+// Prints what the desk says of a book and of a stored sheet, and answers the text's length. A text that does not fit is not written.
+pub fn report(book: &[u8], form: &[u8], out: &mut [u8]) -> Result<usize, NoRoom>
     ensures { shown result out.new ≡ into (report_text book.now form.now) out.old }
 {
-    let mut text = [0; TEXT_LIMIT];
-    let length = put_text(&mut text, book, form);
-    if out.len() < length {
-        return Printed::TooShort;
+    let mut page = Page::new();
+    put_text(&mut page, book, form);
+    let text = page.text();
+    if out.len() < text.len() {
+        return Err(NoRoom);
     }
-    writers::put_word(out, 0, &text[..length]);
-    Printed::Written(length)
+    out[..text.len()].copy_from_slice(text);
+    Ok(text.len())
 }

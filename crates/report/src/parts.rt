@@ -1,70 +1,62 @@
 // The parts of the text: the line of a refusal, the book's line, and the sheet's line with the lists behind it.
-ghost use Rattle.std.specs.Prelude.{◌≡◌, [], ◌∷◌, ◌++◌, ◌≤◌, length};
+ghost use Rattle.std.specs.Prelude.{◌≡◌, ◌++◌, ◌≤◌, length};
 ghost use Rattle.consistency.specs.Counting.{how_many};
 ghost use Rattle.consistency.specs.Counts.{answered};
-ghost use Rattle.report.specs.Text.{spaced, book_word, refused_text};
-ghost use Rattle.report.specs.Writes.{Room, Puts, sheet_part, ListsFit};
+ghost use Rattle.report.specs.Text.{refused_text};
+ghost use Rattle.report.specs.Writes.{HasRoom, book_text, sheet_part};
 
-use super::lists::{NO_ANSWER, put_open, put_pairs, put_two};
-use super::writers::put_line;
-
-// "refused", number, place.
-pub(crate) fn put_refused(out: &mut [u8], number: usize, place: usize) -> usize
-    requires { Room out.old 0 (refused_text number place) }
-    ensures { Puts out.old 0 (refused_text number place) out.new result }
-{
-    put_two(out, 0, b"refused", number, place)
-}
-
-// "book", fields, tables, rows written, different rows.
-pub(crate) fn put_book(
-    out: &mut [u8],
-    fields: usize,
-    tables: usize,
-    rows: usize,
-    different: usize,
-) -> usize
-    requires { Room out.old 0 (book_word ++ spaced (fields ∷ tables ∷ rows ∷ different ∷ [])) }
-    ensures { Puts out.old 0 (book_word ++ spaced (fields ∷ tables ∷ rows ∷ different ∷ [])) out.new result }
-{
-    let numbers = [fields, tables, rows, different];
-    put_line(out, 0, b"book", &numbers)
-}
+use super::lists::NO_ANSWER;
+use super::page::Page;
+use book::{Counts, Refuses};
 
 // The number of fields that have an answer.
-fn count_answered(answers: &[u8], fields: usize) -> usize
-    requires { fields ≤ length answers.now }
-    ensures { result ≡ how_many fields (answered answers.now) }
+fn count_answered(answers: &[u8]) -> usize
+    ensures { result ≡ how_many (length answers.now) (answered answers.now) }
 {
-    let mut count = 0;
-    let mut field = 0;
-    while field < fields {
-        if answers[field] == NO_ANSWER {
-            field += 1;
-        } else {
-            count += 1;
-            field += 1;
-        }
-    }
-    count
+    answers
+        .iter()
+        .filter(|answer| **answer != NO_ANSWER)
+        .count()
 }
 
-// "sheet", answered fields, total, struck; then the lines of alternatives and the open lines.
-pub(crate) fn put_sheet(
-    out: &mut [u8],
-    at: usize,
-    answers: &[u8],
-    fields: usize,
-    pairs: &[u8],
-    total: usize,
-    struck: usize,
-    masks: &[u32],
-) -> usize
-    requires { ListsFit answers.now fields pairs.now total masks.now × Room out.old at (sheet_part answers.now fields pairs.now total struck masks.now) }
-    ensures { Puts out.old at (sheet_part answers.now fields pairs.now total struck masks.now) out.new result }
-{
-    let numbers = [count_answered(answers, fields), total, struck];
-    let alts = put_line(out, at, b"sheet", &numbers);
-    let opens = put_pairs(out, alts, b"alt", pairs, total);
-    put_open(out, opens, b"open", masks, answers, fields)
+impl Page {
+    // "refused", number, place.
+    pub(crate) fn put_refused<E: Refuses + Copy>(&mut self, refused: E)
+        requires { HasRoom self.old (refused_text (E.number_of refused) (E.place_of refused)) }
+        ensures { self.new ≡ self.old ++ refused_text (E.number_of refused) (E.place_of refused) }
+    {
+        let number = refused.number() as usize;
+        self.put_line(b"refused", &[number, refused.place()]);
+    }
+
+    // "book", fields, tables, rows written, different rows.
+    pub(crate) fn put_book(&mut self, counts: Counts)
+        requires { HasRoom self.old (book_text counts) }
+        ensures { self.new ≡ self.old ++ book_text counts }
+    {
+        let Counts {
+            fields,
+            tables,
+            rows,
+            different,
+        } = counts;
+        self.put_line(b"book", &[fields, tables, rows, different]);
+    }
+
+    // "sheet", answered fields, total, struck; then the lines of alternatives and the open lines.
+    pub(crate) fn put_sheet(
+        &mut self,
+        answers: &[u8],
+        pairs: &[[u8; 2]],
+        struck: usize,
+        masks: &[u32],
+    )
+        requires fit { length answers.now ≤ length masks.now }
+        requires room { HasRoom self.old (sheet_part answers.now pairs.now struck masks.now) }
+        ensures { self.new ≡ self.old ++ sheet_part answers.now pairs.now struck masks.now }
+    {
+        self.put_line(b"sheet", &[count_answered(answers), pairs.len(), struck]);
+        self.put_pairs(b"alt", pairs);
+        self.put_open(b"open", masks, answers);
+    }
 }

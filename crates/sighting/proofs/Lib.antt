@@ -1,4 +1,5 @@
 -- What the proofs of several functions use.
 mod Along
+mod Answers
 mod SheetBytes
 mod ResentBytes

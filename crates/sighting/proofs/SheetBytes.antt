@@ -1,14 +1,17 @@
--- A caller's bytes of a sheet: read and written one place at a time; what is written for a sheet holds it. Assumes nothing.
-use Prim.Native.Nat.{ℕ, ◌+◌, ◌-◌, ◌≤◌, ◌<◌}
-use mathlib.Core.Path.{◌≡◌, refl, sym, ap, ap₂, ◌∙◌}
+-- A caller's bytes of a sheet: an array made by calls is a table, and what is written for a sheet holds it. Assumes nothing.
+use mathlib.Core.Logic.{⊎_elim}
+use native.Mathlib.Nat.{eq-or-lt_of_le}
+use Prim.Native.Nat.{ℕ, zero, suc, ◌+◌, ◌-◌, ◌≤◌, ◌<◌}
+use mathlib.Core.Path.{◌≡◌, refl, sym, ap, ap₂, ◌∙◌, subst}
 use mathlib.Core.Bool.{Bool, true, false, not}
 use mathlib.Core.List.{List, ◌++◌}
 use native.Mathlib.Decide.{dec_lt}
 use native.Mathlib.Omega.{arith}
 use lib.Dec.{eqb}
-use lib.ListN.{length, get_or, set, replicate, length-set, length-replicate, length-append, get_or-append}
-use lib.Seq.{ext_get_or, get_or-append-add, get_or-set_same, get_or-set_other}
-use borrow.Author.Count.{below_more}
+use lib.ListN.{length, get_or, length-append, get_or-append}
+use lib.Seq.{ext_get_or, get_or-append-add}
+use Rattle.std.specs.Array.{IsFromFnResult, IsFromFnResultFrom}
+use Rattle.std.specs.Fn.{Mut, Called}
 use Rattle.consistency.specs.Counting.{tabulate}
 use Rattle.consistency.specs.Consistency.{places, Sheet, sheet_with, answer, backed}
 use Rattle.consistency.proofs.Elements.{answer_at}
@@ -17,7 +20,26 @@ use Rattle.sheet.proofs.Fronts.{at_table}
 use Rattle.calls.specs.Short.{flag_byte}
 use Rattle.sighting.specs.Exported.{sheet_in, sheet_bytes}
 
--- ---- an array whose halves are filled together
+-- an array of n values is their table
+pub table_is : {A : Type 0} (z : A) (g : ℕ → A) (n : ℕ) (xs : List A) → length xs ≡ n → ((k : ℕ) → k < n → get_or xs k z ≡ g k) → xs ≡ tabulate g n 0
+table_is z g n xs e h =
+    ext_get_or z xs (tabulate g n 0) (e ∙ sym (length_tabulate g n 0)) (λ k l. h k (omega (arith, e)) ∙ sym (at_table g n k z (omega (arith, e))))
+
+-- what an array is made of by calls that change nothing is a table
+module _ {F A : Type 0} (g : Mut F (ℕ × Unit {0}) A) (z : A) (h : ℕ → A) where
+  calls_table : (f : F) (ys : List A) (i n : ℕ) → ((k : ℕ) (y : A) (q : F) → Called g f (k, tt) y q → (y ≡ h k) × (q ≡ f))
+      → IsFromFnResultFrom g f ys i n → (k : ℕ) → i ≤ k → k < i + n → get_or ys k z ≡ h k
+  calls_table f ys i zero p r k l m = absurd (omega arith)
+  calls_table f ys i (suc n) p (q, y, is, call, rest) k l m =
+      ⊎_elim (λ (e : i ≡ k). ap (λ (x : ℕ). get_or ys x z) (sym e) ∙ is.1 z ∙ (p i y q call).0 ∙ ap h e)
+      (λ (v : i < k). calls_table f ys (i + 1) n p (subst (λ (s : F). IsFromFnResultFrom g s ys (i + 1) n) (p i y q call).1 rest) k (omega arith) (omega arith))
+      (eq-or-lt_of_le l)
+
+  pub from_fn_table : (n : ℕ) (ys : List A) (f : F) → ((k : ℕ) (y : A) (q : F) → Called g f (k, tt) y q → (y ≡ h k) × (q ≡ f))
+      → IsFromFnResult g f ys n → ys ≡ tabulate h n 0
+  from_fn_table n ys f p r = table_is z h n ys r.long (λ k l. calls_table f ys 0 n p r.each k (omega arith) (omega arith))
+
+-- ---- bytes in two halves
 
 -- of each half, below p the values of g and of h
 pub record Halves (g h : ℕ → ℕ) (n : ℕ) (N : List ℕ) (p : ℕ) : Type 0 where
@@ -26,29 +48,6 @@ pub record Halves (g h : ℕ → ℕ) (n : ℕ) (N : List ℕ) (p : ℕ) : Type 
   pub back : (k : ℕ) → k < p → get_or N (n + k) 0 ≡ h k
 
 module _ (g h : ℕ → ℕ) (n : ℕ) where
-  pub halves_none : Halves g h n (replicate (n + n) 0) 0
-  halves_none =
-      record { size = length-replicate {A = ℕ} (n + n) 0; front = λ k l. absurd (omega arith); back = λ k l. absurd (omega arith) }
-
-  pub halves_more : (N : List ℕ) (p x y : ℕ) → Halves g h n N p → p < n → x ≡ g p → y ≡ h p → Halves g h n (set (set N p x) (n + p) y) (p + 1)
-  halves_more N p x y s l e d =
-      let long : length (set N p x) ≡ n + n = length-set N p x ∙ s.size in
-      record {
-        size = length-set (set N p x) (n + p) y ∙ long;
-        front =
-            below_more (λ (k : ℕ). get_or (set (set N p x) (n + p) y) k 0 ≡ g k) p
-            (λ k m.
-            get_or-set_other (set N p x) (n + p) k y 0 (λ (q : k ≡ n + p). omega arith)
-            ∙ get_or-set_other N p k x 0 (λ (q : k ≡ p). omega arith) ∙ s.front k m)
-            (get_or-set_other (set N p x) (n + p) p y 0 (λ (q : p ≡ n + p). omega arith) ∙ get_or-set_same N p x 0 (omega (arith, s.size)) ∙ e);
-        back =
-            below_more (λ (k : ℕ). get_or (set (set N p x) (n + p) y) (n + k) 0 ≡ h k) p
-            (λ k m.
-            get_or-set_other (set N p x) (n + p) (n + k) y 0 (λ (q : n + k ≡ n + p). omega arith)
-            ∙ get_or-set_other N p (n + k) x 0 (λ (q : n + k ≡ p). omega arith) ∙ s.back k m)
-            (get_or-set_same (set N p x) (n + p) y 0 (omega (arith, long)) ∙ d);
-      }
-
   -- the element at k of both halves
   at_both : (k : ℕ) → k < n → get_or (tabulate g n 0 ++ tabulate h n 0) k 0 ≡ g k
   at_both k l = get_or-append (tabulate g n 0) (tabulate h n 0) 0 k (omega (arith, length_tabulate g n 0)) ∙ at_table g n k 0 l

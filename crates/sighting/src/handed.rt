@@ -1,151 +1,135 @@
 // What a call answers and the sheet that it hands back, put where the caller lent room for them.
-ghost use Rattle.std.specs.Prelude.{List, [], ◌∷◌, ℕ};
-ghost use Rattle.format.specs.Reading.{accepted, refused};
-ghost use Rattle.sheet.specs.Shown.{number_of, shown, shown_listing, shown_row, shown_reading, result_of, list_result_of};
-ghost use Rattle.short.specs.Shown.{shown_form};
+ghost use Rattle.std.specs.Prelude.{◌≡◌, ◌-◌, ◌<◌, List, [], ◌∷◌, ℕ};
+ghost use Rattle.sheet.specs.Shown.{shown_nothing, shown_listing, shown_row, shown_reading, result_of};
 ghost use Rattle.sighting.specs.Exported.{Tells, Changes, Makes};
+ghost use Rattle.sighting.specs.Told.{told, handed_by};
 
 use super::sheets::{SHEET_BYTES, put};
-use sheet::{Answer, Handed, HandedList, Listing, ReadingAnswer, Reason, RowAnswer};
-use short::Written;
+use book::{Counts, Refuses};
+use sheet::{Alternatives, Handed, Suggestion};
 
-// The answer of a call that counts nothing.
-pub(crate) fn tell(answer: Answer, outcome: &mut [u64; 1]) -> u64
-    ensures { Tells result outcome.new (shown answer) }
-{
-    match answer {
-        Answer::Done => {
-            *outcome = [0];
-            0
-        }
-        Answer::Refused(reason, place) => {
-            *outcome = [place as u64];
-            sheet::number(reason)
+// What an accepted call counts, in the cells that are lent for its outcome. The first is the place, and 0.
+pub(crate) trait Cells<const N: usize> {
+    ghost counts: { Self → List ℕ };
+
+    fn cells(self) -> [u64; N]
+        ensures { result ≡ 0 ∷ counts self };
+}
+
+impl Cells<1> for () {
+    ghost counts = { λ _. [] };
+
+    fn cells(self) -> [u64; 1] {
+        [0]
+    }
+}
+
+// How many elements were written.
+impl Cells<2> for usize {
+    ghost counts = { λ count. count ∷ [] };
+
+    fn cells(self) -> [u64; 2] {
+        [0, self as u64]
+    }
+}
+
+impl Cells<3> for Alternatives {
+    ghost counts = { shown_listing.of };
+
+    fn cells(self) -> [u64; 3] {
+        let Alternatives { total, struck } = self;
+        [0, total as u64, struck as u64]
+    }
+}
+
+// Whether there is a row, and its number.
+impl Cells<3> for Option<usize> {
+    ghost counts = { shown_row.of };
+
+    fn cells(self) -> [u64; 3] {
+        match self {
+            Some(row) => [0, 1, row as u64],
+            None => [0, 0, 0],
         }
     }
 }
 
-// The answer of a call with two counts that is refused.
-fn tell_refused(reason: Reason, place: usize, outcome: &mut [u64; 3]) -> u64
-    ensures { Tells result outcome.new (refused 2 (number_of reason) place) }
-{
-    *outcome = [place as u64, 0, 0];
-    sheet::number(reason)
-}
+// Whether there is a reading, its number of differing fields, and the bytes written.
+impl Cells<4> for Option<Suggestion> {
+    ghost counts = { shown_reading.of };
 
-// The answer of a call that counts alternatives.
-pub(crate) fn tell_list(listing: Listing, outcome: &mut [u64; 3]) -> u64
-    ensures { Tells result outcome.new (shown_listing listing) }
-{
-    match listing {
-        Listing::Listed { total, struck } => {
-            *outcome = [0, total as u64, struck as u64];
-            0
+    fn cells(self) -> [u64; 4] {
+        match self {
+            Some(Suggestion { differing, written }) => [0, 1, differing as u64, written as u64],
+            None => [0, 0, 0, 0],
         }
-        Listing::Unlisted(reason, place) => tell_refused(reason, place, outcome),
     }
 }
 
-// The answer of the call that shows a row: whether there is one, and its number.
-pub(crate) fn tell_row(answer: RowAnswer, outcome: &mut [u64; 3]) -> u64
-    ensures { Tells result outcome.new (shown_row answer) }
-{
-    match answer {
-        RowAnswer::Row(row) => {
-            *outcome = [0, 1, row as u64];
-            0
-        }
-        RowAnswer::NoRow => {
-            *outcome = [0, 0, 0];
-            0
-        }
-        RowAnswer::Unshown(reason, place) => tell_refused(reason, place, outcome),
+impl Cells<5> for Counts {
+    ghost counts = { λ counts. counts.fields ∷ counts.tables ∷ counts.rows ∷ counts.different ∷ [] };
+
+    fn cells(self) -> [u64; 5] {
+        let Counts {
+            fields,
+            tables,
+            rows,
+            different,
+        } = self;
+        [
+            0,
+            fields as u64,
+            tables as u64,
+            rows as u64,
+            different as u64,
+        ]
     }
 }
 
-// The answer of the call for the nearest reading: whether there is one, its number of differing fields, and the bytes written.
-pub(crate) fn tell_reading(answer: ReadingAnswer, outcome: &mut [u64; 4]) -> u64
-    ensures { Tells result outcome.new (shown_reading answer) }
+// Returns an answer's number, 0 where it is accepted, and writes its place and its counts.
+pub(crate) fn tell<T: Cells<N>, E: Refuses + Copy, const N: usize>(
+    answer: Result<T, E>,
+    outcome: &mut [u64; N],
+) -> u64
+    requires { 0 < N }
+    ensures { Tells result outcome.new (told T.counts E.number_of E.place_of (N - 1) answer) }
 {
     match answer {
-        ReadingAnswer::Reading { differing, written } => {
-            *outcome = [0, 1, differing as u64, written as u64];
+        Ok(counted) => {
+            *outcome = counted.cells();
             0
         }
-        ReadingAnswer::NoReading => {
-            *outcome = [0, 0, 0, 0];
-            0
-        }
-        ReadingAnswer::Unread(reason, place) => {
-            *outcome = [place as u64, 0, 0, 0];
-            sheet::number(reason)
+        Err(refused) => {
+            outcome.fill(0);
+            outcome[0] = refused.place() as u64;
+            refused.number()
         }
     }
 }
 
 // The answer of a call that changes a sheet, and the sheet where it is accepted. A refusal leaves every byte of it.
-pub(crate) fn change(handed: Handed, sheet: &mut [u8; SHEET_BYTES], outcome: &mut [u64; 1]) -> u64
-    ensures { Changes result outcome.new sheet.old sheet.new (result_of handed []) }
-{
-    let next = handed.sheet;
-    let answer = handed.answer;
-    let number = tell(answer, outcome);
-    if number != 0 {
-        return number;
-    }
-    put(next, sheet);
-    number
-}
-
-// The answer and the sheet of a call that counts nothing and makes the sheet; whatever the buffer holds.
-pub(crate) fn hand(handed: Handed, sheet: &mut [u8; SHEET_BYTES], outcome: &mut [u64; 1]) -> u64
-    ensures { (o : List ℕ) → Makes result outcome.new sheet.new o (result_of handed o) }
-{
-    let next = handed.sheet;
-    put(next, sheet);
-    let answer = handed.answer;
-    tell(answer, outcome)
-}
-
-// The answer and the sheet of a call that counts alternatives and makes the sheet; whatever the buffer holds.
-pub(crate) fn hand_list(
-    handed: HandedList,
+pub(crate) fn change(
+    handed: Handed<()>,
     sheet: &mut [u8; SHEET_BYTES],
-    outcome: &mut [u64; 3],
+    outcome: &mut [u64; 1],
 ) -> u64
-    ensures { (o : List ℕ) → Makes result outcome.new sheet.new o (list_result_of handed o) }
+    ensures { Changes result outcome.new sheet.old sheet.new (result_of shown_nothing handed []) }
 {
-    let next = handed.sheet;
-    put(next, sheet);
-    let listing = handed.answer;
-    tell_list(listing, outcome)
-}
-
-// The answer of a call that wrote count elements.
-pub(crate) fn tell_written(count: usize, outcome: &mut [u64; 2]) -> u64
-    ensures { Tells result outcome.new (accepted (count ∷ [])) }
-{
-    *outcome = [0, count as u64];
-    0
-}
-
-// The answer of such a call that is refused.
-pub(crate) fn tell_declined(number: u64, place: usize, outcome: &mut [u64; 2]) -> u64
-    ensures { Tells result outcome.new (refused 1 number place) }
-{
-    *outcome = [place as u64, 0];
-    number
-}
-
-// The answer of a call that writes a form of a sheet: how many bytes, or its refusal.
-pub(crate) fn tell_form(written: Written, outcome: &mut [u64; 2]) -> u64
-    ensures { Tells result outcome.new (shown_form written) }
-{
-    match written {
-        Written::Bytes(count) => tell_written(count, outcome),
-        Written::Unwritten(reason, place) => {
-            let number = sheet::number(reason);
-            tell_declined(number, place, outcome)
-        }
+    if handed.answer.is_ok() {
+        put(handed.sheet, sheet);
     }
+    tell(handed.answer, outcome)
+}
+
+// The answer and the sheet of a call that makes the sheet; whatever the buffer holds.
+pub(crate) fn hand<T: Cells<N>, const N: usize>(
+    handed: Handed<T>,
+    sheet: &mut [u8; SHEET_BYTES],
+    outcome: &mut [u64; N],
+) -> u64
+    requires { 0 < N }
+    ensures { (o : List ℕ) → Makes result outcome.new sheet.new o (handed_by T.counts (N - 1) handed o) }
+{
+    put(handed.sheet, sheet);
+    tell(handed.answer, outcome)
 }

@@ -17,14 +17,7 @@ ghost use Rattle.report.specs.Text.{report_text};
 ghost use Rattle.sheet.specs.Replayed.{Replayed};
 ghost use Rattle.sighting.specs.Exported.{sheet_in, sheet_bytes, bytes_after, Tells, Exports, Replies, result_told};
 
-use book::Reading;
-use handed::{
-    change, hand, hand_list, tell, tell_declined, tell_form, tell_list, tell_reading, tell_row,
-    tell_written,
-};
-use joining::Joined;
-use listing::{Shown, Written};
-use report::Printed;
+use handed::{change, hand, tell};
 use sheet::Sheet;
 use sheets::{SHEET_BYTES, held, put};
 
@@ -37,28 +30,7 @@ pub extern "C" fn sighting_read(book: &[u8], outcome: &mut [u64; 5]) -> u64
     ensures answer { Tells result outcome.new (reading book.now) }
     ensures layout { result ≡ 0 ↔ HasLayout book.now }
 {
-    let reading = book::read(book);
-    match reading {
-        Reading::Accepted {
-            fields,
-            tables,
-            rows,
-            different,
-        } => {
-            *outcome = [
-                0,
-                fields as u64,
-                tables as u64,
-                rows as u64,
-                different as u64,
-            ];
-            0
-        }
-        Reading::Refused(kind, place) => {
-            *outcome = [place as u64, 0, 0, 0, 0];
-            book::number(kind)
-        }
-    }
+    tell(book::read(book), outcome)
 }
 
 // Shows a book's listing. Cells: place, numbers written.
@@ -66,15 +38,7 @@ pub extern "C" fn sighting_read(book: &[u8], outcome: &mut [u64; 5]) -> u64
 pub extern "C" fn sighting_show(book: &[u8], out: &mut [u16], outcome: &mut [u64; 2]) -> u64
     ensures { Replies result outcome.new out.new (showing book.now out.old) }
 {
-    let shown = listing::show(book, out);
-    match shown {
-        Shown::Numbers(count) => tell_written(count, outcome),
-        Shown::Refused(kind, place) => {
-            let number = book::number(kind);
-            tell_declined(number, place, outcome)
-        }
-        Shown::TooShort => tell_declined(18, 0, outcome),
-    }
+    tell(listing::show(book, out), outcome)
 }
 
 // Writes the bytes of the book that a listing says. Cells: place, bytes written.
@@ -83,12 +47,7 @@ pub extern "C" fn sighting_write(listing: &[u16], out: &mut [u8], outcome: &mut 
     ensures answer { Replies result outcome.new out.new (writing listing.now out.old) }
     ensures listing { result ≢ 20 ↔ HasListing listing.now }
 {
-    let written = listing::write(listing, out);
-    match written {
-        Written::Bytes(count) => tell_written(count, outcome),
-        Written::Unwritable => tell_declined(20, 0, outcome),
-        Written::TooShort => tell_declined(18, 0, outcome),
-    }
+    tell(listing::write(listing, out), outcome)
 }
 
 // Makes the sheet a fresh one.
@@ -105,8 +64,7 @@ pub extern "C" fn sighting_clear(sheet: &mut [u8; SHEET_BYTES])
     ensures { sheet.new ≡ sheet_bytes (cleared (sheet_in sheet.old)).sheet }
 {
     let given = held(*sheet);
-    let handed = given.clear();
-    put(handed.sheet, sheet);
+    put(given.clear().sheet, sheet);
 }
 
 // Answers a field. Cells: place.
@@ -167,9 +125,7 @@ pub extern "C" fn sighting_filtered(
     ensures { Exports result outcome.new sheet.now out.new (filtered book.now (sheet_in sheet.now) relaxed out.old) }
 {
     let given = held(*sheet);
-    let handed = given.filtered(book, relaxed, out);
-    let answer = handed.answer;
-    tell(answer, outcome)
+    tell(given.filtered(book, relaxed, out).answer, outcome)
 }
 
 // The alternatives of the answered fields without a photograph. Cells: place, total, struck.
@@ -183,9 +139,7 @@ pub extern "C" fn sighting_alternatives(
     ensures { Exports result outcome.new sheet.now out.new (alternatives book.now (sheet_in sheet.now) out.old) }
 {
     let given = held(*sheet);
-    let handed = given.alternatives(book, out);
-    let listing = handed.answer;
-    tell_list(listing, outcome)
+    tell(given.alternatives(book, out).answer, outcome)
 }
 
 // The row of a table behind a code of a field. Cells: place, found, row.
@@ -201,9 +155,7 @@ pub extern "C" fn sighting_row(
     ensures { Exports result outcome.new sheet.now [] (row_behind book.now (sheet_in sheet.now) field code table) }
 {
     let given = held(*sheet);
-    let handed = given.row(book, field, code, table);
-    let answer = handed.answer;
-    tell_row(answer, outcome)
+    tell(given.row(book, field, code, table).answer, outcome)
 }
 
 // The nearest full reading, written one byte a field. Cells: place, found, differing, written.
@@ -217,9 +169,7 @@ pub extern "C" fn sighting_nearest(
     ensures { Exports result outcome.new sheet.now out.new (nearest_reading book.now (sheet_in sheet.now) out.old) }
 {
     let given = held(*sheet);
-    let handed = given.nearest(book, out);
-    let answer = handed.answer;
-    tell_reading(answer, outcome)
+    tell(given.nearest(book, out).answer, outcome)
 }
 
 // Reads the stored form of a sheet; a refusal leaves a fresh one. Cells: place.
@@ -247,9 +197,7 @@ pub extern "C" fn sighting_store(
     ensures { Exports result outcome.new sheet.now out.new (stored book.now (sheet_in sheet.now) out.old) }
 {
     let given = held(*sheet);
-    let handed = given.store(book, out);
-    let answer = handed.answer;
-    tell(answer, outcome)
+    tell(given.store(book, out).answer, outcome)
 }
 
 // Reads the short form of a sheet, photographs included; a refusal leaves a fresh one. Cells: place.
@@ -277,9 +225,7 @@ pub extern "C" fn sighting_store_short(
     ensures { Exports result outcome.new sheet.now out.new (stored_short book.now (sheet_in sheet.now) out.old) }
 {
     let given = held(*sheet);
-    let handed = short::store(given, book, out);
-    let answer = handed.answer;
-    tell_form(answer, outcome)
+    tell(short::store(given, book, out).answer, outcome)
 }
 
 // Moves the stored form of a sheet to the short form. Cells: place, bytes written.
@@ -292,8 +238,7 @@ pub extern "C" fn sighting_shorten(
 ) -> u64
     ensures { Replies result outcome.new out.new (shortened book.now form.now out.old) }
 {
-    let written = short::shorten(book, form, out);
-    tell_form(written, outcome)
+    tell(short::shorten(book, form, out), outcome)
 }
 
 // Moves the short form of a sheet without photographs to the stored form. Cells: place, bytes written.
@@ -306,8 +251,7 @@ pub extern "C" fn sighting_lengthen(
 ) -> u64
     ensures { Replies result outcome.new out.new (lengthened book.now form.now out.old) }
 {
-    let written = short::lengthen(book, form, out);
-    tell_form(written, outcome)
+    tell(short::lengthen(book, form, out), outcome)
 }
 
 // Joins two books. Cells: place, bytes written.
@@ -320,14 +264,7 @@ pub extern "C" fn sighting_join(
 ) -> u64
     ensures { Replies result outcome.new out.new (model.joining first.now second.now out.old) }
 {
-    let joined = joining::join(first, second, out);
-    match joined {
-        Joined::Bytes(count) => tell_written(count, outcome),
-        Joined::Refused(kind, place) => tell_declined(book::number(kind), place, outcome),
-        Joined::CountsDiffer => tell_declined(25, 0, outcome),
-        Joined::OverLimit => tell_declined(26, 0, outcome),
-        Joined::TooShort => tell_declined(18, 0, outcome),
-    }
+    tell(joining::join(first, second, out), outcome)
 }
 
 // A list of calls from a fresh sheet, then the alternatives of the sheet so reached, which is handed back. Cells: place, total, struck.
@@ -343,7 +280,7 @@ pub extern "C" fn sighting_replay(
     ensures bytes { sheet.new ≡ sheet_bytes (sheet_after book.now (calls_in calls.now)) }
     ensures condition3 { Replayed book.now (calls_in calls.now) out.old (result_told result outcome.new sheet.new out.new) }
 {
-    hand_list(sheet::replay(book, calls, out), sheet, outcome)
+    hand(sheet::replay(book, calls, out), sheet, outcome)
 }
 
 // The text that the desk prints for a book and a stored sheet; 18 where it does not fit. Cells: place, length.
@@ -356,9 +293,5 @@ pub extern "C" fn sighting_report(
 ) -> u64
     ensures { Replies result outcome.new out.new (into (report_text book.now form.now) out.old) }
 {
-    let printed = report::report(book, form, out);
-    match printed {
-        Printed::Written(length) => tell_written(length, outcome),
-        Printed::TooShort => tell_declined(18, 0, outcome),
-    }
+    tell(report::report(book, form, out), outcome)
 }

@@ -5,4 +5,4 @@ use Rattle.sighting.specs.Exported.{sheet_bytes}
 use Rattle.sighting.proofs.sighting_clear.Goals as goal
 
 pub returns : goal.returns
-returns c = c.put.ensures.written ∙ ap (λ (r : Result). sheet_bytes r.sheet) c.clear-handed.ensures
+returns c = c.put.ensures.written ∙ ap (λ (r : Result). sheet_bytes r.sheet) c.clear.ensures

@@ -1,11 +1,7 @@
--- `sighting_report` meets its contract: a text that is written, and one that does not fit. Assumes nothing.
-use mathlib.Core.Path.{refl, sym, ap₂, ◌∙◌}
-use Rattle.report.specs.Report.{shown}
-use Rattle.sighting.proofs.Along.{replies_along}
+-- `sighting_report` meets its contract: the answer is told. Assumes nothing.
+use mathlib.Core.Path.{◌∙◌}
+use Rattle.sighting.proofs.Answers.{told_reply, told_printed}
 use Rattle.sighting.proofs.sighting_report.Goals as goal
 
-pub returns-in-Written : goal.returns-in-Written
-returns-in-Written c = replies_along (record { tells = c.tell_written.ensures; buffer_is = refl }) (sym (ap₂ shown c.in-Written.is refl) ∙ c.report-printed.ensures)
-
-pub returns-in-TooShort : goal.returns-in-TooShort
-returns-in-TooShort c = replies_along (record { tells = c.tell_declined.ensures; buffer_is = refl }) (sym (ap₂ shown c.in-TooShort.is refl) ∙ c.report-printed.ensures)
+pub returns : goal.returns
+returns c = told_reply _ _ c.report.result c.tell.ensures (told_printed c.report.result c.report.new.out ∙ c.report.ensures)

@@ -1,0 +1,96 @@
+// Books of a chosen shape, laid out byte by byte.
+ghost use Rattle.std.specs.Prelude.{◌≡◌, ◌≤◌, take};
+
+use book::CLOSING_BYTE;
+
+// One more than a book may have.
+pub(crate) const BYTES: usize = 32769;
+
+// A book's version, its fields, each of so many codes, and its tables on field 0, with so many rows of code 0 each.
+#[derive(Clone, Copy)]
+pub(crate) struct Shape {
+    pub(crate) version: u8,
+    pub(crate) fields: u8,
+    pub(crate) codes: u8,
+    pub(crate) tables: u8,
+    pub(crate) rows: u16,
+}
+
+impl Shape {
+    // One field of one code, and no table.
+    pub(crate) const LEAST: Shape = Shape {
+        version: 1,
+        fields: 1,
+        codes: 1,
+        tables: 0,
+        rows: 0,
+    };
+}
+
+// The first n bytes, or all where there are fewer.
+pub(crate) fn first(bytes: &[u8], n: usize) -> &[u8]
+    ensures { result.now ≡ take n bytes.now }
+{
+    if n < bytes.len() { &bytes[..n] } else { bytes }
+}
+
+// The same, lent for writing.
+pub(crate) fn first_mut(bytes: &mut [u8], n: usize) -> &mut [u8] {
+    let n = n.min(bytes.len());
+    &mut bytes[..n]
+}
+
+// Bytes written one behind another, as far as there is room.
+#[derive(Drop)]
+pub(crate) struct Written {
+    buffer: [u8; BYTES],
+    len: usize,
+    ghost within: { len ≤ 32769 },
+}
+
+impl Written {
+    // A book of this shape.
+    pub(crate) fn new(shape: Shape) -> Written {
+        let mut book = Written {
+            buffer: [0; BYTES],
+            len: 0,
+        };
+        for _ in 0..shape.tables {
+            book.put(1);
+            book.put(0);
+            book.put_pair(shape.rows);
+            book.put_many(0, shape.rows);
+        }
+        let list = book.len as u16;
+        book.put_many(shape.codes, shape.fields as u16);
+        book.put_pair(list);
+        for byte in [shape.fields, shape.tables, shape.version, CLOSING_BYTE] {
+            book.put(byte);
+        }
+        book
+    }
+
+    pub(crate) fn bytes(&self) -> &[u8] {
+        &self.buffer[..self.len]
+    }
+
+    fn put(&mut self, byte: u8) {
+        if self.len < BYTES {
+            self.buffer[self.len] = byte;
+            self.len += 1;
+        }
+    }
+
+    fn put_many(&mut self, byte: u8, count: u16) {
+        for _ in 0..count {
+            self.put(byte);
+        }
+    }
+
+    // A two-byte number, the low byte first.
+    fn put_pair(&mut self, number: u16) {
+        for byte in number.to_le_bytes() {
+            self.put(byte);
+        }
+    }
+}
