@@ -25,7 +25,6 @@ pub mod Sizes
 pub mod Witness
 pub mod Storing
 pub mod Replies
-pub mod Copying
 pub mod ByteTests
 pub mod Parsing
 pub mod Unversioned

@@ -220,11 +220,6 @@ module _ (s : List ℕ) where
 
   module _ (number place : ℕ) (e : fail number place ≡ verdict s) where
     -- a refusal: all counts are 0
-    pub reading_fail : refused 4 number place ≡ reading s
-    unfolding reading
-    reading_fail = simp (← e)
-
-    -- and the same of checking
     pub checking_fail : refused 4 number place ≡ checking s
     unfolding checking
     checking_fail = simp (← e)
