@@ -135,7 +135,5 @@ module _ (s : List ℕ) where
       different_counted a p n f r (q r u (rw g at d))
 
   -- a list of the words of n rows is what they are
-  pub gathered : (a p n : ℕ) (t : List ℕ) → length t ≡ n → ((k : ℕ) → k < n → get_or t k 0 ≡ row_word (part s (p + k * a) a)) → t ≡ words_at s a p n
-  gathered a p n t long each =
-      ext_get_or 0 t (words_at s a p n) (long ∙ sym (words_long a p n))
-      (λ k l. each k (omega (arith, long)) ∙ sym (word_at a p n k (omega (arith, long))))
+  pub gathered : (a p n : ℕ) (t : List ℕ) → length t ≡ n → ((k : ℕ) → k < n → get_or t k 0 ≡ get_or (words_at s a p n) k 0) → t ≡ words_at s a p n
+  gathered a p n t long each = ext_get_or 0 t (words_at s a p n) (long ∙ sym (words_long a p n)) (λ k l. each k (omega (arith, long)))

@@ -1,6 +1,8 @@
 pub mod Turns
 pub mod Gathered
 pub mod Pairs
+pub mod Firsts
+pub mod FieldList
 pub mod Following
 pub mod TableRows
 pub mod Answers

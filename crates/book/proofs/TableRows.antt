@@ -1,13 +1,14 @@
 -- The rows of a table lie within the bytes, and are few; and what the tables' different rows come to. Assumes nothing.
 use mathlib.Core.Path.{◌≡◌, sym, ap, ◌∙◌}
-use mathlib.Core.List.{List, [], ◌∷◌}
+use mathlib.Core.List.{List, [], ◌∷◌, map}
 use Prim.Native.Nat.{ℕ, zero, suc, ◌+◌, ◌≤◌, ◌<◌}
 use native.Mathlib.Omega.{arith}
 use lib.ListN.{length, get_or, drop}
-use Rattle.format.specs.Format.{Table, row_limit, arity_at, rows_of, first_row, rows_at, table_at, different, different_total, row_total, book_of}
+use Rattle.format.specs.Format.{Table, row_limit, arity_at, rows_of, first_row, part, rows_at, table_at, different, different_total, row_total, book_of}
 use Rattle.format.specs.Promise.{place, field_at}
 use Rattle.format.proofs.Views.{no_table, tables_count, table_view, table_rows}
 use Rattle.book.specs.Bounds.{RowsFit}
+use Rattle.words.specs.RowWord.{row_word, words_at}
 use Rattle.book.specs.View.{TableIn}
 use Rattle.std.specs.Borrow.{Bor}
 use Rattle.book.specs.Listed.{rows_in}
@@ -47,6 +48,18 @@ module _ {s : List ℕ} {i at a p n : ℕ} (t : TableIn s i at a p n) where
 
   pub rows_fit : RowsFit s a p n
   rows_fit = rw (t.arity_is, t.first_is, t.rows_is, t.table.at_is) at_place
+
+  -- their words
+  pub view_words : map row_word (table_at s at).rows ≡ words_at s a p n
+  unfolding table_at
+  view_words =
+      sym
+      (ap (λ (x : ℕ). words_at s x p n) t.arity_is ∙ ap (λ (x : ℕ). words_at s (arity_at s at) x n) t.first_is
+      ∙ ap (words_at s (arity_at s at) (first_row s at)) t.rows_is)
+
+  pub view_key : row_word (part s (at + 1) a) ≡ row_word (table_at s at).fields
+  unfolding table_at
+  view_key = ap (λ (x : ℕ). row_word (part s (at + 1) x)) t.arity_is
 
   -- the different rows of the tables from this one on are its own and those of the tables behind it
   pub different_on : different_total (drop i (book_of s).tables) ≡ different (rows_at s a p n) + different_total (drop (i + 1) (book_of s).tables)

@@ -3,7 +3,6 @@ ghost use Rattle.std.specs.Prelude.{◌≡◌, ◌≤◌, length};
 ghost use Rattle.format.specs.Format.{row_limit, different_total, book_of};
 ghost use Rattle.words.specs.Sorting.{distinct};
 
-use super::row_words::{gather, row_word};
 use super::view::{Book, Table};
 
 // The words of up to so many rows are held against each other: sorting them takes longer. Measured.
@@ -22,14 +21,6 @@ impl Table<'_> {
     ghost use Rattle.words.specs.Sorting.{is_among};
     ghost use Rattle.book.specs.Ordering.{OrderOf, CountsDistinct};
     ghost use Rattle.book.specs.Listed.{rows_in, words_in};
-
-    // The word of row k.
-    fn word(&self, k: usize) -> u32
-        requires { k < self.now.rows }
-        ensures { result ≡ get_or (words_in self.now) k 0 }
-    {
-        row_word(self.bytes, self.first + k * self.arity, self.arity)
-    }
 
     // The first code of row k, which is the highest byte of its word.
     fn first_code(&self, k: usize) -> u8
@@ -98,7 +89,7 @@ impl Table<'_> {
     {
         let mut list = [0u32; N];
         let list = &mut list[..self.rows];
-        gather(self.bytes, self.first, self.arity, list);
+        self.gather(list);
         counted(list)
     }
 

@@ -14,14 +14,9 @@ mod scans;
 mod tests;
 mod view;
 
-// The crates above read numbers of a book with these, and hold rows against others by their words.
-pub use bytes::{byte, pair};
+pub use bytes::trailer;
 pub use refusals::{Refusal, Refused, Refuses};
-pub use row_words::{gather, row_word};
 pub use view::{Book, Table, Tables};
-
-// The last byte of every book.
-pub const CLOSING_BYTE: u8 = 0xE5;
 
 // The most fields of a book of version 1.
 pub const FIELDS_OF_VERSION_1: usize = 32;
@@ -31,6 +26,9 @@ pub const PLACES: usize = 60;
 
 // The most codes of a field.
 pub const CODES: usize = 32;
+
+// What a sheet holds in a place without an answer. (a) A byte, since a stored sheet and the C interface have it so.
+pub const NO_ANSWER: u8 = 255;
 
 // The most tables, the most fields of a table, and the most rows of all tables together.
 pub const TABLE_LIMIT: usize = 64;

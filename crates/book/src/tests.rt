@@ -1,13 +1,11 @@
 // The tests of a book, in document 01's order. A comment's numbers are its numbers of refusals.
-ghost use Rattle.std.specs.Prelude.{◌≡◌, ◌≤◌};
+ghost use Rattle.std.specs.Prelude.{◌≡◌, ◌≤◌, MatchOption};
 ghost use Rattle.format.specs.Format as format;
 ghost use Rattle.book.specs.Bounds.{BodyFits, HeadFits};
 
-use super::bytes::{byte, pair};
+use super::bytes::{CLOSING_BYTE, byte, pair};
 use super::refusals::{Refusal, Refused};
-use super::{
-    ARITY_LIMIT, CLOSING_BYTE, FIELDS_OF_VERSION_1, PLACES, ROW_LIMIT, TABLE_LIMIT, scans,
-};
+use super::{ARITY_LIMIT, FIELDS_OF_VERSION_1, PLACES, ROW_LIMIT, TABLE_LIMIT, scans};
 
 const LENGTH_LIMIT: usize = 32768;
 
@@ -35,14 +33,14 @@ pub(crate) struct Body<'a> {
     pub ghost fits: { BodyFits bytes.now list fields },
 }
 
-// The most fields of a book of this version, 0 for a number that is no version.
-fn field_limit(version: u8) -> usize
-    ensures { result ≡ format.field_limit version }
+// The most fields of a book of this version, where the number is a version's.
+fn field_limit(version: u8) -> Option<usize>
+    ensures { MatchOption result (format.field_limit version ≡ 0) (λ limit. (1 ≤ limit) × (limit ≡ format.field_limit version)) }
 {
     match version {
-        1 => FIELDS_OF_VERSION_1,
-        2 => PLACES,
-        _ => 0,
+        1 => Some(FIELDS_OF_VERSION_1),
+        2 => Some(PLACES),
+        _ => None,
     }
 }
 
@@ -65,10 +63,9 @@ impl Trailer {
         if book[n - 1] != CLOSING_BYTE {
             return Err(Refusal::Closing.at(n - 1));
         }
-        let limit = field_limit(book[n - 2]);
-        if limit < 1 {
+        let Some(limit) = field_limit(book[n - 2]) else {
             return Err(Refusal::Version.at(n - 2));
-        }
+        };
         let fields = byte(book, n - 4);
         if fields < 1 || limit < fields {
             return Err(Refusal::FieldCount.at(n - 4));
@@ -105,12 +102,13 @@ impl<'a> Body<'a> {
     }
 
     // 8, 12 and 11, of the rows of the table that comes next. A table has at most 65,535 rows, of 4 codes, so that their product
-    // fits before it is tested.
+    // fits before it is tested. (d) Places reckoned by hand, here and in `table`: a `Table` is a view of a book, and it is not known
+    // yet that there is one.
     fn rows(self, before: Passed) -> Result<Passed, Refused>
         requires { HeadFits self.bytes.now self.list before.at before.rows }
         ensures { step_of result ≡ rows_step self.entry.bytes.now self.entry.list before.at before.rows }
     {
-        let at = before.at;
+        let Passed { at, rows } = before;
         let arity = byte(self.bytes, at);
         let count = pair(self.bytes, at + 1 + arity);
         let start = at + 3 + arity;
@@ -118,7 +116,7 @@ impl<'a> Body<'a> {
         if self.list < end {
             return Err(Refusal::Short.at(at));
         }
-        let rows = before.rows + count;
+        let rows = rows + count;
         if ROW_LIMIT < rows {
             return Err(Refusal::RowCount.at(at));
         }
@@ -133,7 +131,7 @@ impl<'a> Body<'a> {
         requires { before.rows ≤ format.row_limit }
         ensures { step_of result ≡ table_step self.entry.bytes.now self.entry.list self.entry.fields before.at before.rows }
     {
-        let at = before.at;
+        let Passed { at, .. } = before;
         if self.list <= at {
             return Err(Refusal::Short.at(at));
         }

@@ -42,6 +42,7 @@ pub struct Tables<'a> {
 
 impl<'a> Book<'a> {
     ghost use Rattle.std.specs.Prelude.{IfOk};
+    ghost use Rattle.format.specs.Format.{book_of};
     ghost use Rattle.format.specs.Reading.{checking};
     ghost use Rattle.book.specs.Shown.{shown_open};
 
@@ -91,6 +92,13 @@ impl<'a> Book<'a> {
             first: at + 3 + arity,
             rows,
         }
+    }
+
+    // Its field list: the number of codes of each field.
+    pub fn field_list(self) -> &'a [u8]
+        ensures { result.now ≡ (book_of self.entry.bytes.now).counts }
+    {
+        &self.bytes[self.list..self.list + self.fields]
     }
 
     // All tables, from the first on.

@@ -1,18 +1,14 @@
-use Rattle.book.proofs.Turns.{found_here, found_later, found_none, count_none, count_many, count_good}
+-- `book::scans::bad_count` meets its contract. Assumes nothing.
+use Rattle.std.proofs.Common.{◌≡◌, true, false, rules, tests}
+use Rattle.std.proofs.lemmas.Iterator.{first_from_Range}
+use Rattle.format.specs.Reading as reading
+use Rattle.book.proofs.Firsts.{first_found}
 use Rattle.book.proofs.scans.bad_count.Goals as goal
-use Rattle.book.proofs.scans.bad_count.Goals.{then-book-i-lt1-via-then-book-i-lt1, then-book-i-lt1-via-else-book-i-lt1+then-book-i-gt-CODE_LIMIT}
-
-pub returns-then-book-i-lt1 : goal.returns-then-book-i-lt1
-returns-then-book-i-lt1 c =
-    found_here _ _ _ _ c.loop-i.invariant c.loop-i-test.true
-    (elim c.then-book-i-lt1.branch [
-      | then-book-i-lt1-via-then-book-i-lt1 w ↦ count_none c.args.book.now _ w.if-book-i-lt1.true
-      | then-book-i-lt1-via-else-book-i-lt1+then-book-i-gt-CODE_LIMIT w ↦ count_many c.args.book.now _ w.if-book-i-lt1.false w.if-book-i-gt-CODE_LIMIT.true
-    ])
-
-pub loop-i-preserved : goal.loop-i-preserved
-loop-i-preserved c =
-    found_later _ _ _ _ c.loop-i.invariant c.loop-i-test.true (count_good c.args.book.now _ c.if-book-i-lt1.false c.if-book-i-gt-CODE_LIMIT.false)
 
 pub returns : goal.returns
-returns c = found_none _ _ _ _ c.loop-i.invariant c.loop-i-test.false
+returns c =
+    let ok = reading.count_ok c.args.book.now in
+    first_found ok c.args.end _ _ c.requires.0
+    (first_from_Range _ _ _ _ (λ i. ok i ≡ false) (λ i. ok i ≡ true) c.find.ensures.ran
+    (λ x q k. search (rules, tests))
+    (λ x q k. (search rules, search (rules, tests))))

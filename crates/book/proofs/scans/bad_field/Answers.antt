@@ -1,25 +1,14 @@
-use Rattle.std.proofs.Common.{arith}
-use Rattle.book.proofs.Turns.{found_here, found_later, found_none, field_large, field_low, field_good, least_next}
+-- `book::scans::bad_field` meets its contract. Assumes nothing.
+use Rattle.std.proofs.Common.{◌≡◌, true, false, rules, tests}
+use Rattle.std.proofs.lemmas.Iterator.{first_from_Range}
+use Rattle.format.specs.Reading as reading
+use Rattle.book.proofs.Firsts.{first_found}
 use Rattle.book.proofs.scans.bad_field.Goals as goal
-use Rattle.book.proofs.scans.bad_field.Goals.{then-fields-field-via-then-fields-field, then-fields-field-via-else-fields-field+then-field-least}
-
-pub returns-then-fields-field : goal.returns-then-fields-field
-returns-then-fields-field c =
-    let l = c.loop-i.invariant in
-    let e = c.byte-field.ensures.0 in
-    found_here _ _ _ _ l.1 c.loop-i-test.true
-    (elim c.then-fields-field.branch [
-      | then-fields-field-via-then-fields-field w ↦ field_large c.args.book.now _ _ _ _ e w.if-fields-field.true
-      | then-fields-field-via-else-fields-field+then-field-least w ↦ field_low c.args.book.now _ _ _ _ e w.if-fields-field.false _ l.0 w.if-field-least.true
-    ])
-
-pub loop-i-preserved : goal.loop-i-preserved
-loop-i-preserved c =
-    let l = c.loop-i.invariant in
-    let e = c.byte-field.ensures.0 in (
-      least_next c.args.book.now _ _ _ (omega arith) e,
-      found_later _ _ _ _ l.1 c.loop-i-test.true (field_good c.args.book.now _ _ _ _ e c.if-fields-field.false _ l.0 c.if-field-least.false),
-    )
 
 pub returns : goal.returns
-returns c = found_none _ _ _ _ c.loop-i.invariant.1 c.loop-i-test.false
+returns c =
+    let ok = reading.field_ok c.args.book.now c.args.fields c.args.first in
+    first_found ok c.args.end _ _ c.requires.0
+    (first_from_Range _ _ _ _ (λ i. ok i ≡ false) (λ i. ok i ≡ true) c.find.ensures.ran
+    (λ x q k. search (rules, tests))
+    (λ x q k. (search rules, search (rules, tests))))

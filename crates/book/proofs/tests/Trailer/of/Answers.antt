@@ -16,8 +16,8 @@ pub returns-then-book-n-clause-verdict : goal.returns-then-book-n-clause-verdict
 returns-then-book-n-clause-verdict c = failed c.at-then-book-n.ensures.kind c.at-then-book-n.ensures.place
     (trailer_2_closing _ _ _ _ _ _ (omega arith) (omega arith) c.if-book-n.true)
 
-pub returns-then-limit-lt1-clause-verdict : goal.returns-then-limit-lt1-clause-verdict
-returns-then-limit-lt1-clause-verdict c = failed c.at-then-limit-lt1.ensures.kind c.at-then-limit-lt1.ensures.place
+pub returns-in_default-clause-verdict : goal.returns-in_default-clause-verdict
+returns-in_default-clause-verdict c = failed c.at-in_default.ensures.kind c.at-in_default.ensures.place
     (trailer_3_version _ _ _ _ _ _ (omega arith) (omega arith) (omega arith) (omega arith))
 
 pub returns-then-fields-lt1-clause-verdict : goal.returns-then-fields-lt1-clause-verdict
