@@ -1,56 +1,51 @@
 -- Gathering the marks of case 0 into numbers, code by code and field by field. Assumes nothing.
 use mathlib.Core.Path.{◌≡◌, sym, ap, ap₂, ◌∙◌}
-use mathlib.Core.Logic.{◌≢◌}
 use mathlib.Core.Bool.{Bool, true, false}
 use mathlib.Core.List.{List}
-use Prim.Native.Nat.{ℕ, suc, ◌+◌, ◌*◌, ◌/◌, ◌%◌, ◌^◌, ◌≤◌, ◌<◌}
+use Prim.Native.Nat.{ℕ, suc, ◌+◌, ◌*◌, ◌%◌, ◌^◌, ◌≤◌, ◌<◌}
 use native.Mathlib.Nat.{add-zero, one-mul, pow-suc}
 use native.Mathlib.Numerals.{add-one}
 use native.Mathlib.Omega.{arith}
-use borrow.Author.Tests.{eq-eqb, ne_eqb, lt-ltb, le-ltb}
+use borrow.Author.Tests.{lt-ltb, le-ltb}
 use lib.Pow.{pow_mono, shl_exact}
 use lib.Dec.{lit<, ltb}
 use Rattle.format.specs.Basics.{pick}
 use Rattle.format.specs.Format.{code_limit}
 use Rattle.consistency.specs.Counts.{mask}
-use Rattle.consistency.proofs.Masks.{mask_lt}
-use Rattle.filter.specs.Words.{word_at, domain_of}
+use Rattle.consistency.proofs.Masks.{mask_lt, mask_ext}
+use Rattle.filter.specs.Words.{domain_of, stands}
 use Rattle.filter.proofs.Words.{domain_bit}
 
 -- the marks of case 0 of field f, as a number
 abbrev pub mask_of : List ℕ → ℕ → ℕ
 mask_of M f = mask code_limit (domain_of M 0 f)
 
--- ---- a field, code by code
+-- ---- a mask, code by code
 
-module _ (M : List ℕ) (f c n : ℕ) (l : c < code_limit) (e : n ≡ mask c (domain_of M 0 f)) where
+module _ (p : ℕ → Bool) (c n : ℕ) (l : c < code_limit) (e : n ≡ mask c p) where
   -- the code's bit, and room for it
-  shifted : 1 * 2 ^ c % 2 ^ 32 ≡ 2 ^ c
-  shifted = shl_exact {a = 1} 1 c 32 (lit< tt) (omega arith) ∙ one-mul (2 ^ c)
+  bit_is : 1 * 2 ^ c % 2 ^ 32 ≡ 2 ^ c
+  bit_is = shl_exact {a = 1} 1 c 32 (lit< tt) (omega arith) ∙ one-mul (2 ^ c)
 
-  pub number_fits : n + 1 * 2 ^ c % 2 ^ 32 < 2 ^ 32
-  number_fits =
-      let p : 2 ^ suc c ≤ 2 ^ 32 = pow_mono (let h : suc c ≤ 32 = l in h) in
-      omega (arith, e, shifted, mask_lt c (domain_of M 0 f), pow-suc 2 c)
+  pub bit_fits : n + 1 * 2 ^ c % 2 ^ 32 < 2 ^ 32
+  bit_fits =
+      let most : 2 ^ suc c ≤ 2 ^ 32 = pow_mono (let h : suc c ≤ 32 = l in h) in
+      omega (arith, e, bit_is, mask_lt c p, pow-suc 2 c)
 
   -- one code more
-  next : (m : ℕ) (t : Bool) → domain_of M 0 f c ≡ t → m ≡ n + pick t (2 ^ c) 0 → m ≡ mask (c + 1) (domain_of M 0 f)
+  next : (m : ℕ) (t : Bool) → p c ≡ t → m ≡ n + pick t (2 ^ c) 0 → m ≡ mask (c + 1) p
   next m t d h =
-      h ∙ ap₂ (λ (x : ℕ) (y : Bool). x + pick y (2 ^ c) 0) e (sym d) ∙ ap (λ (k : ℕ). mask k (domain_of M 0 f)) (sym (add-one c))
+      h ∙ ap₂ (λ (x : ℕ) (y : Bool). x + pick y (2 ^ c) 0) e (sym d) ∙ ap (λ (k : ℕ). mask k p) (sym (add-one c))
 
-  -- the code's mark stands, or not
-  pub gather_set : word_at M f c % 2 ≡ 1 → (m : ℕ) → m ≡ n + 1 * 2 ^ c % 2 ^ 32 → m ≡ mask (c + 1) (domain_of M 0 f)
-  gather_set h m d =
-      next m true (domain_bit M 0 f c l ∙ eq-eqb (word_at M f c / 1 % 2) 1 (omega arith)) (d ∙ ap (n +◌) shifted)
+  pub mask_more : p c ≡ true → (m : ℕ) → m ≡ n + 1 * 2 ^ c % 2 ^ 32 → m ≡ mask (c + 1) p
+  mask_more h m d = next m true h (d ∙ ap (n +◌) bit_is)
 
-  pub gather_unset : word_at M f c % 2 ≢ 1 → (m : ℕ) → m ≡ n → m ≡ mask (c + 1) (domain_of M 0 f)
-  gather_unset h m d =
-      next m false (domain_bit M 0 f c l ∙ ne_eqb (word_at M f c / 1 % 2) 1 (λ (q : word_at M f c / 1 % 2 ≡ 1). h (omega arith)))
-      (d ∙ sym (add-zero n))
+  pub mask_same : p c ≡ false → (m : ℕ) → m ≡ n → m ≡ mask (c + 1) p
+  mask_same h m d = next m false h (d ∙ sym (add-zero n))
 
--- all codes
-pub mask_all : (M : List ℕ) (f c n : ℕ) → n ≡ mask c (domain_of M 0 f) → c ≡ code_limit → n ≡ mask code_limit (domain_of M 0 f)
-mask_all M f c n e d = e ∙ ap (λ (k : ℕ). mask k (domain_of M 0 f)) d
+-- of all codes it is the subdomain's
+pub mask_all : (M : List ℕ) (f n : ℕ) → n ≡ mask code_limit (stands M 0 f) → n ≡ mask_of M f
+mask_all M f n e = e ∙ mask_ext code_limit (stands M 0 f) (domain_of M 0 f) (λ c l. sym (domain_bit M 0 f c l))
 
 -- ---- the fields
 

@@ -5,8 +5,8 @@ use Prim.Native.Nat.{ℕ, zero, suc, ◌+◌, ◌-◌, ◌≤◌, ◌<◌}
 use native.Mathlib.Nat.{zero-add}
 use native.Mathlib.Decide.{dec_lt}
 use native.Mathlib.Omega.{arith}
-use lib.ListN.{length, get_or, set, take, drop, replicate, length-set, length-replicate, get_or-append}
-use Rattle.std.proofs.lemmas.List.{length-take, length-take-le, length-drop, get_or-take, get_or-drop, get_or-append-add, set-append_left, set-append_right}
+use lib.ListN.{length, get_or, set, take, drop, replicate, length-set, length-replicate}
+use Rattle.std.proofs.lemmas.List.{length-take, length-take-le, length-drop, get_or-take, get_or-drop, set-append_left, set-append_right}
 use borrow.Rule.Slice.PartMut.{mid_of, post_of, put_mid, put_same}
 use lib.Seq.{ext_get_or, get_or-set_same, get_or-set_other}
 use borrow.Author.Count.{below_more}
@@ -49,11 +49,6 @@ put_none a k M = ap (λ (n : ℕ). put_mid a k M (mid_of a n M)) (let e : a + k 
 module _ (a k : ℕ) (M N : List ℕ) (i : ℕ) (al : a ≤ length M) (l : i < length N) where
   front : length (take a M) ≡ a
   front = length-take-le a M al
-
-  pub put_at : get_or (put_mid a k M N) (a + i) 0 ≡ get_or N i 0
-  put_at =
-      ap (λ (n : ℕ). get_or (put_mid a k M N) (n + i) 0) (sym front) ∙ get_or-append-add (take a M) (N ++ post_of a k M) i 0
-      ∙ get_or-append N (post_of a k M) 0 i l
 
   pub put_next : (v : ℕ) → put_mid a k M (set N i v) ≡ set (put_mid a k M N) (a + i) v
   put_next v =

@@ -1,5 +1,5 @@
 -- The queue of tables: where a field lost a mark, the other tables with that field join it. Assumes nothing.
-use mathlib.Core.Path.{◌≡◌, refl, sym, ap, ◌∙◌, subst}
+use mathlib.Core.Path.{◌≡◌, sym, ap, ◌∙◌, subst}
 use mathlib.Core.Logic.{⊎_elim, ◌≢◌}
 use mathlib.Core.Bool.{Bool, false, not, ◌&&◌}
 use mathlib.Core.List.{List}
@@ -15,10 +15,6 @@ use Rattle.consistency.specs.Counts.{bit}
 use Rattle.filter.specs.Words.{word_at}
 use Rattle.filter.specs.Revise.{OnlyField, Watches, Queued}
 use Rattle.filter.proofs.Bits.{Within, bit_or_lem, one_bit, shl_one, bit_without, bits_below}
-
--- nothing struck
-pub queued_none : {s W M : List ℕ} {i d : ℕ} → Queued s W M M i d d
-queued_none = record { small = λ l. l; more = λ h b. b; tables = λ a. a; same = λ h n e f c w l. refl }
 
 module _ (s W : List ℕ) (i f : ℕ) (few : table_count s ≤ table_limit) (il : i < table_count s) (w : Watches s W) (has : T (bit (get_or W f 0) i)) where
   -- the other tables with field f

@@ -4,7 +4,6 @@ use mathlib.Core.Logic.{◌⊎◌, inl, inr, ◌≢◌}
 use mathlib.Core.Bool.{Bool, true, false, not, ◌&&◌}
 use mathlib.Core.List.{List}
 use Prim.Native.Nat.{ℕ, suc, ◌+◌, ◌≤◌, ◌<◌}
-use native.Mathlib.Nat.{not-suc-le-zero}
 use native.Mathlib.Decide.{ℕ_discrete, dec_lt}
 use native.Mathlib.Omega.{arith}
 use lib.Bits.{bit_xor}
@@ -43,11 +42,6 @@ module _ (M : List ℕ) (t : Table) (j : ℕ) where
     pub within : (c k : ℕ) → T (bit (get_or left c 0) k) → T (bit (get_or need c 0) k)
     pub none : (c k r : ℕ) → T (bit (get_or left c 0) k) → r < from → Supports c k r → ⊥
     pub rest : (c k : ℕ) → T (bit (get_or need c 0) k) → bit (get_or left c 0) k ≡ false → Support (domain_of M k) t j c
-
-  -- no row is passed yet
-  pub remaining_start : (need : List ℕ) → Remaining need need 0
-  remaining_start need =
-      record { within = λ c k b. b; none = λ c k r b l. absurd (not-suc-le-zero l); rest = λ c k b e. absurd (false_T e b) }
 
   supported : (c k r : ℕ) → r < length t.rows → Supports c k r → Support (domain_of M k) t j c
   supported c k r l u =

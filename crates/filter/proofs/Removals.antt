@@ -1,17 +1,11 @@
 -- Removals of marks follow one another, and what is left has what the marks had: it is the book's, and the count has room for it. Assumes nothing.
-use mathlib.Core.Path.{refl, sym, ◌∙◌, subst}
+use mathlib.Core.Path.{sym, ◌∙◌, subst}
 use mathlib.Core.List.{List}
 use Prim.Native.Nat.{ℕ, ◌≤◌}
-use native.Mathlib.Nat.{le_refl}
 use native.Mathlib.Omega.{arith}
 use Rattle.format.specs.Format.{Book, book_of}
 use Rattle.filter.specs.Revise.{Removal, Room}
 use Rattle.filter.specs.Asks.{Marks}
-
--- nothing struck
-pub removal_none : (b : Book) (M : List ℕ) (s : ℕ) → Removal b M M s s
-removal_none b M s =
-    record { same_length = refl; grows = le_refl s; holds = λ k a h. h; inside = λ k f c t. t; counts = refl; still = λ e. refl }
 
 -- one removal after another
 pub removal_then : {b : Book} {M N P : List ℕ} {s t u : ℕ} → Removal b M N s t → Removal b N P t u → Removal b M P s u

@@ -8,22 +8,16 @@ use lib.Bits.{bit_and}
 use lib.ListN.{length, get_or}
 use Rattle.std.specs.Prelude.{Option}
 use Rattle.format.specs.Format.{code_limit, byte, table_at}
-use Rattle.consistency.specs.Consistency.{places, code_of}
+use Rattle.consistency.specs.Consistency.{code_of}
 use Rattle.filter.specs.Words.{word_at}
 use Rattle.book.specs.View.{TableIn}
 use Rattle.filter.specs.declared.support.Found.{Found}
 use Rattle.filter.specs.Support.{found, narrowed, row_cases, first_from}
 use Rattle.filter.proofs.Firsts.{FirstIs, first_is, first_next, first_found}
-use Rattle.filter.proofs.Tables.{arity_of, rows_of_lem, field_is, code_is, field_small, code_small}
+use Rattle.filter.proofs.Tables.{arity_of, rows_of_lem, field_is, code_is, code_small}
 use Rattle.filter.proofs.Narrowing.{narrowed_none, narrowed_skip, narrowed_and, cases_are, cases_none}
 
 module _ {s : List ℕ} {index at arity first rows : ℕ} (q : TableIn s index at arity first rows) where
-  -- the word of a row's code stands among the marks
-  pub word_in : (r i : ℕ) → r < rows → i < arity → (f c : ℕ) → f ≡ byte s (at + 1 + i) → c ≡ byte s (first + r * arity + i)
-      → f * code_limit + c < places * code_limit
-  word_in r i rl il f c fe ce =
-      omega (arith, field_is q i il, code_is q r i rl il, field_small q i il, code_small q r i rl il)
-
   -- what the answer of a search says
   pub search_is : (from : ℕ) (g : ℕ → ℕ) (x : Option Found) → from ≤ rows → x ≡ first_from (rows - from) from g
       → FirstIs (length (table_at s at).rows) from g x

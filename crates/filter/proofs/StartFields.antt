@@ -62,9 +62,6 @@ module _ {s : List ℕ} {list fields tables : ℕ} (q : Numbered s list fields t
     fl = omega (arith, q.fields_is)
 
     -- the field's places in the book and on the sheet
-    pub field_byte_lem : list + f < length s
-    field_byte_lem = omega (arith, fl, q.list_is, q.promise.whole)
-
     pub field_place : f < places
     field_place = omega (arith, fl, fields_few s q.promise)
 

@@ -13,14 +13,14 @@ use lib.Seq.{get_or-set_same, get_or-set_other}
 use lib.Bits.{bit_or}
 use lib.Pow.{ones_split, high, ones_lt}
 use lib.Dec.{T, eqb, eqb→eq, eqb_refl}
-use Rattle.format.specs.Format.{table_limit, table_count, arity_at}
+use Rattle.format.specs.Format.{table_limit, arity_at}
 use Rattle.format.specs.Promise.{place, field_at}
 use Rattle.format.proofs.Booleans.{or_left, or_right, or_out, false_T}
 use Rattle.consistency.specs.Consistency.{places}
 use Rattle.consistency.specs.Counts.{bit}
 use Rattle.consistency.proofs.Masks.{zero_bit}
 use Rattle.book.specs.View.{TableIn}
-use Rattle.filter.specs.Queue.{Watched, Surveyed}
+use Rattle.filter.specs.Queue.{Watched}
 use Rattle.filter.proofs.Bits.{bit_or_lem, one_bit, shl_one}
 use Rattle.filter.proofs.Tables as tables
 
@@ -137,11 +137,3 @@ walked_more {s} {z} {i} {at} {n = n} q e ie ne {W} {Z} {P} x y =
     subst (λ (v : ℕ). SurveyedTo s Z (set P i at) v) (let d : i + 1 ≡ n = omega arith in d)
     (subst (λ (v : List ℕ). SurveyedTo v Z (set P i at) (i + 1)) e
     (surveyed_more q (subst (λ (v : List ℕ). SurveyedTo v W P i) (sym e) (subst (λ (v : ℕ). SurveyedTo s W P v) (sym ie) x)) y))
-
--- all tables
-pub surveyed_all : {s W P : List ℕ} {i : ℕ} → SurveyedTo s W P i → i ≡ table_count s → Surveyed s W P
-surveyed_all {s} x n =
-    record {
-      watches = record { there = λ h j l. x.there h j (subst (λ (m : ℕ). h < m) (sym n) l); tables = λ f h t. subst (λ (m : ℕ). h < m) n (x.tables f h t) };
-      placed = λ h l. x.placed h (subst (λ (m : ℕ). h < m) (sym n) l);
-    }

@@ -40,10 +40,6 @@ module _ {s : List ℕ} {index at arity first rows : ℕ} (q : TableIn s index a
   pub row_in : (r : ℕ) → r < rows → first + r * arity + arity + 6 ≤ length s
   row_in r l = omega (arith, mul-le-mul_right arity l, end_in)
 
-  -- so do the field numbers
-  pub field_in : (i : ℕ) → i < arity → at + 1 + i + 6 ≤ length s
-  field_in i l = omega (arith, q.first_is, q.arity_is, end_in)
-
   -- the bytes there are the table's fields and codes
   pub field_is : (i : ℕ) → i < arity → byte s (at + 1 + i) ≡ field_of (table_at s at) i
   field_is i l = sym (table_field s at i (omega (arith, q.arity_is)))

@@ -1,5 +1,5 @@
 -- The marks of all cases, one 64-bit word for each field and code: bit k of it is the mark of case k. Assumes nothing.
-use Rattle.std.specs.Prelude.{ℕ, ◌+◌, ◌*◌, List, ◌&&◌, length, get_or, replicate, ltb}
+use Rattle.std.specs.Prelude.{ℕ, ◌+◌, ◌*◌, ◌≤◌, ◌<◌, List, Bool, ◌&&◌, length, get_or, replicate, ltb}
 use Rattle.format.specs.Format.{Book, code_limit}
 use Rattle.consistency.specs.Counting.{how_many, sum_below}
 use Rattle.consistency.specs.Consistency.{Subdomain, places, codes}
@@ -16,6 +16,16 @@ no_marks = replicate (places * code_limit) 0
 -- the subdomain of case k; a code that no field can have would be another field's word
 abbrev pub domain_of : List ℕ → ℕ → Subdomain
 domain_of M k f c = ltb c code_limit && bit (word_at M f c) k
+
+-- code c of field f stands in case k
+abbrev pub stands : List ℕ → ℕ → ℕ → ℕ → Bool
+stands M k f c = bit (word_at M f c) k
+
+-- a case, a field, and a bound on its codes for which marks have words
+pub record InMarks (k f n : ℕ) : Type 0 where
+  pub case_in : k < 64
+  pub field_in : f < places
+  pub codes_in : n ≤ code_limit
 
 -- the marks that stand, of all cases
 unfoldable pub standing : Book → List ℕ → ℕ

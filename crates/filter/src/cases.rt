@@ -2,7 +2,7 @@
 ghost use Rattle.std.specs.Prelude.{ℕ, T, get_or};
 ghost use Rattle.consistency.specs.Counts.{bit};
 
-use book::PLACES;
+use book::{NO_ANSWER, PLACES};
 
 // All cases, and for each field those that relax it.
 #[derive(Clone, Copy)]
@@ -44,13 +44,10 @@ impl Answered {
     pub(crate) fn start_word(self, c: usize) -> u64
         ensures { result ≡ start_word self.answer c self.all self.own }
     {
-        // A sheet's byte for no answer, as C lends it.
-        if self.answer == 255 {
-            return self.all;
+        if self.answer == NO_ANSWER || c == usize::from(self.answer) {
+            self.all
+        } else {
+            self.own
         }
-        if c == self.answer as usize {
-            return self.all;
-        }
-        self.own
     }
 }

@@ -29,6 +29,7 @@ mod summary;
 mod support;
 mod survey;
 
+pub use gather::standing_codes;
 pub use lookup::supporting_row;
 
 // A word of marks for each place and code.
@@ -42,7 +43,7 @@ const EVERY_CASE: u64 = u64::MAX;
 pub struct NoColumn;
 
 // The one pass over an accepted book, "nothing lifted, then each answered field lifted by itself", those with a photograph left out: the
-// marks of all cases, and the number struck.
+// marks of all cases, and the number struck. Answers and photographs come as two arrays, as a sheet has them.
 pub fn one_pass<'a>(
     book: Book<'a>,
     answers: &[u8; PLACES],

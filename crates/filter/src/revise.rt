@@ -28,6 +28,7 @@ fn unsupported(column: Column, marks: &[u64; WORDS], need: Need) -> [u64; CODES]
     let Column { table, j } = column;
     let mut left = need;
     let mut from = 0;
+    // While there is work, since there is nothing to walk over: each turn goes on behind the row that it has found.
     while left.waiting != 0 {
         let Some(found) = support(column, marks, &left.cases, from) else {
             return left.cases;

@@ -9,9 +9,9 @@ ghost use Rattle.filter.specs.Start.{CasesAre, FieldStarted, Started};
 use super::WORDS;
 use super::cases::{Answered, Cases};
 use super::fields::Field;
-use book::{Book, CODES, PLACES};
+use book::{Book, CODES, NO_ANSWER, PLACES};
 
-// Nothing relaxed, then each answered field without a photograph by itself, in their order.
+// Nothing relaxed, then each answered field without a photograph by itself, in their order. Answers and photographs come as they were lent.
 pub(crate) fn own_cases(book: Book, answers: &[u8; PLACES], photographed: &[bool; PLACES]) -> Cases
     ensures { CasesAre answers.now result.own result.all (cases_of (book_of book.entry.bytes.now) (sheet_with answers.now photographed.now)) }
 {
@@ -19,8 +19,7 @@ pub(crate) fn own_cases(book: Book, answers: &[u8; PLACES], photographed: &[bool
     let mut all: u64 = 1;
     // By number, since a walk is no plainer: a field's answer, photograph and case stand in three arrays.
     for f in 0..book.fields {
-        // 255 is a sheet's byte for no answer, as C lends it.
-        if answers[f] != 255 && !photographed[f] {
+        if answers[f] != NO_ANSWER && !photographed[f] {
             let relaxing = all + 1;
             own[f] = relaxing;
             all += relaxing;

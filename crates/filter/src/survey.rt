@@ -17,6 +17,7 @@ fn watch_table(table: Table, watch: &mut [u64; PLACES])
     ensures { Watched table.entry.bytes.now watch.old watch.new table.entry.at table.entry.index table.entry.arity }
 {
     let at = table.at + 1;
+    // A walk over the fields' numbers, which are their places among the words.
     for field in &table.bytes[at..at + table.arity] {
         watch[*field as usize] |= 1 << table.index;
     }

@@ -8,9 +8,6 @@ use Rattle.filter.proofs.one_pass.Goals as goal
 pub run-requires-clause-clear : goal.run-requires-clause-clear
 run-requires-clause-clear c = c.fill.ensures.after (λ y e. e) ∙ ap (λ (n : ℕ). replicate n 0) c.told-marks
 
-pub returns-clause-marks : goal.returns-clause-marks
-returns-clause-marks c = c.run.ensures.marks _ c.own_cases-cases.ensures
-
 pub returns-clause-count : goal.returns-clause-count
 returns-clause-count c =
     c.run.ensures.counts _ c.own_cases-cases.ensures

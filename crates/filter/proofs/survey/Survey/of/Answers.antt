@@ -2,7 +2,7 @@ use Rattle.std.proofs.Common.{arith, List, ℕ, Bor, refl, ap, ◌∙◌}
 use Rattle.consistency.specs.Consistency.{places}
 use Rattle.book.specs.declared.view.Book.{Book}
 use Rattle.filter.proofs.Lists.{zeros}
-use Rattle.filter.proofs.Surveys.{surveyed_none, walked_more, surveyed_all}
+use Rattle.filter.proofs.Surveys.{surveyed_none, walked_more}
 use Rattle.filter.proofs.survey.Survey.of.Goals as goal
 
 pub loop-table-init : goal.loop-table-init
@@ -23,6 +23,3 @@ loop-table-preserved c =
       below = omega (arith, ap (λ (b : Book). b.tables) same);
       to = walked_more c.in-Some.table.stands (ap (λ (b : Bor (List ℕ)). b.now) (bytes ∙ ap (λ (b : Book). b.bytes) same)) index next c.loop-table.invariant.to c.watch_table.ensures;
     }
-
-pub invariant_of-result : goal.invariant_of-result
-invariant_of-result c = record { surveyed = surveyed_all c.loop-table.invariant.to (omega (arith, c.in-None.ensures.steps.0, ap (λ (b : Book). b.tables) c.loop-table.invariant.book, c.loop-table.invariant.below, c.args.book.viewed.numbers.tables_is)) }
