@@ -3,6 +3,7 @@ use mathlib.Core.Path.{◌≡◌, refl, sym, ap, ap₂, subst, ◌∙◌}
 use mathlib.Core.Bool.{◌||◌}
 use mathlib.Core.List.{List, [], ◌∷◌, ◌++◌, map}
 use Prim.Native.Nat.{ℕ, zero, suc, ◌+◌, ◌*◌, ◌≤◌, ◌<◌}
+use Rattle.std.specs.Prelude.{◌^◌}
 use native.Mathlib.Omega.{arith}
 use lib.ListN.{length, take}
 use lib.Seq.{length-take-le, get_or-take}
@@ -25,13 +26,14 @@ pub word_more : (x : ℕ) (r : List ℕ) (c : ℕ) → word_from x (r ++ (c ∷ 
 word_more x [] c = refl
 word_more x (d ∷ r) c = word_more (x * 256 + d) r c
 
--- up to three codes leave room for one more
-pub word_small : (r : List ℕ) → All (λ c. c < 256) r → length r ≤ 3 → front_word r < 16777216
-word_small [] a l = omega arith
-word_small (b ∷ []) a l = omega (arith, a.0)
-word_small (b ∷ c ∷ []) a l = omega (arith, a.0, a.1.0)
-word_small (b ∷ c ∷ d ∷ []) a l = omega (arith, a.0, a.1.0, a.1.1.0)
-word_small (b ∷ c ∷ d ∷ e ∷ r) a l = absurd (omega arith)
+-- up to four codes take as many bytes
+pub front_fits : (r : List ℕ) → All (λ c. c < 256) r → length r ≤ 4 → front_word r < 2 ^ (8 * length r)
+front_fits [] a l = omega arith
+front_fits (b ∷ []) a l = omega (arith, a.0)
+front_fits (b ∷ c ∷ []) a l = omega (arith, a.0, a.1.0)
+front_fits (b ∷ c ∷ d ∷ []) a l = omega (arith, a.0, a.1.0, a.1.1.0)
+front_fits (b ∷ c ∷ d ∷ e ∷ []) a l = omega (arith, a.0, a.1.0, a.1.1.0, a.1.1.1.0)
+front_fits (b ∷ c ∷ d ∷ e ∷ f ∷ r) a l = absurd (omega arith)
 
 from_injective : (r q : List ℕ) (x y : ℕ) → length r ≡ length q → All (λ c. c < 256) r → All (λ c. c < 256) q → word_from x r ≡ word_from y q → (x ≡ y) × (r ≡ q)
 from_injective [] [] x y l a b e = (e, refl)

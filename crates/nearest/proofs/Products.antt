@@ -12,7 +12,7 @@ use Rattle.std.proofs.lemmas.List.{drop_all}
 use lib.Dec.{ltb}
 use borrow.Author.Tests.{lt-ltb, le-ltb}
 use Rattle.format.specs.Basics.{All}
-use Rattle.format.specs.Format.{code_limit, part, book_of}
+use Rattle.format.specs.Format.{code_limit, book_of}
 use Rattle.format.proofs.Decode.{promise_well}
 use Rattle.book.specs.View.{Numbered}
 use Rattle.consistency.specs.Nearest.{product}
@@ -25,15 +25,6 @@ product_some (c ∷ cs) zero h = omega (arith, mul-le-mul h.0.0 (product_some cs
 product_some (c ∷ cs) (suc i) h = product_some cs i h.1
 
 module _ (s : List ℕ) (list fields tables : ℕ) (v : Numbered s list fields tables) where
-  -- the field list stands within the bytes
-  pub list_within : list + fields + 6 ≡ length s
-  list_within = omega (arith, v.list_is, v.fields_is, v.promise.whole)
-
-  -- it has the book's numbers of codes
-  pub counts_are : (book_of s).counts ≡ part s list fields
-  unfolding book_of
-  counts_are = rw (v.list_is, v.fields_is)
-
   -- many is the product of the numbers before number i
   module _ (many i c : ℕ) (h : i < length (book_of s).counts) (k : c ≡ get_or (book_of s).counts i 0)
       (e : many * product (drop i (book_of s).counts) ≡ product (book_of s).counts) where

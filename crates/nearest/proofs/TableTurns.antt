@@ -14,7 +14,7 @@ use Rattle.format.specs.Format.{Table, row_limit, row_total, table_at, book_of}
 use Rattle.format.specs.Promise.{Promise}
 use Rattle.format.proofs.Decode.{promise_well}
 use Rattle.words.specs.Sorting.{is_among}
-use Rattle.words.specs.RowWord.{row_word, words_at}
+use Rattle.words.specs.RowWord.{row_word}
 use Rattle.words.proofs.RowWords.{RowOf}
 use Rattle.book.specs.View.{TableIn}
 use Rattle.book.proofs.WalkSteps.{tables_from}
@@ -24,7 +24,7 @@ use Rattle.nearest.specs.Words.{width_of, front_of, begins, can_hold, any_empty,
 use Rattle.nearest.proofs.Fronts.{fronts_among}
 use Rattle.nearest.proofs.Holding.{rows_of_lem}
 use Rattle.nearest.proofs.WordTurns.{length_row}
-use Rattle.nearest.proofs.Tables.{table_ok, rows_are, rows_many, fields_many, arity_few}
+use Rattle.nearest.proofs.Tables.{table_ok, rows_many, fields_many, arity_few}
 
 -- ---- the words of tables
 
@@ -62,12 +62,6 @@ module _ (s : List ℕ) where
 
   all_few : Promise s → length (words_left 0) ≤ row_limit
   all_few p = omega (arith, words_total (book_of s).tables, p.rows_few)
-
-  pub left_start : (w : List ℕ) → Packed s w → Left 0 w
-  left_start w o = record { words = o.words }
-
-  pub pack_start : (w : List ℕ) → row_limit ≤ length w → Packing 0 0 w
-  pack_start w h = record { within = omega arith; room = h; words = refl }
 
   pub pack_end : (i first : ℕ) (w : List ℕ) → Packing i first w → tables_left i ≡ [] → Packed s w
   pack_end i first w o e =
@@ -133,10 +127,7 @@ module _ (s : List ℕ) where
       pub part_long : (k : ℕ) → k ≡ n → length (take k (drop first w)) ≡ n
       part_long k ek = omega (arith, length-take k (drop first w), length-drop first w, pack_room)
 
-      module _ (k : ℕ) (ek : k ≡ n) (u : List ℕ) (eu : u ≡ words_at s a p (length (take k (drop first w)))) where
-        stored : u ≡ map row_word (table_at s at).rows
-        stored = eu ∙ ap (words_at s a p) (part_long k ek) ∙ ap (map row_word) (sym (rows_are s i at a p n t))
-
+      module _ (k : ℕ) (ek : k ≡ n) (u : List ℕ) (stored : u ≡ map row_word (table_at s at).rows) where
         stored_long : length u ≡ n
         stored_long = ap length stored ∙ words_many
 
@@ -179,10 +170,6 @@ module _ (s : List ℕ) where
 
         pub hold_no : b ≡ false → false ≡ can_hold (tables_left i) R f
         hold_no y = sym (rw (sym e ∙ y) at hold_cons)
-
-      -- f is no field of the table
-      pub hold_none : has_field (table_at s at) f ≡ false → true ≡ (not (has_field (table_at s at) f) || begins (table_at s at) R f)
-      hold_none e = rw e
 
       module _ (x : Front) (q : FrontIn (table_at s at) R f x) where
         upto : width_of (table_at s at) f ≤ a

@@ -77,10 +77,6 @@ module _ (s : List ℕ) (list fields tables : ℕ) (v : Numbered s list fields t
         sym (choose_still (book_of s) z (readings (book_of s) (length (book_of s).counts) []) none
         (λ q m. after_rows (book_of s) z q none (empty_full (book_of s).tables q e)))
 
-    pub begins_ready : (R : List ℕ) → length R ≡ places → Ready (book_of s) z R 0 0 None
-    begins_ready R k =
-        record { within = omega arith; long = k; own = λ g l. absurd (omega arith); rows = λ g l m. absurd (omega arith); kept = λ g l. absurd (omega arith); counted = refl; fewer = refl }
-
     module _ (t : Turn) (best : Option Found) (o : Ready (book_of s) z t.reading t.f t.differing best) where
       -- no more fields differ than have codes
       pub few_differ : t.differing ≤ t.f

@@ -1,26 +1,48 @@
 -- A turn of the loops that look among words and choose the codes that they are held against. Assumes nothing.
-use mathlib.Core.Path.{◌≡◌, refl, sym, ap, ◌∙◌}
+use mathlib.Core.Path.{◌≡◌, refl, sym, ap, subst, ◌∙◌}
 use mathlib.Core.Logic.{◌≢◌}
 use mathlib.Core.Bool.{Bool, true, false, not, ◌||◌, or-true}
 use mathlib.Core.List.{List, [], ◌∷◌, ◌++◌, map}
-use Prim.Native.Nat.{ℕ, suc, ◌+◌, ◌*◌, ◌≤◌, ◌<◌}
+use Prim.Native.Nat.{ℕ, zero, suc, ◌+◌, ◌-◌, ◌*◌, ◌≤◌, ◌<◌}
+use Rattle.std.specs.Prelude.{◌/◌, ◌%◌, ◌^◌, ◌↔◌, bit_and}
+use Rattle.std.proofs.lemmas.Nat.Bits.{and_high_mask, ones_shl}
 use native.Mathlib.Numerals.{add-one}
 use native.Mathlib.Omega.{arith}
 use lib.ListN.{length, get_or, take, drop}
 use lib.Seq.{take-suc, length-take-le, drop-cons}
 use lib.Dec.{eqb}
+use lib.Pow.{pow_mono}
 use borrow.Author.Tests.{eq-eqb, ne_eqb, lt-ltb, le-ltb}
 use Rattle.format.specs.Basics.{All, first_bad}
 use Rattle.format.specs.Format.{Table}
 use Rattle.format.proofs.Elements.{all_append}
 use Rattle.format.proofs.Scans.{bad_on, bad_here, bad_none}
 use Rattle.words.specs.Sorting.{is_among}
+use Rattle.words.specs.RowWord.{word_bits}
 use Rattle.consistency.specs.Consistency.{field_of}
 use Rattle.consistency.specs.Readings.{row_for}
 use Rattle.consistency.specs.Rows.{column_of, has_field}
 use Rattle.nearest.specs.declared.front.Front.{Front}
 use Rattle.nearest.specs.Words.{front_word, word_front, FrontIn}
-use Rattle.nearest.proofs.Fronts.{word_more, word_small}
+use Rattle.nearest.proofs.Fronts.{word_more, front_fits}
+
+-- ---- a word held against a front
+
+-- without the bytes behind its first w codes a word is x with as many bytes behind it exactly when it begins with x
+pub masked : (w x y : ℕ) → 1 ≤ w → w ≤ 4 → x < 2 ^ (8 * w) → y < 2 ^ word_bits
+    → (x * 2 ^ (word_bits - 8 * w) % 2 ^ word_bits ≡ bit_and y ((2 ^ word_bits - 1) * 2 ^ (word_bits - 8 * w) % 2 ^ word_bits)) ↔ (x ≡ word_front w y)
+masked w x y one few h l =
+    rw (ones_shl word_bits (word_bits - 8 * w) (omega arith), and_high_mask word_bits (word_bits - 8 * w) (omega arith) y l)
+    (at w one few h)
+  where
+    at : (w : ℕ) → 1 ≤ w → w ≤ 4 → x < 2 ^ (8 * w)
+        → (x * 2 ^ (word_bits - 8 * w) % 2 ^ word_bits ≡ y / 2 ^ (word_bits - 8 * w) * 2 ^ (word_bits - 8 * w)) ↔ (x ≡ word_front w y)
+    at zero one few h = absurd (omega arith)
+    at (suc zero) one few h = ((λ e. omega arith), (λ e. omega arith))
+    at (suc (suc zero)) one few h = ((λ e. omega arith), (λ e. omega arith))
+    at (suc (suc (suc zero))) one few h = ((λ e. omega arith), (λ e. omega arith))
+    at (suc (suc (suc (suc zero)))) one few h = ((λ e. omega arith), (λ e. omega arith))
+    at (suc (suc (suc (suc (suc w))))) one few h = absurd (omega arith)
 
 -- ---- looking among words: those from number i on are left
 
@@ -57,15 +79,13 @@ pub record Chosen (t : Table) (R : List ℕ) (f j word : ℕ) : Type 0 where
   pub later : first_bad (λ k. not (eqb (field_of t k) f)) j (length t.fields) ≡ column_of t f
 
 module _ (t : Table) (R : List ℕ) (f : ℕ) where
-  pub chosen_start : Chosen t R f 0 0
-  chosen_start = record { within = omega arith; word_is = refl; bytes = tt; later = refl }
-
   module _ (j word : ℕ) (o : Chosen t R f j word) where
     -- there is room for one code more
     pub chosen_small : j ≤ 3 → word < 16777216
     chosen_small h =
         let l = length_row R (take j t.fields) ∙ length-take-le j t.fields o.within in
-        omega (arith, o.word_is, word_small (row_for R (take j t.fields)) o.bytes (omega arith))
+        let m = pow_mono {i = 8 * length (row_for R (take j t.fields))} {j = 24} (omega (arith, l)) in
+        omega (arith, m, o.word_is, front_fits (row_for R (take j t.fields)) o.bytes (omega (arith, l)))
 
     -- no field is left
     pub chosen_none : length t.fields ≤ j → has_field t f ≡ false
@@ -84,6 +104,12 @@ module _ (t : Table) (R : List ℕ) (f : ℕ) where
 
       bytes_next : All (λ c. c < 256) (row_for R (take (j + 1) t.fields))
       bytes_next = rw row_more (all_append (λ c. c < 256) (row_for R (take j t.fields)) (c ∷ []) o.bytes (lc, tt))
+
+      -- it fits the bytes of so many codes
+      pub word_fits : j ≤ 3 → word * 256 + c < 2 ^ (8 * (j + 1))
+      word_fits m =
+          let l = length_row R (take (j + 1) t.fields) ∙ length-take-le (j + 1) t.fields (omega arith) in
+          rw word_next (subst (λ (n : ℕ). front_word (row_for R (take (j + 1) t.fields)) < 2 ^ (8 * n)) l (front_fits (row_for R (take (j + 1) t.fields)) bytes_next (omega (arith, l))))
 
       -- f comes later
       pub chosen_on : g ≢ f → Chosen t R f (j + 1) (word * 256 + c)

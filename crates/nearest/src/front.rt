@@ -1,5 +1,5 @@
 // A reading's codes for the fields of a table up to one of them, as one number: a row is held against them by one test.
-ghost use Rattle.std.specs.Prelude.{◌≤◌};
+ghost use Rattle.std.specs.Prelude.{◌≤◌, ◌<◌, ◌*◌, ◌^◌};
 
 use book::{PLACES, Table};
 
@@ -12,6 +12,7 @@ pub(crate) struct Front {
     pub(crate) width: usize,
     pub(crate) word: u32,
     ghost fits: { (1 ≤ width) × (width ≤ 4) },
+    ghost small: { word < 2 ^ (8 * width) },
 }
 
 impl Front {
@@ -25,8 +26,10 @@ impl Front {
         ensures { IsFront (table_at table.entry.bytes.now table.entry.at) reading.now f result }
     {
         let mut word = 0u32;
-        for j in 0..table.arity {
-            let field = usize::from(table.bytes[table.at + 1 + j]);
+        let at = table.at + 1;
+        for (j, byte) in table.bytes[at..at + table.arity].iter().enumerate() {
+            let field = usize::from(*byte);
+            // Times 256, as the definition of the number has it: a shift and an or are no plainer.
             word = word * 256 + u32::from(reading[field]);
             if field == f {
                 return Some(Front { width: j + 1, word });
@@ -35,15 +38,18 @@ impl Front {
         None
     }
 
-    // Whether one of the rows, as words, begins with them. The search goes on where it has found one: without a way out of the loop several words
-    // are compared at a time.
+    // Whether one of the rows, as words, begins with them: without the bytes behind them, a row's word is their number with as many bytes behind
+    // it. The search goes on where it has found one: without a way out of the loop several words are compared at a time. And it shifts no row: such
+    // a loop is longer, and took up to twice the time, by where in memory it came to lie.
     pub(crate) fn begins(self, rows: &[u32]) -> bool
         ensures { result ≡ is_among self.word (map (word_front self.width) rows.now) }
     {
-        let shift = WORD_BITS - 8 * self.width;
+        let behind = WORD_BITS - 8 * self.width;
+        let mask = u32::MAX << behind;
+        let word = self.word << behind;
         let mut found = false;
         for row in rows {
-            if self.word == *row >> shift {
+            if word == *row & mask {
                 found = true;
             }
         }

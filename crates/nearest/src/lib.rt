@@ -21,7 +21,8 @@ use turn::Turn;
 // The most readings, full or not, of a book that is searched.
 const READINGS: usize = 65536;
 
-// The nearest full reading that keeps the photographed answers; none where there is no such reading.
+// The nearest full reading that keeps the photographed answers; none where there is no such reading. Answers and photographs
+// come as two arrays, as a sheet has them.
 pub fn search(
     book: Book<'_>,
     answers: &[u8; PLACES],
@@ -54,7 +55,7 @@ pub fn too_many(book: Book<'_>) -> bool
     ensures { result ≡ ltb reading_limit (product (book_of book.entry.bytes.now).counts) }
 {
     let mut many = 1;
-    for count in &book.bytes[book.list..book.list + book.fields] {
+    for count in book.field_list() {
         many *= usize::from(*count);
         if READINGS < many {
             return true;

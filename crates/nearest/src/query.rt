@@ -73,6 +73,7 @@ impl Query<'_> {
         ensures { Passed (book_of self.now.book.bytes.now) (sheet_with self.now.answers.now self.now.photographed.now) self.now.book.fields turn result }
     {
         let mut at = turn;
+        // By number, since a walk is no plainer: a field's number of codes, answer and photograph stand apart.
         for f in turn.f..self.book.fields {
             if self.codes(f) != 1 {
                 return at;

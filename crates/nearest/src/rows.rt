@@ -28,12 +28,7 @@ pub(crate) fn pack(book: Book<'_>, words: &mut [u32])
     let mut first = 0;
     for table in book.tables() {
         let end = first + table.rows;
-        book::gather(
-            table.bytes,
-            table.first,
-            table.arity,
-            &mut words[first..end],
-        );
+        table.gather(&mut words[first..end]);
         first = end;
     }
 }

@@ -3,7 +3,7 @@ ghost use Rattle.std.specs.Prelude.{◌≡◌, not, ◌&&◌, eqb, ltb};
 ghost use Rattle.format.specs.Basics.{pick};
 ghost use Rattle.nearest.specs.Asks.{nearer};
 
-use book::PLACES;
+use book::{NO_ANSWER, PLACES};
 
 // A full reading, and in how many fields it differs from the answers.
 #[derive(Clone, Copy)]
@@ -25,13 +25,7 @@ pub(crate) struct Turn {
 pub(crate) fn apart(answer: u8, code: u8) -> usize
     ensures { result ≡ pick (not (eqb answer 255) && not (eqb code answer)) 1 0 }
 {
-    if answer == 255 {
-        return 0;
-    }
-    if code == answer {
-        return 0;
-    }
-    1
+    usize::from(answer != NO_ANSWER && code != answer)
 }
 
 // Whether a photographed answer would be another: the field makes one more differ.

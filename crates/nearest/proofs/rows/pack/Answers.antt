@@ -2,20 +2,13 @@ use mathlib.Core.Path.{◌≡◌, ◌∙◌}
 use Prim.Native.Nat.{◌+◌, ◌-◌}
 use native.Mathlib.Omega.{arith}
 use Rattle.book.proofs.WalkSteps.{none_left, stepped, walked}
-use Rattle.nearest.proofs.Tables.{rows_fit}
-use Rattle.nearest.proofs.TableTurns.{pack_room, part_long, pack_long, pack_on, pack_end}
+use Rattle.nearest.proofs.TableTurns.{pack_room, pack_long, pack_on, pack_end}
 use Rattle.nearest.proofs.rows.pack.Goals as goal
 
 pub slice_bounds-gather-end : goal.slice_bounds-gather-end
 slice_bounds-gather-end c =
     let w = stepped c.args.book c.loop-table.table-iterator c.next.new.self c.loop-table.invariant.0 c.in-Some.table c.in-Some.ensures.steps in
     pack_room _ _ _ _ _ _ w.table_in _ _ c.loop-table.invariant.2
-
-pub gather-requires : goal.gather-requires
-gather-requires c =
-    let w = stepped c.args.book c.loop-table.table-iterator c.next.new.self c.loop-table.invariant.0 c.in-Some.table c.in-Some.ensures.steps in
-    let d : c.loop-table.first + c.in-Some.table.rows - c.loop-table.first ≡ c.in-Some.table.rows = omega arith in
-    rw (w.bytes, part_long _ _ _ _ _ _ w.table_in _ _ c.loop-table.invariant.2 _ d) (rows_fit _ _ _ _ _ _ w.table_in)
 
 pub loop-table-preserved : goal.loop-table-preserved
 loop-table-preserved c =
