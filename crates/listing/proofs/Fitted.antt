@@ -5,7 +5,8 @@ use mathlib.Core.List.{List, ◌∷◌, ◌++◌}
 use Prim.Native.Nat.{ℕ, zero, suc, ◌+◌, ◌-◌, ◌*◌, ◌/◌, ◌%◌, ◌≤◌, ◌<◌}
 use native.Mathlib.Omega.{arith}
 use lib.ListN.{length, length-append}
-use lib.Seq.{sets}
+use lib.Seq.{sets, length-sets}
+use borrow.Rule.Slice.PartMut.{put_mid}
 use lib.Dec.{leb, ltb, eqb}
 use borrow.Author.Tests.{eqb-true, eq-eqb, leb-true, le-leb, ltb-true, lt-ltb}
 use Rattle.format.specs.Format.{part, trailer, table_bytes, tables_bytes, trailer_bytes, encode}
@@ -17,13 +18,14 @@ use Rattle.format.proofs.Encode.{encode_length}
 use Rattle.format.specs.Listing.{number_at, fields_in, table_count_in, first_table, arity_in, row_count_in, first_row_in, table_end_in, table_in, tables_in, tables_end, version_in, last_end, book_in, listing_end}
 use Rattle.format.specs.Writing.{all_bytes, laid_out, book_limit}
 use Rattle.listing.specs.Fits.{table_fits, tables_fit, fits}
-use Rattle.listing.specs.Bounds.{TablesLay, TrailerLays}
+use Rattle.listing.specs.Bounds.{TablesLay}
 use Rattle.format.proofs.ByteTests.{bytes_true, true_bytes}
 use Rattle.format.proofs.Storing.{sets_then}
 use Rattle.format.proofs.Sizes.{tables_longer}
 use Rattle.format.proofs.Parsing.{listing_length}
 use Rattle.format.proofs.Rebuilding.{ends_rise, counts_length, tables_length, listing_again}
 use Rattle.listing.proofs.Laying.{bytes_parts, bytes_small}
+use Rattle.listing.proofs.Showing.{part_stored}
 
 -- ---- tables that pass
 
@@ -226,48 +228,58 @@ module _ (l : List ℕ) (f t : ℕ) (ef : f ≡ fields_in l) (et : t ≡ number_
     lay_counts out h =
         (omega (arith, fields_within l f t ef et g.whole), omega (arith, lay_size, g.short), (parts_bytes l f t ef et g.whole g.bytes).1.0)
 
-    pub lay_last : (v : ℕ) → v ≡ last_number l → TrailerLays list f t v
-    lay_last v ev =
-        let p = parts_bytes l f t ef et g.whole g.bytes in
-        record {
-          place_small = omega (arith, lay_size, g.short);
-          fields_small = p.1.1.0;
-          tables_small = p.1.1.1.0;
-          version_small = omega (arith, p.1.1.1.1);
-        }
+    -- the field list, written as a part
+    pub counts_laid : (o u : List ℕ) (j k : ℕ) → book_limit ≤ length o → j ≡ f → k ≡ f → u ≡ part l 1 j → put_mid list k o u ≡ sets o list (part l 1 f)
+    counts_laid o u j k h ej ek e =
+        let there : u ≡ part l 1 f = rw ej at e in
+        rw (ek, ← there) (part_stored o u list f (ap length there ∙ counts_run l f t ef et g.whole) (lay_counts o h).1)
+
+    pub counts_long : (o u : List ℕ) (j k : ℕ) → book_limit ≤ length o → j ≡ f → k ≡ f → u ≡ part l 1 j → length (put_mid list k o u) ≡ length o
+    counts_long o u j k h ej ek e = ap length (counts_laid o u j k h ej ek e) ∙ length-sets o list (part l 1 f)
+
+    -- the trailer's numbers fit their bytes
+    pub lay_last : (list < 65536) × (f < 256) × (t < 256) × (last_number l < 256)
+    lay_last = let p = parts_bytes l f t ef et g.whole g.bytes in (omega (arith, lay_size, g.short), p.1.1.0, p.1.1.1.0, p.1.1.1.1)
 
     -- stored in three steps
-    pub all_stored : (v : ℕ) → v ≡ last_number l → (o o₁ o₂ o₃ : List ℕ) → o₁ ≡ sets o 0 (laid_tables l f t) → o₂ ≡ sets o₁ list (part l 1 f)
-        → o₃ ≡ sets o₂ (list + f) (trailer list f t v) → o₃ ≡ sets o 0 (laid_out l)
-    all_stored v ev o o₁ o₂ o₃ e₁ e₂ e₃ =
+    pub all_stored : (o o₁ o₂ o₃ : List ℕ) → o₁ ≡ sets o 0 (laid_tables l f t) → o₂ ≡ sets o₁ list (part l 1 f)
+        → o₃ ≡ sets o₂ (list + f) (trailer list f t (last_number l)) → o₃ ≡ sets o 0 (laid_out l)
+    all_stored o o₁ o₂ o₃ e₁ e₂ e₃ =
         let w = g.whole in
+        let last = last_number l in
         let n : list + length (part l 1 f) ≡ list + f = ap (λ (k : ℕ). list + k) (counts_run l f t ef et w) in
         let m : 0 + length (laid_tables l f t) ≡ list = omega (arith, el) in
         e₃
-        ∙ ap (λ (x : List ℕ). sets x (list + f) (trailer list f t v)) e₂
-        ∙ sets_then o₁ list (list + f) (part l 1 f) (trailer list f t v) n
-        ∙ ap (λ (x : List ℕ). sets x list (part l 1 f ++ (trailer list f t v))) e₁
-        ∙ sets_then o 0 list (laid_tables l f t) (part l 1 f ++ (trailer list f t v)) m
-        ∙ ap (λ (k : ℕ). sets o 0 (laid_tables l f t ++ (part l 1 f ++ (trailer k f t v)))) el
-        ∙ ap (λ (x : ℕ). sets o 0 (laid_tables l f t ++ (part l 1 f ++ (trailer (length (laid_tables l f t)) f t x)))) ev
+        ∙ ap (λ (x : List ℕ). sets x (list + f) (trailer list f t last)) e₂
+        ∙ sets_then o₁ list (list + f) (part l 1 f) (trailer list f t last) n
+        ∙ ap (λ (x : List ℕ). sets x list (part l 1 f ++ (trailer list f t last))) e₁
+        ∙ sets_then o 0 list (laid_tables l f t) (part l 1 f ++ (trailer list f t last)) m
+        ∙ ap (λ (k : ℕ). sets o 0 (laid_tables l f t ++ (part l 1 f ++ (trailer k f t last)))) el
         ∙ ap (sets o 0) (sym (laid_parts l f t ef et w))
 
--- ---- the test of the code counts
+-- ---- all tests behind those of the two numbers of fields and of tables, one after another
 
-module _ (l : List ℕ) (f t : ℕ) (ef : f ≡ fields_in l) (et : t ≡ number_at l (1 + f)) (b : Bool) (e : b ≡ all_bytes (part l 1 (1 + f - 1))) where
-  tested : b ≡ all_bytes (part l 1 f)
-  tested = e ∙ ap (λ (k : ℕ). all_bytes (part l 1 k)) less
-    where
-      less : 1 + f - 1 ≡ f
-      less = omega arith
+module _ (l : List ℕ) (f t : ℕ) (ef : f ≡ fields_in l) (et : t ≡ number_at l (1 + f)) (hf : f ≤ 255) (ht : t ≤ 255) where
+  abbrev numbers_pass : Bool
+  numbers_pass = (leb (length l + t + 3) book_limit && leb (last_number l) 255) && all_bytes (part l 1 f)
 
-  pub counts_pass : b ≡ true → Bytes (part l 1 f)
-  counts_pass d = bytes_true (part l 1 f) (sym tested ∙ d)
-
-  pub counts_fail : b ≡ false → false ≡ fits l
-  counts_fail d =
-      unfit l
-      (λ g.
-      let z : false ≡ true = sym d ∙ tested ∙ true_bytes (part l 1 f) (parts_bytes l f t ef et g.whole g.bytes).1.0 in
-      let y : ◌≡◌ {A = ℕ} 0 1 = cc in
-      omega arith)
+  pub all_tests : numbers_pass && tables_fit l (2 + f) t ≡ fits l
+  all_tests =
+      same_test (numbers_pass && tables_fit l (2 + f) t) (fits l)
+      (λ e.
+      let a = both_true numbers_pass (tables_fit l (2 + f) t) e in
+      let b = both_true (leb (length l + t + 3) book_limit && leb (last_number l) 255) (all_bytes (part l 1 f)) a.0 in
+      let c = both_true (leb (length l + t + 3) book_limit) (leb (last_number l) 255) b.0 in
+      sym
+      (tables_decide l f t ef et hf ht (leb-true (last_number l) 255 c.1) (leb-true (length l + t + 3) book_limit c.0) (bytes_true (part l 1 f) b.1))
+      ∙ a.1)
+      (λ e.
+      let g = fitted l e in
+      let p = parts_bytes l f t ef et g.whole g.bytes in
+      let last : last_number l ≤ 255 = omega (arith, p.1.1.1.1) in
+      let short : length l + t + 3 ≤ book_limit = omega (arith, g.short, laid_longer l f t ef et g.whole) in
+      both_pass numbers_pass (tables_fit l (2 + f) t)
+      (both_pass (leb (length l + t + 3) book_limit && leb (last_number l) 255) (all_bytes (part l 1 f))
+      (both_pass (leb (length l + t + 3) book_limit) (leb (last_number l) 255) (le-leb (length l + t + 3) book_limit short) (le-leb (last_number l) 255 last))
+      (true_bytes (part l 1 f) p.1.0))
+      (tables_decide l f t ef et hf ht last short p.1.0 ∙ e))

@@ -1,11 +1,11 @@
 -- A table's numbers as parts of the book's bytes, and how many they are. Assumes nothing.
 use mathlib.Core.Path.{◌≡◌, refl, sym, ap, ◌∙◌}
-use mathlib.Core.List.{List, [], ◌∷◌, ◌++◌, append_assoc}
+use mathlib.Core.List.{List, [], ◌∷◌, ◌++◌, append_assoc, append-nil}
 use Prim.Native.Nat.{ℕ, suc, ◌+◌, ◌-◌, ◌*◌, ◌≤◌, ◌<◌}
 use native.Mathlib.Nat.{zero-add}
 use native.Mathlib.Omega.{arith}
-use lib.ListN.{length, get_or, take, drop, set, length-append}
-use lib.Seq.{sets, sets-eq, drop-drop}
+use lib.ListN.{length, get_or, take, drop, set, length-append, length-set, length-drop}
+use lib.Seq.{sets, sets-eq, length-sets, length-take-le, drop-drop, drop-length, take_all}
 use borrow.Rule.Slice.PartMut.{put_mid}
 use Rattle.format.specs.Format.{part, le16, arity_at, rows_of, first_row, table_end, table_at, list_place, field_count, version_of, book_of}
 use Rattle.format.proofs.Decode.{list_length}
@@ -18,8 +18,17 @@ use Rattle.format.specs.Listing.{table_numbers, tables_numbers, listing_of}
 use Rattle.format.proofs.Storing.{stored_more, sets_then, sets_front, rows_flat, part_cons}
 
 -- one number more of a list is stored
-pub stored_on : (o xs : List ℕ) (to i : ℕ) → i < length xs → set (sets o to (take i xs)) (to + i) (get_or xs i 0) ≡ sets o to (take (i + 1) xs)
-stored_on o xs to i h = rw zero-add at (stored_more o xs to 0 i (omega arith))
+pub stored_on : (o xs : List ℕ) (i : ℕ) → i < length xs → set (sets o 0 (take i xs)) i (get_or xs i 0) ≡ sets o 0 (take (i + 1) xs)
+stored_on o xs i h = rw zero-add at (stored_more o xs 0 0 i (omega arith))
+
+-- as many numbers as there is memory for, all stored
+pub stored_whole : (o xs : List ℕ) (i : ℕ) → length o ≡ length xs → length xs ≤ i → sets o 0 (take i xs) ≡ xs
+stored_whole o xs i e h =
+    ap (sets o 0) (take_all i xs h)
+    ∙ sets_front o xs (omega (arith, e))
+    ∙ ap (λ (n : ℕ). xs ++ drop n o) (sym e)
+    ∙ ap (λ (z : List ℕ). xs ++ z) (drop-length o)
+    ∙ append-nil xs
 
 -- a part that was written as a whole is stored
 pub part_stored : (o u : List ℕ) (at k : ℕ) → length u ≡ k → at + k ≤ length o → put_mid at k o u ≡ sets o at u
@@ -27,6 +36,30 @@ part_stored o u at k e h =
     let m : at + k ≡ at + length u = omega arith in
     ap (λ (x : List ℕ). take at o ++ (u ++ x)) (drop-drop k at o ∙ ap (λ (n : ℕ). drop n o) m)
     ∙ sym (append_assoc (take at o) u (drop (at + length u) o)) ∙ sym (sets-eq u o at (omega arith))
+
+-- and so is one at the front
+pub front_stored : (o u : List ℕ) (k : ℕ) → length u ≡ k → k ≤ length o → u ++ drop k o ≡ sets o 0 u
+front_stored o u k e h = ap (λ (n : ℕ). u ++ drop n o) (sym e) ∙ sym (sets_front o u (omega (arith, e)))
+
+-- and one more part behind what is stored at the front
+pub next_stored : (o xs u : List ℕ) (at k : ℕ) → length xs ≡ at → length u ≡ k → at + k ≤ length o → put_mid at k (sets o 0 xs) u ≡ sets o 0 (xs ++ u)
+next_stored o xs u at k e f h = part_stored (sets o 0 xs) u at k f (simp length-sets h) ∙ sets_then o 0 at xs u (omega (arith, e))
+
+-- the rest of the memory has room
+pub rest_room : (o : List ℕ) (to k : ℕ) → to + k ≤ length o → k ≤ length (take (length o - to) (drop to o))
+rest_room o to k h = omega (arith, h, length-take-le (length o - to) (drop to o) (omega (arith, length-drop to o)))
+
+-- what is written first in the rest of the memory is stored there
+pub rest_stored : (o u xs : List ℕ) (to : ℕ) → u ≡ sets (take (length o - to) (drop to o)) 0 xs → to + length xs ≤ length o
+    → put_mid to (length o - to) o u ≡ sets o to xs
+rest_stored o u xs to e h =
+    let rest : take (length o - to) (drop to o) ≡ drop to o = take_all (length o - to) (drop to o) (omega (arith, length-drop to o)) in
+    let none : drop (length o - to) (drop to o) ≡ [] = rw (← length-drop to o) (drop-length (drop to o)) in
+    let there : u ≡ xs ++ drop (to + length xs) o =
+    rw rest at e ∙ sets_front (drop to o) xs (omega (arith, length-drop to o)) ∙ ap (λ (z : List ℕ). xs ++ z) (drop-drop (length xs) to o) in
+    ap (λ (z : List ℕ). take to o ++ z) (ap (λ (z : List ℕ). u ++ z) none ∙ append-nil u ∙ there)
+    ∙ sym (append_assoc (take to o) xs (drop (to + length xs) o))
+    ∙ sym (sets-eq xs o to h)
 
 -- the table at at, of a codes in each of n rows, which ends within the bytes
 module _ (s : List ℕ) (at a n : ℕ) (ea : a ≡ arity_at s at) (en : n ≡ le16 s (at + 1 + a)) (h : table_end s at ≤ length s) where
@@ -49,13 +82,13 @@ module _ (s : List ℕ) (at a n : ℕ) (ea : a ≡ arity_at s at) (en : n ≡ le
       rw table_parts (omega (arith, length-append (part s at (1 + a)) (n ∷ part s (at + 3 + a) (n * a))))
 
   -- stored in three steps
-  table_stored : (o : List ℕ) (to : ℕ)
-      → sets (set (sets o to (part s at (1 + a))) (to + 1 + a) n) (to + 2 + a) (part s (at + 3 + a) (n * a)) ≡ sets o to (table_numbers (table_at s at))
-  table_stored o to =
+  table_stored : (o : List ℕ)
+      → sets (set (sets o 0 (part s at (1 + a))) (1 + a) n) (2 + a) (part s (at + 3 + a) (n * a)) ≡ sets o 0 (table_numbers (table_at s at))
+  table_stored o =
       let l = part_length s at (1 + a) (omega (arith, end_is)) in
-      let e : suc (to + 1 + a) ≡ to + 2 + a = omega arith in
-      let d : to + length (part s at (1 + a)) ≡ to + 1 + a = omega arith in
-      rw (← e, table_parts) (sets_then o to (to + 1 + a) (part s at (1 + a)) (n ∷ part s (at + 3 + a) (n * a)) d)
+      let e : suc (1 + a) ≡ 2 + a = omega arith in
+      let d : 0 + length (part s at (1 + a)) ≡ 1 + a = omega (arith, l) in
+      rw (← e, table_parts) (sets_then o 0 (1 + a) (part s at (1 + a)) (n ∷ part s (at + 3 + a) (n * a)) d)
 
 -- ---- a table of bytes that keep the promise
 
@@ -76,24 +109,28 @@ module _ (s : List ℕ) (i at a p n : ℕ) (t : TableIn s i at a p n) where
       let d : p + n * a ≡ table_end s at = rw (t.rows_is, t.first_is, t.arity_is) in
       omega arith
 
-  pub codes_count : (e : ℕ) → e ≡ table_end s at → length (part s p (e - p)) ≡ n * a
-  codes_count e k = rw (codes_left e k) (part_length s p (n * a) within)
-
-  pub head_count : length (part s at (at + 1 + a - at)) ≡ 1 + a
+  pub head_count : length (part s at (at + (1 + a) - at)) ≡ 1 + a
   head_count =
-      let d : at + 1 + a - at ≡ 1 + a = omega arith in
+      let d : at + (1 + a) - at ≡ 1 + a = omega arith in
       rw d (part_length s at (1 + a) (omega (arith, within, t.first_is, t.arity_is)))
 
   pub numbers_count : length (table_numbers (table_at s at)) ≡ 2 + a + n * a
   numbers_count = numbers_length s at a n t.arity_is rows_read table_ends
 
-  -- its numbers, stored in three steps
-  pub table_showed : (o o₁ o₂ : List ℕ) (to h c : ℕ) → h ≡ 1 + a → c ≡ n * a → o₁ ≡ sets o to (part s at h)
-      → o₂ ≡ sets (set o₁ (to + 1 + a) n) (to + 1 + a + 1) (part s p c) → o₂ ≡ sets o to (table_numbers (table_at s at))
-  table_showed o o₁ o₂ to h c eh ec e₁ e₂ =
+  -- its numbers, stored in three steps: the head as the front of the memory, the number of rows, the codes as a part
+  pub table_showed : (o u v : List ℕ) (h c k : ℕ) → h ≡ 1 + a → c ≡ n * a → k ≡ n * a → 2 + a + n * a ≤ length o → u ≡ part s at h → v ≡ part s p c
+      → put_mid (1 + a + 1) k (set (u ++ drop (1 + a) o) (1 + a) n) v ≡ sets o 0 (table_numbers (table_at s at))
+  table_showed o u v h c k eh ec ek room eu ev =
       let f : p ≡ at + 3 + a = omega (arith, t.first_is, t.arity_is) in
-      let g : to + 1 + a + 1 ≡ to + 2 + a = omega arith in
-      rw (e₁, eh, ec, f, g) at e₂ ∙ table_stored s at a n t.arity_is rows_read table_ends o to
+      let g : 1 + a + 1 ≡ 2 + a = omega arith in
+      let lu : length u ≡ 1 + a = ap length eu ∙ rw eh (part_length s at (1 + a) (omega (arith, within, f))) in
+      let lv : length v ≡ n * a = ap length ev ∙ rw ec (part_length s p (n * a) within) in
+      let front = front_stored o u (1 + a) lu (omega (arith, room)) in
+      rw (ek, g)
+      (part_stored (set (u ++ drop (1 + a) o) (1 + a) n) v (2 + a) (n * a) lv (simp length-set (rw front (simp length-sets (omega (arith, room)))))
+      ∙ ap (λ (x : List ℕ). sets (set x (1 + a) n) (2 + a) v) (front ∙ ap (sets o 0) (rw eh at eu))
+      ∙ ap (sets (set (sets o 0 (part s at (1 + a))) (1 + a) n) (2 + a)) (rw (ec, f) at ev)
+      ∙ table_stored s at a n t.arity_is rows_read table_ends o)
 
   -- its numbers, and those of the tables behind it
   numbers_left : tables_numbers (drop i (book_of s).tables) ≡ table_numbers (table_at s at) ++ tables_numbers (drop (i + 1) (book_of s).tables)
@@ -149,6 +186,17 @@ module _ (s : List ℕ) (list fields tables : ℕ) (v : Numbered s list fields t
   -- the version's place, behind the tables
   last_place : 2 + fields + length (tables_numbers (book_of s).tables) ≡ 2 + fields + list - tables
   last_place = omega (arith, listing_size, listing_count.0)
+
+  -- the field list, written as a part
+  pub counts_stored : (o u : List ℕ) → 1 + fields ≤ length o → u ≡ (book_of s).counts
+      → put_mid 1 (1 + fields - 1) (set o 0 fields) u ≡ sets (set o 0 fields) 1 (part s list fields)
+  counts_stored o u h e =
+      let k : 1 + fields - 1 ≡ fields = omega arith in
+      let there : u ≡ part s list fields = rw (v.list_is, v.fields_is) (e ∙ counts_are) in
+      rw (k, ← there) (part_stored (set o 0 fields) u 1 fields (ap length there ∙ part_length s list fields counts_within) (simp length-set h))
+
+  pub counts_long : (o u : List ℕ) → 1 + fields ≤ length o → u ≡ (book_of s).counts → length (put_mid 1 (1 + fields - 1) (set o 0 fields) u) ≡ length o
+  counts_long o u h e = ap length (counts_stored o u h e) ∙ length-sets (set o 0 fields) 1 (part s list fields) ∙ length-set o 0 fields
 
   -- stored in five steps
   pub book_stored : (o : List ℕ) → length (listing_of (book_of s)) ≤ length o

@@ -3,15 +3,15 @@ use mathlib.Core.Path.{◌≡◌, refl, sym, ap, ◌∙◌}
 use mathlib.Core.Bool.{Bool, true, false, ◌&&◌}
 use mathlib.Core.List.{List}
 use Prim.Native.Nat.{ℕ, suc, ◌+◌, ◌-◌, ◌*◌, ◌≤◌, ◌<◌}
-use native.Mathlib.Nat.{mul-le-mul}
 use native.Mathlib.Omega.{arith}
 use lib.ListN.{length, get_or}
-use lib.Dec.{eqb}
-use borrow.Author.Tests.{le-leb, lt-leb, lt-ltb, eqb-true, eq-eqb, ne_eqb}
+use lib.Dec.{eqb, ltb}
+use borrow.Author.Tests.{le-leb, lt-leb, lt-ltb, le-ltb, eqb-true, eq-eqb, ne_eqb}
 use Rattle.format.specs.Format.{part}
 use Rattle.format.specs.Listing.{number_at, arity_in, row_count_in, table_end_in}
 use Rattle.format.specs.Writing.{all_bytes}
 use Rattle.std.specs.Prelude.{Some, None, MatchBool}
+use Rattle.std.specs.Bool.{then_some}
 use Rattle.std.specs.List.{AllWithin, HoldsAt}
 use Rattle.format.proofs.ByteTests.{bytes_true, true_bytes}
 use Rattle.format.proofs.Elements.{all_of, all_at}
@@ -19,13 +19,6 @@ use Rattle.format.specs.Basics.{pick}
 use Rattle.format.proofs.Picks.{same_test}
 use Rattle.listing.specs.Fits.{table_fits, tables_fit}
 use Rattle.listing.proofs.Laying.{end_in}
-
--- the product of two 16-bit numbers
-pub product_small : (a n : ℕ) → a < 65536 → n < 65536 → n * a ≤ 4294836225
-product_small a n h k =
-    let h' : a ≤ 65535 = omega arith in
-    let k' : n ≤ 65535 = omega arith in
-    mul-le-mul k' h'
 
 -- each number is a byte, or one is none
 pub all_tested : (xs : List ℕ) (r : Bool) → MatchBool r (AllWithin (λ x. x ≤ 255) xs 0 (length xs)) ((k : ℕ) × (k < length xs) × HoldsAt (λ x. 255 < x) xs k)
@@ -52,28 +45,21 @@ module _ (l : List ℕ) (at : ℕ) where
   stop_end h = rw (lt-leb (table_end_in l at) (length l) h)
 
   -- one of a codes in each of n rows that lies within it: its two runs of numbers decide
-  module _ (a n : ℕ) (ea : a ≡ arity_in l at) (en : n ≡ number_at l (at + 1 + a)) (small : n < 65536) (h : at + 2 + a + n * a ≤ length l) where
-    decided : table_fits l at ≡ all_bytes (part l at (at + 1 + a - at)) && all_bytes (part l (at + 2 + a) (at + 2 + a + n * a - (at + 2 + a)))
+  module _ (a n e : ℕ) (ea : a ≡ arity_in l at) (en : n ≡ number_at l (at + 1 + a)) (small : n < 65536) (ends : e ≡ at + 2 + a + n * a) (h : e ≤ length l) where
+    decided : table_fits l at ≡ all_bytes (part l at (1 + a)) && all_bytes (part l (at + 2 + a) (n * a))
     unfolding table_fits
     decided =
-        let e = end_in l at a n ea en in
-        let inside : table_end_in l at ≤ length l = omega arith in
-        let f : at + 1 + a - at ≡ 1 + a = omega arith in
-        let g : at + 2 + a + n * a - (at + 2 + a) ≡ n * a = omega arith in
+        let inside : table_end_in l at ≤ length l = omega (arith, end_in l at a n ea en, ends) in
         let s : row_count_in l at < 65536 = omega (arith, ap (λ (x : ℕ). number_at l (at + 1 + x)) ea) in
-        rw (f, g, le-leb (table_end_in l at) (length l) inside, lt-ltb (row_count_in l at) 65536 s, en, ea)
+        rw (le-leb (table_end_in l at) (length l) inside, lt-ltb (row_count_in l at) 65536 s, en, ea)
 
-    pub stop_head : (b : Bool) → b ≡ all_bytes (part l at (at + 1 + a - at)) → b ≡ false → None ≡ pick (table_fits l at) (Some (table_end_in l at)) None
-    stop_head b e f = rw (decided, sym e ∙ f)
-
-    module _ (b : Bool) (e : b ≡ all_bytes (part l at (at + 1 + a - at))) (f : b ≡ true) (d : Bool)
-        (g : d ≡ all_bytes (part l (at + 2 + a) (at + 2 + a + n * a - (at + 2 + a))))
+    pub table_tested : (b : Bool) → b ≡ all_bytes (part l at (1 + a)) && all_bytes (part l (at + 2 + a) (n * a))
+        → then_some b e ≡ pick (table_fits l at) (Some (table_end_in l at)) None
+    table_tested b d = rw (d, ← decided, ends, end_in l at a n ea en) (picked (table_fits l at) (table_end_in l at))
       where
-        pub stop_codes : d ≡ false → None ≡ pick (table_fits l at) (Some (table_end_in l at)) None
-        stop_codes k = rw (decided, sym e ∙ f, sym g ∙ k)
-
-        pub next_table : d ≡ true → Some (at + 2 + a + n * a) ≡ pick (table_fits l at) (Some (table_end_in l at)) None
-        next_table k = rw (decided, sym e ∙ f, sym g ∙ k, end_in l at a n ea en)
+        picked : (t : Bool) (k : ℕ) → then_some t k ≡ pick t (Some k) None
+        picked true k = refl
+        picked false k = refl
 
 -- ---- the loop over the tables: left tables from at on
 
@@ -104,8 +90,8 @@ module _ (l : List ℕ) (at left : ℕ) where
   unfolding tables_fit
   ended h = let d : left ≡ 0 = omega arith in rw d
 
-  pub fit_short : left ≤ 0 → length l ≤ at → false ≡ tables_fit l at left
-  fit_short h k = sym (ne_eqb (at + 1) (length l) (λ e. omega arith)) ∙ ended h
+  pub fit_short : left ≤ 0 → length l ≤ at → ltb at (length l) ≡ tables_fit l at left
+  fit_short h k = rw (le-ltb at (length l) k) (sym (ne_eqb (at + 1) (length l) (λ e. omega arith)) ∙ ended h)
 
   pub fit_end : left ≤ 0 → at < length l → eqb (length l - at) 1 ≡ tables_fit l at left
   fit_end h k =

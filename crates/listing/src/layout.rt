@@ -1,39 +1,40 @@
 // The bytes of a listing's book, laid out.
-ghost use Rattle.std.specs.Prelude.{◌≡◌, true, ◌+◌, ◌≤◌, ◌<◌, length};
+ghost use Rattle.std.specs.Prelude.{◌≡◌, true, ◌≤◌, length};
 ghost use Rattle.std.proofs.lemmas.List.Edits.{sets};
-ghost use Rattle.format.specs.Format.{part, table_bytes, tables_bytes, trailer};
+ghost use Rattle.format.specs.Format.{table_bytes, tables_bytes};
 ghost use Rattle.format.specs.Layout.{Bytes};
 ghost use Rattle.format.specs.Listing.{table_in, tables_in};
 ghost use Rattle.format.specs.Writing.{laid_out, book_limit};
 ghost use Rattle.listing.specs.Fits.{fits};
-ghost use Rattle.listing.specs.Bounds.{TableLays, TablesLay, TrailerLays};
+ghost use Rattle.listing.specs.Bounds.{TableLays, TablesLay};
 
-use book::CLOSING_BYTE;
-
-// Writes numbers, each a byte, from `to` on.
-fn narrow(numbers: &[u16], out: &mut [u8], to: usize)
+// Numbers, each a byte, in memory for as many. (d) No one function with `widen`: this way a cast is needed, and that way a conversion.
+fn narrow(numbers: &[u16], out: &mut [u8])
     requires bytes { Bytes numbers.now }
-    requires room { to + length numbers.now ≤ length out.old }
-    ensures { out.new ≡ sets out.old to numbers.now }
+    requires long { length out.old ≡ length numbers.now }
+    ensures { out.new ≡ numbers.now }
 {
+    // (c) By an index, as in `widen`.
     for (i, number) in numbers.iter().enumerate() {
-        out[to + i] = *number as u8;
+        out[i] = *number as u8;
     }
 }
 
-// Writes the bytes of the table at `at`, from `to` on. Answers how many they are.
-fn lay_table(listing: &[u16], at: usize, out: &mut [u8], to: usize) -> usize
-    requires { TableLays listing.now at out.old to }
-    ensures { (result ≡ length (table_bytes (table_in listing.now at))) × (out.new ≡ sets out.old to (table_bytes (table_in listing.now at))) }
+// Writes the bytes of the table that the numbers begin with, from the first byte on. Answers how many they are.
+fn lay_table(listing: &[u16], out: &mut [u8]) -> usize
+    requires { TableLays listing.now out.old }
+    ensures { (result ≡ length (table_bytes (table_in listing.now 0))) × (out.new ≡ sets out.old 0 (table_bytes (table_in listing.now 0))) }
 {
-    let arity = usize::from(listing[at]);
-    let count = usize::from(listing[at + 1 + arity]);
-    narrow(&listing[at..at + 1 + arity], out, to);
-    out[to + 1 + arity] = (count % 256) as u8;
-    out[to + 2 + arity] = (count / 256) as u8;
-    let codes = count * arity;
-    let first = at + 2 + arity;
-    narrow(&listing[first..first + codes], out, to + 3 + arity);
+    // (d) Places reckoned by hand: a `Table` is a view of a book's bytes, and these numbers are not yet any.
+    let arity = usize::from(listing[0]);
+    let rows = listing[1 + arity];
+    let codes = usize::from(rows) * arity;
+    narrow(&listing[..1 + arity], &mut out[..1 + arity]);
+    out[1 + arity..3 + arity].copy_from_slice(&rows.to_le_bytes());
+    narrow(
+        &listing[2 + arity..2 + arity + codes],
+        &mut out[3 + arity..3 + arity + codes],
+    );
     3 + arity + codes
 }
 
@@ -45,28 +46,11 @@ fn lay_tables(listing: &[u16], first: usize, tables: usize, out: &mut [u8]) -> u
     let mut at = first;
     let mut to = 0;
     for _ in 0..tables {
-        let n = lay_table(listing, at, out, to);
+        let n = lay_table(&listing[at..], &mut out[to..]);
         at += n - 1;
         to += n;
     }
     to
-}
-
-// The trailer's bytes.
-fn trailer_of(list: usize, fields: usize, tables: usize, version: usize) -> [u8; 6]
-    requires { TrailerLays list fields tables version }
-    ensures { result ≡ trailer list fields tables version }
-{
-    let low = (list % 256) as u8;
-    let high = (list / 256) as u8;
-    [
-        low,
-        high,
-        fields as u8,
-        tables as u8,
-        version as u8,
-        CLOSING_BYTE,
-    ]
 }
 
 // Writes the bytes of a listing that fits, from the first byte on. Answers how many they are.
@@ -76,11 +60,11 @@ pub(crate) fn lay_out(listing: &[u16], out: &mut [u8]) -> usize
 {
     let fields = usize::from(listing[0]);
     let tables = usize::from(listing[1 + fields]);
-    let version = usize::from(listing[listing.len() - 1]);
     let list = lay_tables(listing, 2 + fields, tables, out);
-    narrow(&listing[1..1 + fields], out, list);
     let end = list + fields;
-    let trailer = trailer_of(list, fields, tables, version);
+    narrow(&listing[1..1 + fields], &mut out[list..end]);
+    let version = listing[listing.len() - 1] as u8;
+    let trailer = book::trailer(list as u16, fields as u8, tables as u8, version);
     out[end..end + 6].copy_from_slice(&trailer);
     end + 6
 }

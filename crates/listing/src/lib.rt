@@ -29,7 +29,7 @@ pub fn show(bytes: &[u8], out: &mut [u16]) -> Result<usize, ShowRefusal>
 }
 
 // Writes the bytes of the book that a listing says, and answers how many they are. They are laid out and checked apart from the memory lent, so that
-// a refusal leaves it.
+// a refusal leaves it. (a) They stand first in an array, since there is no heap.
 pub fn write(listing: &[u16], out: &mut [u8]) -> Result<usize, WriteRefusal>
     ensures answer { wrote result out.new ≡ writing listing.now out.old }
     ensures listing { (wrote result out.new).outcome.number ≢ 20 ↔ HasListing listing.now }
@@ -39,6 +39,7 @@ pub fn write(listing: &[u16], out: &mut [u8]) -> Result<usize, WriteRefusal>
     }
     let mut scratch = [0u8; BOOK_LIMIT];
     let n = layout::lay_out(listing, &mut scratch);
+    // By `let .. else`, the form that document 01 names for the writer.
     let Ok(_) = Book::open(&scratch[..n]) else {
         return Err(WriteRefusal::Listing);
     };

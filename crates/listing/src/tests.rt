@@ -17,31 +17,16 @@ fn all_bytes(numbers: &[u16]) -> bool
 }
 
 // The place behind the table at `at`, if it can be laid out. Its number of rows has two bytes, as each number of the listing.
+// (d) Its places are reckoned by hand, from `at` on: a `Table` is a view of a book's bytes, and these numbers are not yet any.
 fn table(listing: &[u16], at: usize) -> Option<usize>
     ensures { result ≡ pick (table_fits listing.now at) (Some (table_end_in listing.now at)) None }
 {
-    let n = listing.len();
-    if n <= at {
-        return None;
-    }
-    let arity = usize::from(listing[at]);
+    let arity = usize::from(*listing.get(at)?);
     let count = at + 1 + arity;
-    if n <= count {
-        return None;
-    }
-    let rows = usize::from(listing[count]);
-    let first = at + 2 + arity;
-    let end = first + rows * arity;
-    if n < end {
-        return None;
-    }
-    if !all_bytes(&listing[at..count]) {
-        return None;
-    }
-    if !all_bytes(&listing[first..end]) {
-        return None;
-    }
-    Some(end)
+    let rows = usize::from(*listing.get(count)?);
+    let end = count + 1 + rows * arity;
+    let codes = listing.get(count + 1..end)?;
+    (all_bytes(&listing[at..count]) && all_bytes(codes)).then_some(end)
 }
 
 // The tables from `at` on, with one number behind them, the version.
@@ -55,10 +40,7 @@ fn tables(listing: &[u16], at: usize, count: usize) -> bool
         };
         next = end;
     }
-    if listing.len() <= next {
-        return false;
-    }
-    listing.len() - next == 1
+    next < listing.len() && listing.len() - next == 1
 }
 
 // The whole listing. Each table has one byte more than numbers, and the trailer three more than the numbers of fields and of tables and
@@ -67,29 +49,18 @@ pub(crate) fn fits(listing: &[u16]) -> bool
     ensures { result ≡ fits listing.now }
 {
     let n = listing.len();
-    if n < 3 {
-        return false;
-    }
-    if BYTE_LIMIT < listing[0] {
+    // (d) Two tests return, since each lets a number be read on which the rest stands.
+    if n < 3 || BYTE_LIMIT < listing[0] {
         return false;
     }
     let fields = usize::from(listing[0]);
-    if n < 3 + fields {
-        return false;
-    }
     let count = 1 + fields;
-    if BYTE_LIMIT < listing[count] {
+    if n < 3 + fields || BYTE_LIMIT < listing[count] {
         return false;
     }
     let number = usize::from(listing[count]);
-    if BOOK_LIMIT < n + number + 3 {
-        return false;
-    }
-    if BYTE_LIMIT < listing[n - 1] {
-        return false;
-    }
-    if !all_bytes(&listing[1..count]) {
-        return false;
-    }
-    tables(listing, 2 + fields, number)
+    n + number + 3 <= BOOK_LIMIT
+        && listing[n - 1] <= BYTE_LIMIT
+        && all_bytes(&listing[1..count])
+        && tables(listing, 2 + fields, number)
 }

@@ -4,7 +4,9 @@ use Prim.Native.Nat.{◌+◌, ◌-◌, ◌≤◌}
 use lib.ListN.{length}
 use lib.Seq.{sets}
 use native.Mathlib.Omega.{arith}
-use Rattle.listing.proofs.Fitted.{fitted, fields_within, lay_tables, lay_size, lay_counts, lay_last, counts_run, all_stored}
+use borrow.Rule.Slice.PartMut.{put_mid}
+use Rattle.format.specs.Writing.{book_limit}
+use Rattle.listing.proofs.Fitted.{fitted, fields_within, lay_tables, lay_size, lay_counts, lay_last, counts_laid, counts_long, all_stored}
 use Rattle.listing.proofs.Showing.{part_stored}
 use Rattle.listing.proofs.layout.lay_out.Goals as goal
 
@@ -14,8 +16,8 @@ bounds-listing-0 c = omega (arith, fields_within c.args.listing.now _ _ refl ref
 pub bounds-listing-fields : goal.bounds-listing-fields
 bounds-listing-fields c = omega (arith, fields_within c.args.listing.now _ _ c.from-fields.ensures refl (fitted c.args.listing.now c.requires.0).whole)
 
-pub overflow_sub-listing : goal.overflow_sub-listing
-overflow_sub-listing c = omega (arith, fields_within c.args.listing.now _ _ c.from-fields.ensures refl (fitted c.args.listing.now c.requires.0).whole)
+pub overflow_sub-version : goal.overflow_sub-version
+overflow_sub-version c = omega (arith, fields_within c.args.listing.now _ _ c.from-fields.ensures refl (fitted c.args.listing.now c.requires.0).whole)
 
 pub bounds-listing-listing : goal.bounds-listing-listing
 bounds-listing-listing c = omega (arith, fields_within c.args.listing.now _ _ c.from-fields.ensures refl (fitted c.args.listing.now c.requires.0).whole)
@@ -31,36 +33,48 @@ narrow-requires-clause-bytes c =
     let d : 1 + c.from-fields.result - 1 ≡ c.from-fields.result = omega arith in
     rw d (lay_counts c.args.listing.now _ _ c.from-fields.ensures c.from-tables.ensures (fitted c.args.listing.now c.requires.0) _ c.lay_tables-list.ensures.0 c.args.out.now c.requires.1).2
 
-pub narrow-requires-clause-room : goal.narrow-requires-clause-room
-narrow-requires-clause-room c =
-    let d : 1 + c.from-fields.result - 1 ≡ c.from-fields.result = omega arith in
-    rw d
-    (omega (arith, counts_run c.args.listing.now _ _ c.from-fields.ensures c.from-tables.ensures (fitted c.args.listing.now c.requires.0).whole, (lay_counts c.args.listing.now _ _ c.from-fields.ensures c.from-tables.ensures (fitted c.args.listing.now c.requires.0) _ c.lay_tables-list.ensures.0 c.args.out.now c.requires.1).1))
+pub slice_bounds-narrow-end-2 : goal.slice_bounds-narrow-end-2
+slice_bounds-narrow-end-2 c =
+    omega (arith, (lay_counts c.args.listing.now _ _ c.from-fields.ensures c.from-tables.ensures (fitted c.args.listing.now c.requires.0) _ c.lay_tables-list.ensures.0 c.args.out.now c.requires.1).1, c.lay_tables-list.auto.out)
 
 pub overflow_add-end : goal.overflow_add-end
 overflow_add-end c = omega (arith, lay_size c.args.listing.now _ _ c.from-fields.ensures c.from-tables.ensures (fitted c.args.listing.now c.requires.0) _ c.lay_tables-list.ensures.0, (fitted c.args.listing.now c.requires.0).short)
 
-pub trailer_of-trailer-requires : goal.trailer_of-trailer-requires
-trailer_of-trailer-requires c = lay_last c.args.listing.now _ _ c.from-fields.ensures c.from-tables.ensures (fitted c.args.listing.now c.requires.0) _ c.lay_tables-list.ensures.0 _ c.from-version.ensures
+pub overflow_cast-list : goal.overflow_cast-list
+overflow_cast-list c = omega (arith, lay_last c.args.listing.now _ _ c.from-fields.ensures c.from-tables.ensures (fitted c.args.listing.now c.requires.0) _ c.lay_tables-list.ensures.0)
+
+pub overflow_cast-fields : goal.overflow_cast-fields
+overflow_cast-fields c = omega (arith, lay_last c.args.listing.now _ _ c.from-fields.ensures c.from-tables.ensures (fitted c.args.listing.now c.requires.0) _ c.lay_tables-list.ensures.0)
+
+pub overflow_cast-tables : goal.overflow_cast-tables
+overflow_cast-tables c = omega (arith, lay_last c.args.listing.now _ _ c.from-fields.ensures c.from-tables.ensures (fitted c.args.listing.now c.requires.0) _ c.lay_tables-list.ensures.0)
+
+pub overflow_cast-version : goal.overflow_cast-version
+overflow_cast-version c = omega (arith, lay_last c.args.listing.now _ _ c.from-fields.ensures c.from-tables.ensures (fitted c.args.listing.now c.requires.0) _ c.lay_tables-list.ensures.0)
 
 pub slice_bounds-copy_from_slice-end : goal.slice_bounds-copy_from_slice-end
 slice_bounds-copy_from_slice-end c =
-    let h = lay_size c.args.listing.now _ _ c.from-fields.ensures c.from-tables.ensures (fitted c.args.listing.now c.requires.0) _ c.lay_tables-list.ensures.0 in
-    let s = (fitted c.args.listing.now c.requires.0).short in
-    let room : c.lay_tables-list.result + c.from-fields.result + 6 ≤ length c.narrow.new.out = omega arith in
-    room
+    let j : 1 + c.from-fields.result - 1 ≡ c.from-fields.result = omega arith in
+    let k : c.lay_tables-list.result + c.from-fields.result - c.lay_tables-list.result ≡ c.from-fields.result = omega arith in
+    let long : book_limit ≤ length c.lay_tables-list.new.out = omega (arith, c.requires.1, c.lay_tables-list.auto.out) in
+    let same = counts_long c.args.listing.now _ _ c.from-fields.ensures c.from-tables.ensures (fitted c.args.listing.now c.requires.0) _ c.lay_tables-list.ensures.0 c.lay_tables-list.new.out c.narrow.new.out _ _ long j k c.narrow.ensures in
+    let size = lay_size c.args.listing.now _ _ c.from-fields.ensures c.from-tables.ensures (fitted c.args.listing.now c.requires.0) _ c.lay_tables-list.ensures.0 in
+    omega (arith, long, same, size, (fitted c.args.listing.now c.requires.0).short)
 
 pub returns : goal.returns
 returns c =
-    let d : 1 + c.from-fields.result - 1 ≡ c.from-fields.result = omega arith in
-    let h = lay_size c.args.listing.now _ _ c.from-fields.ensures c.from-tables.ensures (fitted c.args.listing.now c.requires.0) _ c.lay_tables-list.ensures.0 in
-    let s = (fitted c.args.listing.now c.requires.0).short in
-    let room : c.lay_tables-list.result + c.from-fields.result + 6 ≤ length c.narrow.new.out = omega arith in
-    let e = c.lay_tables-list.result + c.from-fields.result in
-    let six : e + 6 - e ≡ 6 = omega arith in
-    let u = c.copy_from_slice.ensures.after ∙ c.trailer_of-trailer.ensures in (
-      sym h,
+    let j : 1 + c.from-fields.result - 1 ≡ c.from-fields.result = omega arith in
+    let k : c.lay_tables-list.result + c.from-fields.result - c.lay_tables-list.result ≡ c.from-fields.result = omega arith in
+    let long : book_limit ≤ length c.lay_tables-list.new.out = omega (arith, c.requires.1, c.lay_tables-list.auto.out) in
+    let same = counts_long c.args.listing.now _ _ c.from-fields.ensures c.from-tables.ensures (fitted c.args.listing.now c.requires.0) _ c.lay_tables-list.ensures.0 c.lay_tables-list.new.out c.narrow.new.out _ _ long j k c.narrow.ensures in
+    let size = lay_size c.args.listing.now _ _ c.from-fields.ensures c.from-tables.ensures (fitted c.args.listing.now c.requires.0) _ c.lay_tables-list.ensures.0 in
+    let end = c.lay_tables-list.result + c.from-fields.result in
+    let six : end + 6 - end ≡ 6 = omega arith in
+    let laid = put_mid c.lay_tables-list.result (end - c.lay_tables-list.result) c.lay_tables-list.new.out c.narrow.new.out in
+    let room : end + 6 ≤ length laid = omega (arith, long, same, size, (fitted c.args.listing.now c.requires.0).short) in
+    let u = c.copy_from_slice.ensures.after ∙ c.trailer-trailer.ensures in (
+      sym size,
       rw six
-          (part_stored c.narrow.new.out c.copy_from_slice.new.self e 6 (ap length u) room
-          ∙ all_stored c.args.listing.now _ _ c.from-fields.ensures c.from-tables.ensures (fitted c.args.listing.now c.requires.0) _ c.lay_tables-list.ensures.0 _ c.from-version.ensures _ _ _ _ c.lay_tables-list.ensures.1 (rw d at c.narrow.ensures) (ap (sets c.narrow.new.out e) u)),
+          (part_stored laid c.copy_from_slice.new.self end 6 (ap length u) room
+          ∙ all_stored c.args.listing.now _ _ c.from-fields.ensures c.from-tables.ensures (fitted c.args.listing.now c.requires.0) _ c.lay_tables-list.ensures.0 _ _ _ _ c.lay_tables-list.ensures.1 (counts_laid c.args.listing.now _ _ c.from-fields.ensures c.from-tables.ensures (fitted c.args.listing.now c.requires.0) _ c.lay_tables-list.ensures.0 c.lay_tables-list.new.out c.narrow.new.out _ _ long j k c.narrow.ensures) (ap (sets laid end) u)),
     )

@@ -5,4 +5,4 @@ use lib.Seq.{sets}
 use Rattle.listing.proofs.layout.narrow.Given as goal
 
 abbrev pub invariant-loop-i : goal.invariant-loop-i
-invariant-loop-i l = l.out ≡ sets l.initial.out l.to (take l.i l.numbers)
+invariant-loop-i l = l.out ≡ sets l.initial.out 0 (take l.i l.numbers)

@@ -13,4 +13,4 @@ invariant-loop-table l =
     (l.table-iterator.book ≡ l.book)
     × (l.to + length (tables_numbers (drop l.table-iterator.index (book_of l.book.bytes.now).tables)) ≤ length l.out)
     × (sets l.out l.to (tables_numbers (drop l.table-iterator.index (book_of l.book.bytes.now).tables))
-    ≡ sets l.initial.out l.first (tables_numbers (book_of l.book.bytes.now).tables))
+    ≡ sets l.initial.out 0 (tables_numbers (book_of l.book.bytes.now).tables))

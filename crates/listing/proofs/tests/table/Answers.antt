@@ -1,24 +1,45 @@
 -- `listing::tests::table` meets its contract: each way through the tests. Assumes nothing.
-use Prim.Native.Nat.{◌+◌}
+use mathlib.Core.Path.{◌≡◌, sym, ◌∙◌}
+use Prim.Native.Nat.{◌+◌, ◌-◌, ◌*◌}
+use native.Mathlib.Nat.{le_refl}
 use Rattle.listing.proofs.Laying.{end_in}
-use Rattle.listing.proofs.Testing.{stop_end, stop_head, stop_codes, next_table}
+use Rattle.listing.proofs.Testing.{stop_end, table_tested}
 use native.Mathlib.Omega.{arith}
+use Rattle.listing.proofs.tests.table.Goals.{then-all_bytes, else-all_bytes}
 use Rattle.listing.proofs.tests.table.Goals as goal
 
-pub returns-then-n-at : goal.returns-then-n-at
-returns-then-n-at c = stop_end c.args.listing.now c.args.at (omega arith)
+pub returns-in_err-get : goal.returns-in_err-get
+returns-in_err-get c = c.from_residual.ensures ∙ stop_end c.args.listing.now c.args.at (omega (arith, (rw c.in_err-get.was at c.get.ensures.lookup).3))
 
-pub returns-then-n-count : goal.returns-then-n-count
-returns-then-n-count c = stop_end c.args.listing.now c.args.at (omega (arith, c.from-arity.ensures))
+pub returns-in_err-get-2 : goal.returns-in_err-get-2
+returns-in_err-get-2 c =
+    let ea = c.from-arity.ensures ∙ (rw c.in_ok-get.was at c.get.ensures.lookup).4 (le_refl c.args.at) 0 in
+    c.from_residual-in_err-get-2.ensures ∙ stop_end c.args.listing.now c.args.at (omega (arith, ea, (rw c.in_err-get-2.was at c.get-2.ensures.lookup).3))
 
-pub returns-then-n-end : goal.returns-then-n-end
-returns-then-n-end c = stop_end c.args.listing.now c.args.at (omega (arith, end_in c.args.listing.now c.args.at _ _ c.from-arity.ensures c.from-rows.ensures, c.if-n-end.true))
-
-pub returns-then-not-all_bytes : goal.returns-then-not-all_bytes
-returns-then-not-all_bytes c = stop_head c.args.listing.now c.args.at _ _ c.from-arity.ensures c.from-rows.ensures (omega (arith, c.from-rows.ensures, c.type_inv.listing (c.args.at + 1 + c.from-arity.result))) c.if-n-end.false _ c.all_bytes.ensures c.if-not-all_bytes.true
-
-pub returns-then-not-all_bytes-2 : goal.returns-then-not-all_bytes-2
-returns-then-not-all_bytes-2 c = stop_codes c.args.listing.now c.args.at _ _ c.from-arity.ensures c.from-rows.ensures (omega (arith, c.from-rows.ensures, c.type_inv.listing (c.args.at + 1 + c.from-arity.result))) c.if-n-end.false _ c.all_bytes.ensures c.if-not-all_bytes.false _ c.all_bytes-2.ensures c.if-not-all_bytes-2.true
+pub returns-in_err-codes : goal.returns-in_err-codes
+returns-in_err-codes c =
+    let ea = c.from-arity.ensures ∙ (rw c.in_ok-get.was at c.get.ensures.lookup).4 (le_refl c.args.at) 0 in
+    let en = c.from-rows.ensures ∙ (rw c.in_ok-get-2.was at c.get-2.ensures.lookup).4 (le_refl _) 0 in
+    c.from_residual-in_err-codes.ensures
+    ∙ stop_end c.args.listing.now c.args.at (omega (arith, end_in c.args.listing.now c.args.at _ _ ea en, (rw c.in_err-codes.was at c.get-3.ensures.lookup).0))
 
 pub returns : goal.returns
-returns c = next_table c.args.listing.now c.args.at _ _ c.from-arity.ensures c.from-rows.ensures (omega (arith, c.from-rows.ensures, c.type_inv.listing (c.args.at + 1 + c.from-arity.result))) c.if-n-end.false _ c.all_bytes.ensures c.if-not-all_bytes.false _ c.all_bytes-2.ensures c.if-not-all_bytes-2.false
+returns c =
+    let l = c.args.listing.now in
+    let at = c.args.at in
+    let a = c.from-arity.result in
+    let n = c.from-rows.result in
+    let ea = c.from-arity.ensures ∙ (rw c.in_ok-get.was at c.get.ensures.lookup).4 (le_refl at) 0 in
+    let en = c.from-rows.ensures ∙ (rw c.in_ok-get-2.was at c.get-2.ensures.lookup).4 (le_refl _) 0 in
+    let found = (rw c.in_ok-codes.was at c.get-3.ensures.lookup).0 in
+    let d₁ : at + 1 + a - at ≡ 1 + a = omega arith in
+    let d₂ : at + 1 + a + 1 + n * a - (at + 1 + a + 1) ≡ n * a = omega arith in
+    let d₃ : at + 1 + a + 1 ≡ at + 2 + a = omega arith in
+    let head = rw d₁ at c.all_bytes.ensures in
+    let codes = rw (d₂, d₃) at found.2 in
+    c.then_some.ensures
+    ∙ table_tested l at a n _ ea en (omega (arith, en, c.type_inv.listing (at + 1 + a))) (omega arith) found.1 _
+    (elim c.if-all_bytes.branch [
+      | then-all_bytes w ↦ rw (← codes, sym head ∙ w.if-all_bytes.true, w.then_some-is) w.all_bytes-then-all_bytes.ensures
+      | else-all_bytes w ↦ rw (sym head ∙ w.if-all_bytes.false, w.then_some-is) w.if-all_bytes.false
+    ])

@@ -14,9 +14,8 @@ loop-preserved c =
     let k : c.args.count - c.loop.counter ≡ suc (c.args.count - (c.loop.counter + 1)) = omega arith in
     fit_next c.args.listing.now c.loop.next _ _ k _ (sym c.in-Some.is ∙ c.table.ensures) ∙ c.loop.invariant
 
-pub returns-then-listing-next : goal.returns-then-listing-next
-returns-then-listing-next c =
-    fit_short c.args.listing.now c.loop.next (c.args.count - c.loop.counter) (omega arith) c.if-listing-next.true ∙ c.loop.invariant
+pub returns-then-next-listing : goal.returns-then-next-listing
+returns-then-next-listing c = fit_end c.args.listing.now c.loop.next (c.args.count - c.loop.counter) (omega arith) c.if-next-listing.true ∙ c.loop.invariant
 
-pub returns : goal.returns
-returns c = fit_end c.args.listing.now c.loop.next (c.args.count - c.loop.counter) (omega arith) c.if-listing-next.false ∙ c.loop.invariant
+pub returns-else-next-listing : goal.returns-else-next-listing
+returns-else-next-listing c = fit_short c.args.listing.now c.loop.next (c.args.count - c.loop.counter) (omega arith) c.if-next-listing.false ∙ c.loop.invariant
