@@ -11,7 +11,7 @@ use lib.ListN.{length, get_or, take, set, length-set, length-map}
 use lib.Seq.{take-suc, take_all, get_or-set_same, get_or-set_other, get_or-take, length-take-le, ext_get_or}
 use Rattle.std.specs.Prelude.{Option, Some, None}
 use Rattle.format.specs.Basics.{In}
-use Rattle.format.specs.Format.{arity_at, table_count, table_at, book_of, part}
+use Rattle.format.specs.Format.{table_count, table_at, book_of}
 use Rattle.format.proofs.Views.{no_table, tables_count, table_view}
 use Rattle.book.specs.View.{TableIn}
 use Rattle.book.proofs.WalkSteps.{stepped, walked}
@@ -19,7 +19,6 @@ use Rattle.book.specs.Walk.{GivesTable}
 use Rattle.book.specs.declared.view.Book.{Book}
 use Rattle.book.specs.declared.view.Table.{Table}
 use Rattle.book.specs.declared.view.Tables.{Tables}
-use Rattle.words.specs.RowWord.{row_word}
 use Rattle.joining.specs.Words.{key_of, Least, LesserIs}
 use Rattle.joining.specs.Heads.{no_head, HeadOf, HeadsOf}
 use Rattle.joining.specs.declared.heads.Head.{Head}
@@ -137,18 +136,17 @@ heads_end s hs n i v e h l =
     }
 
 -- the head of a table, as it is read
-pub head_read : (s : List ℕ) (i at a p n : ℕ) → TableIn s i at a p n → (key : ℕ) → key ≡ row_word (part s (at + 1) a) → HeadOf s i (record { key = key; at = at })
-unfolding table_at
+pub head_read : (s : List ℕ) (i at a p n : ℕ) → TableIn s i at a p n → (key : ℕ) → key ≡ key_of (table_at s at) → HeadOf s i (record { key = key; at = at })
 head_read s i at a p n t key e =
     record {
-      key = e ∙ ap (λ (x : ℕ). row_word (part s (at + 1) x)) t.arity_is ∙ ap (λ (q : ℕ). row_word (part s (q + 1) (arity_at s q))) t.table.at_is;
+      key = e ∙ ap (λ (q : ℕ). key_of (table_at s q)) t.table.at_is;
       at = t.table.at_is;
     }
 
 -- a table as the walk gives it
 module _ (b : Book) (old new : Tables) (same : old.book ≡ b) where
   pub gathered : (table : Table) → GivesTable old (Some table) new → (hs : List Head) → HeadsTo b.bytes.now hs old.index → (key : ℕ)
-      → key ≡ row_word (part table.bytes.now (table.at + 1) table.arity)
+      → key ≡ key_of (table_at table.bytes.now table.at)
       → (new.book ≡ b) × HeadsTo b.bytes.now (set hs table.index (record { key = key; at = table.at })) new.index
   gathered table g hs v key e =
       let w = stepped b old new same table g in

@@ -4,7 +4,7 @@ use mathlib.Core.Logic.{inl, inr, ⊎_elim}
 use mathlib.Core.List.{List, [], ◌∷◌, ◌++◌}
 use Prim.Native.Nat.{ℕ, ◌≤◌, ◌<◌}
 use native.Mathlib.Omega.{arith}
-use lib.ListN.{length, take, drop, length-append}
+use lib.ListN.{length, take, drop}
 use Rattle.std.specs.Prelude.{Result, Ok, Err}
 use Rattle.std.specs.Borrow.{Bor}
 use Rattle.format.specs.Format as format
@@ -18,14 +18,13 @@ use Rattle.format.proofs.Replies.{into_short, into_whole}
 use Rattle.format.proofs.Verdict.{promise_verdict}
 use Rattle.book.specs.declared.view.Book.{Book}
 use Rattle.joining.specs.Puts.{Put}
-use Rattle.joining.specs.Ends.{EndFits}
 use Rattle.joining.specs.Laid.{both_tables, AllLaid, LaidOut}
 use Rattle.joining.specs.Answers.{joined_by, JoinedIn}
 use Rattle.joining.specs.declared.lay.Over.{Over}
 use Rattle.joining.specs.declared.refusals.JoinRefusal.{JoinRefusal}
 use Rattle.joining.specs.declared.refusals.JoinRefusal.TheVariants.{Limit}
 use Rattle.std.specs.Result.{result_unwrap_or}
-use Rattle.joining.proofs.Ending.{list_long, list_few}
+use Rattle.book.proofs.FieldList.{list_long}
 
 -- ---- handing out
 
@@ -54,11 +53,8 @@ module _ (b c : Book) (same : (book_of c.bytes.now).counts ≡ (book_of b.bytes.
         (λ (h : length o < book_limit). inl (omega arith)) l,
   )
 
-  -- its tables are laid out: there is room for what stands behind them
+  -- its tables are laid out
   module _ (end count : ℕ) (o : List ℕ) (l : AllLaid tables end count o) where
-    pub end_fits : EndFits (length o) end count
-    end_fits = record { room_in = l.room; end_in = l.end_in; tables_few = omega (arith, l.tables_is, l.few) }
-
     -- and behind them its field list and trailer
     module _ (o' : List ℕ) (n : ℕ) (p : Put o end ((book_of b.bytes.now).counts ++ trailer end b.fields count 2) o' n) where
       bytes_are : take n o' ≡ encode whole
@@ -68,18 +64,6 @@ module _ (b c : Book) (same : (book_of c.bytes.now).counts ≡ (book_of b.bytes.
           ∙ ap (λ (z : List ℕ). tables_bytes tables ++ ((book_of b.bytes.now).counts ++ z))
           (ap₂ (λ (x y : ℕ). trailer x y count 2) l.end_is (sym (list_long b))
           ∙ ap (λ (x : ℕ). trailer (length (tables_bytes tables)) (length (book_of b.bytes.now).counts) x 2) l.tables_is)
-
-      pub end_within : n ≤ length o'
-      end_within =
-          omega (
-            arith,
-            p.behind,
-            p.long,
-            l.room,
-            length-append (book_of b.bytes.now).counts (trailer end b.fields count 2),
-            list_long b,
-            list_few b,
-          )
 
       -- and handed out
       pub handed : (out out' : List ℕ) (r : Result ℕ JoinRefusal) → joined_by r out' ≡ into (take n o') out

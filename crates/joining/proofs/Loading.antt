@@ -9,15 +9,15 @@ use lib.Dec.{eqb}
 use borrow.Author.Tests.{eqb-true, eq-eqb}
 use Rattle.std.specs.Borrow.{Bor}
 use Rattle.format.specs.Basics.{pick}
-use Rattle.format.specs.Format.{arity_at, first_row, table_at, rows_at, row_limit, row_total, book_of}
+use Rattle.format.specs.Format.{table_at, rows_at, row_limit, row_total, book_of}
 use Rattle.format.specs.Promise.{place}
 use Rattle.format.proofs.Views.{rows_count}
 use Rattle.book.specs.View.{TableIn}
 use Rattle.book.specs.declared.view.Book.{Book}
 use Rattle.book.specs.declared.view.Table.{Table as View}
-use Rattle.book.proofs.TableRows.{rows_within}
+use Rattle.book.proofs.TableRows.{rows_within, view_words}
 use Rattle.words.specs.Sorting.{times, Permuted, NeverFalls, Judged, Sorted, most}
-use Rattle.words.specs.RowWord.{row_word, words_at}
+use Rattle.words.specs.RowWord.{row_word}
 use Rattle.joining.specs.Words.{table_words}
 use Rattle.joining.specs.Sets.{HeldTo, SetOf}
 
@@ -68,17 +68,10 @@ set_stands xs xs' n ws e t = subst (λ (z : List ℕ). SetOf z n ws) e t
 
 -- ---- a table's rows
 
--- its words, and where they stand
-pub view_words : (s : List ℕ) (i at a p n : ℕ) → TableIn s i at a p n → table_words (table_at s at) ≡ words_at s a p n
-unfolding table_at
-view_words s i at a p n t =
-    sym
-    (ap (λ (x : ℕ). words_at s x p n) t.arity_is ∙ ap (λ (x : ℕ). words_at s (arity_at s at) x n) t.first_is
-    ∙ ap (words_at s (arity_at s at) (first_row s at)) t.rows_is)
-
+-- as many words as it has rows
 pub view_long : (s : List ℕ) (i at a p n : ℕ) → TableIn s i at a p n → length (table_words (table_at s at)) ≡ n
 view_long s i at a p n t =
-    ap length (view_words s i at a p n t) ∙ length-map (rows_at s a p n) row_word ∙ rows_count s a p n
+    ap length (view_words t) ∙ length-map (rows_at s a p n) row_word ∙ rows_count s a p n
 
 -- a table of a book's view has no more rows than the book, and is the one at its place
 pub rows_in_book : (b : Book) (t : View) → t.bytes ≡ b.bytes → t.rows ≤ b.rows

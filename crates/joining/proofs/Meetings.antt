@@ -53,23 +53,6 @@ module _ (s os ws : List ℕ) (n i j : ℕ) (rs : RisesTo (length s) s) (ro : Ri
       at (yes q) = omega (arith, v.passed p.place i q (omega arith) in_s, p.there)
       at (no q) = omega (arith, rises_le (length os) os ro j p.place (omega arith) p.within, p.there, here)
 
-  pub met_less : get_or ws i 0 < get_or os j 0 → Met s os ws n (i + 1) j
-  met_less h =
-      record {
-        long = v.long;
-        few = omega (arith, v.few);
-        in_words = omega (arith, in_s);
-        in_others = v.in_others;
-        rest = λ k g. v.rest k (omega arith);
-        passed = λ k q a b c. v.passed k q a (omega arith) c;
-        below = λ k q a b c. v.below k q a (omega arith) c;
-        rises = v.rises;
-        out = λ w p. (held_more (omega arith) (v.out w p).0, (v.out w p).1);
-        back = λ w p q.
-            next_held w p (λ r. v.back w r q)
-            (λ e. absurd (absent h (record { place = q.place; within = q.within; there = q.there ∙ e })));
-      }
-
   pub met_more : get_or os j 0 < get_or ws i 0 → Met s os ws n i (j + 1)
   met_more h =
       record {

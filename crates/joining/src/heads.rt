@@ -32,7 +32,7 @@ pub(crate) fn gather_heads(book: Book<'_>, heads: &mut [Head; TABLE_LIMIT])
 {
     for table in book.tables() {
         heads[table.index] = Head {
-            key: book::row_word(table.bytes, table.at + 1, table.arity),
+            key: table.key(),
             at: table.at as u32,
         };
     }

@@ -32,7 +32,7 @@ pub(crate) struct Both<'a, 'h, const ROWS: usize> {
 }
 
 impl<'a, 'h, const ROWS: usize> Both<'a, 'h, ROWS> {
-    // A function of its own: here the heads of both come to one lifetime.
+    // (c) A function of its own: the heads are lent for different lifetimes, and the check refuses a literal that would bring them to one.
     pub(crate) fn of(
         first: Headed<'a, 'h, ROWS>,
         second: Headed<'a, 'h, ROWS>,

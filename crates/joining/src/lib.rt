@@ -31,7 +31,8 @@ const FEW: usize = 64;
 // The bytes that are kept for the joined book then.
 const SMALL: usize = 1024;
 
-// 18, or else the bytes laid out.
+// Copies the bytes laid out to the memory lent for the answer, or answers 18 where that is too short. (a) They are laid out elsewhere and
+// copied whole, since that memory is the caller's and a refusal leaves it.
 fn hand_out(laid: &[u8], out: &mut [u8]) -> Result<usize, JoinRefusal>
     ensures { joined_by result out.new ≡ into laid.now out.old }
 {
@@ -45,6 +46,7 @@ fn hand_out(laid: &[u8], out: &mut [u8]) -> Result<usize, JoinRefusal>
 
 // 18, or else the bytes of two books with the same field list, with memory of its own for so many rows of each and so many bytes; or that
 // a limit is broken, or that there is no room. The bytes are laid out apart from the memory lent, so that a refusal leaves it.
+// (a) They stand first in an array, since there is no heap.
 #[inline(never)]
 fn join_in<'a, const ROWS: usize, const BYTES: usize>(
     first: Book<'a>,

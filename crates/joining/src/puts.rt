@@ -4,7 +4,8 @@ ghost use Rattle.format.specs.Format.{table_bytes, flat};
 ghost use Rattle.joining.specs.Words.{four_digits, digits_of, key_arity};
 ghost use Rattle.joining.specs.Puts.{Put, word_table, TableFits};
 
-// These bytes. Answers the place behind them.
+// Copies the bytes to the memory from `at` on, and answers the place behind them.
+// (d) A place beside the memory, here and below: each answer is the place where the next bytes begin, and `&mut laid[at..]` would need it too.
 pub(crate) fn put_bytes(laid: &mut [u8], at: usize, bytes: &[u8]) -> usize
     requires { at + length bytes.now ≤ length laid.old }
     ensures { Put laid.old at bytes.now laid.new result }
@@ -23,6 +24,7 @@ fn put_word(laid: &mut [u8], at: usize, word: u32)
 }
 
 // The rows of arity codes that have these words. Answers the place behind them.
+// (d) Arity and words apart: the table that is laid out is in no book yet, and a `Table` is a view of a book.
 fn put_rows(laid: &mut [u8], at: usize, words: &[u32], arity: usize) -> usize
     requires { (at + length words.now * arity + 4 ≤ length laid.old) × (arity ≤ 4) }
     ensures { Put laid.old at (flat (map (digits_of arity) words.now)) laid.new result }
@@ -40,17 +42,12 @@ fn put_rows(laid: &mut [u8], at: usize, words: &[u32], arity: usize) -> usize
 fn key_arity(key: u32) -> usize
     ensures { result ≡ key_arity key }
 {
-    let [_, second, third, fourth] = key.to_be_bytes();
-    if fourth != 0 {
-        return 4;
+    match key.to_be_bytes() {
+        [_, 0, 0, 0] => 1,
+        [_, _, 0, 0] => 2,
+        [_, _, _, 0] => 3,
+        _ => 4,
     }
-    if third != 0 {
-        return 3;
-    }
-    if second != 0 {
-        return 2;
-    }
-    1
 }
 
 // The table on the set with this key that has these rows. Answers the place behind it.
@@ -59,6 +56,7 @@ pub(crate) fn put_table(laid: &mut [u8], at: usize, key: u32, words: &[u32]) -> 
     ensures { Put laid.old at (table_bytes (word_table key words.now)) laid.new result }
 {
     let arity = key_arity(key);
+    // (b) Two stores at places reckoned here: with `put_bytes` for both, joins of ten rows took a thirtieth longer.
     let [low, high] = (words.len() as u16).to_le_bytes();
     laid[at] = arity as u8;
     put_word(laid, at + 1, key);

@@ -12,6 +12,7 @@ pub(crate) fn keep_once(words: &mut [u32]) -> usize
         return 0;
     }
     let mut n = 1;
+    // (a) By an index: one list is read and written, and the library's `dedup` takes a `Vec`, whose elements lie in a heap.
     for i in 1..words.len() {
         let word = words[i];
         if words[n - 1] != word {
@@ -30,7 +31,7 @@ pub(crate) fn keep_common(words: &mut [u32], others: &[u32]) -> usize
     let mut n = 0;
     let mut i = 0;
     let mut j = 0;
-    // No `for`, which is no plainer here: a turn goes on in the one list, or in the other, or in both.
+    // (d) No `for`, which is no plainer here: a turn goes on in the one list, or in the other, or in both.
     while i < words.len() && j < others.len() {
         let word = words[i];
         let other = others[j];

@@ -1,8 +1,6 @@
 -- `joining::rows::row_set` meets its contract. Assumes nothing.
-use mathlib.Core.Path.{sym, ap, ◌∙◌}
-use Prim.Native.Nat.{ℕ}
-use Rattle.words.specs.RowWord.{words_at}
-use Rattle.joining.proofs.Loading.{sorted_falls, judged_yes, set_sorted, set_stands, view_words}
+use mathlib.Core.Path.{◌∙◌}
+use Rattle.joining.proofs.Loading.{sorted_falls, judged_yes, set_sorted, set_stands}
 use Rattle.book.proofs.TableRows.{rows_few}
 use native.Mathlib.Omega.{arith}
 use Rattle.joining.proofs.rows.row_set.Goals.{then-not-is_sorted, else-not-is_sorted}
@@ -16,10 +14,7 @@ keep_once-requires c = elim c.if-not-is_sorted.branch [
 
 pub returns : goal.returns
 returns c =
-    let e =
-    c.gather.ensures ∙ ap (λ (n : ℕ). words_at c.args.table.bytes.now c.args.table.arity c.args.table.first n) (c.requires)
-    ∙ sym (view_words _ _ _ _ _ _ c.args.table.stands) in
     elim c.if-not-is_sorted.branch [
-      | then-not-is_sorted w ↦ set_sorted _ _ _ _ _ e w.sort.ensures (rw w.words-is at c.keep_once.ensures)
-      | else-not-is_sorted w ↦ set_stands _ _ _ _ (w.words-is ∙ e) c.keep_once.ensures
+      | then-not-is_sorted w ↦ set_sorted _ _ _ _ _ c.gather.ensures w.sort.ensures (rw w.words-is at c.keep_once.ensures)
+      | else-not-is_sorted w ↦ set_stands _ _ _ _ (w.words-is ∙ c.gather.ensures) c.keep_once.ensures
     ]
