@@ -9,7 +9,7 @@ use Rattle.format.specs.Reading.{Outcome}
 use Rattle.book.specs.declared.refusals.Refusal.TheVariants as book
 use Rattle.book.specs.declared.refusals.Refusal.{Refusal}
 use Rattle.sheet.specs.Numbers.{number_of, place_of}
-use Rattle.sheet.specs.Shown.{Counts, shown, shown_nothing, shown_listing, shown_row, shown_reading, counts_of_row, counts_of_reading}
+use Rattle.sheet.specs.Shown.{Counts, shown, shown_listing, shown_row, shown_reading, counts_of_row, counts_of_reading}
 use Rattle.sheet.specs.declared.reasons.Reason.{Reason}
 use Rattle.sheet.specs.declared.reasons.Reason.TheVariants.{Book, Fault, Field, Code, NoAnswer, Room, Length, Table, Photographed, Readings, Form}
 use Rattle.sheet.specs.declared.handed.Alternatives.{Alternatives}
@@ -85,10 +85,6 @@ shown_injective k tells (Ok x) (Ok y) e = ap Ok (tells x y (counts e))
 shown_injective k tells (Ok x) (Err r) e = absurd (omega (arith, numbers e, number_some r))
 shown_injective k tells (Err r) (Ok y) e = absurd (omega (arith, numbers e, number_some r))
 shown_injective k tells (Err r) (Err q) e = ap Err (reason_injective r q (numbers e) (places e))
-
--- the answers of the calls that count nothing
-pub shown_nothing_injective : (x y : Result (Unit {0}) Reason) → shown shown_nothing x ≡ shown shown_nothing y → x ≡ y
-shown_nothing_injective = shown_injective shown_nothing (λ x y e. refl)
 
 -- a number in a list of counts
 at : {x y : List ℕ} (i : ℕ) → x ≡ y → get_or x i 0 ≡ get_or y i 0

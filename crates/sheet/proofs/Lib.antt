@@ -1,6 +1,7 @@
 pub mod Upward
+pub mod CodesOf
 pub mod Fronts
-pub mod Fields
+pub mod MaskLines
 pub mod FieldTurns
 pub mod OwnCases
 pub mod PlainMasks
@@ -13,6 +14,7 @@ pub mod ListCases
 pub mod RowCases
 pub mod LoadCases
 pub mod NearestCases
+pub mod Chunks
 pub mod Replays
 pub mod Replayed
 pub mod Injective

@@ -1,5 +1,5 @@
 -- What is known where book and sheet pass 1 to 14, and what every call on a sheet answers by them. Assumes nothing.
-use mathlib.Core.Path.{◌≡◌, sym, ap, ap₂, subst, ◌∙◌}
+use mathlib.Core.Path.{◌≡◌, sym, ap, subst, ◌∙◌}
 use mathlib.Core.List.{List}
 use Prim.Native.Nat.{ℕ, ◌+◌, ◌≤◌, ◌<◌}
 use native.Mathlib.Omega.{arith}
@@ -9,17 +9,14 @@ use borrow.Author.Tests.{ltb-false}
 use Rattle.std.proofs.Common.{Bor}
 use Rattle.format.specs.Format as format
 use Rattle.format.specs.Format.{code_limit, byte, version_of, book_of}
-use Rattle.format.specs.Reading.{Outcome, refused, Verdict, pass, fail, and_then, verdict, outcome, checking}
+use Rattle.format.specs.Reading.{Verdict, pass, fail, and_then, verdict}
 use Rattle.format.proofs.Limits.{limit_most}
 use Rattle.format.proofs.Picks.{pick_first, pick_second}
 use Rattle.format.proofs.Trailer.{fail≢pass}
 use Rattle.format.proofs.Verdict.{verdict_promise, promise_verdict}
 use Rattle.format.proofs.Views.{counts_count, counts_view}
-use Rattle.book.specs.Numbers.{number_of}
 use Rattle.book.specs.View.{Viewed}
-use Rattle.book.specs.declared.refusals.Refused.{Refused}
 use Rattle.book.specs.declared.view.Book.{Book}
-use Rattle.book.proofs.Injective.{number_some}
 use Rattle.consistency.specs.Consistency.{places, Sheet, codes}
 use Rattle.calls.specs.Calls as calls
 use Rattle.calls.specs.Calls.{turned, fault_of, with_book, fault_then, on_sheet}
@@ -51,12 +48,6 @@ module _ (bytes : List ℕ) (list fields : ℕ) (at : FieldsAt bytes list fields
   -- a field's number of codes stands in the field list
   pub codes_at : (f : ℕ) → f < fields → codes (book_of bytes) f ≡ byte bytes (list + f)
   codes_at f h = counts_view bytes f (omega (arith, at.fields_is)) ∙ ap (λ (l : ℕ). byte bytes (l + f)) (sym at.list_is)
-
-  -- and is at most the limit
-  pub codes_few : (f : ℕ) → f < fields → byte bytes (list + f) ≤ code_limit
-  codes_few f h =
-      let few = ((verdict_promise bytes at.passes).sized f (omega (arith, at.fields_is))).1 in
-      subst (λ (l : ℕ). byte bytes (l + f) ≤ code_limit) (sym at.list_is) few
 
 -- ---- 1 to 13, then 14
 

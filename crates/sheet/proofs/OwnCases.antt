@@ -20,7 +20,8 @@ use Rattle.filter.proofs.CaseMarks.{marks_bit}
 use Rattle.filter.proofs.Agreement.{case_in, case_relaxes}
 use Rattle.filter.proofs.Emptied.{relaxed_empty}
 use Rattle.sheet.specs.Opened.{FieldsAt}
-use Rattle.sheet.specs.Lists.{stands, Passed}
+use Rattle.sheet.specs.Lists.{Passed}
+use Rattle.filter.specs.Words.{stands}
 use Rattle.sheet.proofs.Openings.{fields_few, fields_count}
 
 pub passed : (bytes : List ℕ) (s : Sheet) (M : List ℕ) (empty list fields : ℕ) → FieldsAt bytes list fields → M ≡ marks_of (book_of bytes) (cases_of (book_of bytes) s)

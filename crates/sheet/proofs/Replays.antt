@@ -1,16 +1,19 @@
 -- One turn over the bytes of a list of calls, and its end; the sheet that one call hands back. Assumes nothing.
 use mathlib.Core.Path.{◌≡◌, refl, sym, ap, ◌∙◌}
 use mathlib.Core.Bool.{Bool, true, false}
-use mathlib.Core.List.{List, [], ◌∷◌, ◌++◌}
-use Prim.Native.Nat.{ℕ, ◌<◌}
+use mathlib.Core.List.{List, [], ◌∷◌}
+use Prim.Native.Nat.{ℕ, ◌+◌, ◌*◌, ◌/◌, ◌≤◌, ◌<◌}
 use native.Mathlib.Omega.{arith}
 use lib.Dec.{eqb}
-use lib.ListN.{length, get_or}
+use lib.ListN.{length, get_or, drop}
+use Rattle.std.specs.Simd.{first_chunks}
 use Rattle.format.specs.Basics.{pick}
 use borrow.Author.Tests.{ne_eqb}
 use Rattle.consistency.specs.Consistency.{Sheet}
 use Rattle.calls.specs.Calls.{Result, entered, withdrawn, photographed, cleared}
 use Rattle.calls.specs.Histories.{Call, enter, withdraw, photograph, clear, add_call, calls_in, sheet_through}
+use Rattle.calls.proofs.Written.{calls_next, calls_end}
+use Rattle.sheet.proofs.Chunks.{byte_is, first_is, there, behind}
 
 -- a call, if it is any, and the calls behind it on the sheet that it hands back
 through_call : (bytes : List ℕ) (s : Sheet) (kind f c : ℕ) (calls : List Call)
@@ -28,37 +31,33 @@ through_call bytes s kind f c calls = each (eqb kind 0) (eqb kind 1) (eqb kind 2
     each false false false true = refl
     each false false false false = refl
 
--- three bytes are a call, or none, before the calls behind them
-chunk_next : (x rest : List ℕ) → length x ≡ 3 → calls_in (x ++ rest) ≡ add_call (get_or x 0 0) (get_or x 1 0) (get_or x 2 0) (calls_in rest)
-unfolding calls_in
-chunk_next [] rest e = absurd (omega arith)
-chunk_next (k ∷ []) rest e = absurd (omega arith)
-chunk_next (k ∷ f ∷ []) rest e = absurd (omega arith)
-chunk_next (k ∷ f ∷ c ∷ []) rest e = refl
-chunk_next (k ∷ f ∷ c ∷ d ∷ x) rest e = absurd (omega arith)
+module _ (l : List ℕ) (chunks : List (List ℕ)) (e : chunks ≡ first_chunks 3 (length l / 3) l) (many : length chunks ≡ length l / 3) (i : ℕ) where
+  -- a chunk is a call, or none, before the calls behind it
+  chunk_next : i < length chunks
+      → calls_in (drop (3 * i) l)
+      ≡ add_call (get_or (get_or chunks i []) 0 0) (get_or (get_or chunks i []) 1 0) (get_or (get_or chunks i []) 2 0) (calls_in (drop (3 * (i + 1)) l))
+  chunk_next h =
+      rw (
+        first_is l chunks e many i h,
+        byte_is l chunks e many i h 1 (omega arith),
+        byte_is l chunks e many i h 2 (omega arith),
+        ← behind l chunks e many i h,
+      ) (calls_next l (3 * i) (there l chunks e many i h))
 
--- fewer are none
-no_chunk : (rest : List ℕ) → length rest < 3 → calls_in rest ≡ []
-unfolding calls_in
-no_chunk [] h = refl
-no_chunk (k ∷ []) h = refl
-no_chunk (k ∷ f ∷ []) h = refl
-no_chunk (k ∷ f ∷ c ∷ rest) h = absurd (omega arith)
+  module _ (bytes : List ℕ) (s : Sheet) where
+    -- one call more
+    pub called_on : {r : Sheet} → i < length chunks
+        → r ≡ sheet_through bytes s (add_call (get_or (get_or chunks i []) 0 0) (get_or (get_or chunks i []) 1 0) (get_or (get_or chunks i []) 2 0) [])
+        → sheet_through bytes r (calls_in (drop (3 * (i + 1)) l)) ≡ sheet_through bytes s (calls_in (drop (3 * i) l))
+    called_on {r} h d =
+        ap (λ (y : Sheet). sheet_through bytes y (calls_in (drop (3 * (i + 1)) l))) d
+        ∙ sym (through_call bytes s (get_or (get_or chunks i []) 0 0) (get_or (get_or chunks i []) 1 0) (get_or (get_or chunks i []) 2 0) (calls_in (drop (3 * (i + 1)) l)))
+        ∙ ap (sheet_through bytes s) (sym (chunk_next h))
 
-module _ (bytes : List ℕ) (s : Sheet) where
-  -- one call more
-  pub called_on : {r : Sheet} {l : List ℕ} (x rest : List ℕ) → l ≡ x ++ rest → length x ≡ 3
-      → r ≡ sheet_through bytes s (add_call (get_or x 0 0) (get_or x 1 0) (get_or x 2 0) [])
-      → sheet_through bytes r (calls_in rest) ≡ sheet_through bytes s (calls_in l)
-  called_on {r} {l} x rest d n e =
-      ap (λ (y : Sheet). sheet_through bytes y (calls_in rest)) e
-      ∙ sym (through_call bytes s (get_or x 0 0) (get_or x 1 0) (get_or x 2 0) (calls_in rest))
-      ∙ ap (sheet_through bytes s) (sym (ap calls_in d ∙ chunk_next x rest n))
-
-  -- no call more
-  pub called_all : (l : List ℕ) → length l < 3 → sheet_through bytes s (calls_in l) ≡ s
-  unfolding sheet_through
-  called_all l h = ap (sheet_through bytes s) (no_chunk l h)
+    -- no call more
+    pub called_all : length chunks ≤ i → sheet_through bytes s (calls_in (drop (3 * i) l)) ≡ s
+    unfolding sheet_through
+    called_all h = ap (sheet_through bytes s) (calls_end l (3 * i) (omega arith))
 
 -- the sheet that one call hands back, by its kind
 module _ (bytes : List ℕ) (s : Sheet) (kind f c : ℕ) where

@@ -1,19 +1,25 @@
--- The first elements of a list: a test of some of them, and the table of a list's values. Assumes nothing.
+-- The first elements of a list: a test of some of them, how many are answers, and the table of a list's values. Assumes nothing.
 use mathlib.Core.Path.{◌≡◌, refl, sym, ap, ap₂, ◌∙◌}
-use mathlib.Core.Bool.{Bool, true, false, beq, ◌||◌}
+use mathlib.Core.Bool.{Bool, true, false, beq, not, ◌||◌}
 use mathlib.Core.List.{List, [], ◌∷◌, ◌++◌}
-use Prim.Native.Nat.{ℕ, zero, suc, ◌+◌, ◌-◌, ◌≤◌}
+use Prim.Native.Nat.{ℕ, zero, suc, ◌+◌, ◌≤◌}
 use native.Mathlib.Nat.{add-zero, zero-add}
+use native.Mathlib.Numerals.{add-one}
 use native.Mathlib.Omega.{arith}
+use lib.Dec.{eqb}
 use lib.ListN.{length, get_or, take, drop, replicate}
 use lib.Seq.{take-suc}
-use Rattle.std.specs.List.{list_any}
+use Rattle.std.specs.List.{list_any, count_by}
 use Rattle.std.proofs.lemmas.List.Folds.{list_any-append}
-use Rattle.format.specs.Format.{field_count, book_of}
-use Rattle.consistency.specs.Counting.{any_below, tabulate}
+use Rattle.std.proofs.lemmas.List.Sums.{count_by_more_yes, count_by_more_no}
+use Rattle.format.specs.Basics.{pick}
+use Rattle.format.specs.Format.{book_of}
+use Rattle.book.specs.declared.view.Book.{Book}
+use Rattle.book.proofs.FieldList.{list_long, list_few}
+use Rattle.consistency.specs.Counting.{any_below, how_many, tabulate}
 use Rattle.consistency.specs.Consistency.{places, codes}
-use Rattle.sheet.specs.Opened.{code_counts, FieldsAt}
-use Rattle.sheet.proofs.Openings.{fields_few, fields_count}
+use Rattle.consistency.specs.Counts.{answered}
+use Rattle.sheet.specs.Opened.{code_counts}
 
 next : (i k : ℕ) → suc i + k ≡ i + suc k
 next i k = omega arith
@@ -30,6 +36,17 @@ any_taken ps (suc n) h =
     ∙ list_any-append (λ y. beq y true) (take n ps) (get_or ps n false ∷ [])
     ∙ ap₂ (λ (x y : Bool). x || y) (any_taken ps n (omega arith)) (itself (get_or ps n false))
 
+-- so many of the first n elements are answers
+pub count_taken : (a : List ℕ) (n : ℕ) → n ≤ length a → count_by (λ x. not (eqb x 255)) (take n a) ≡ how_many n (answered a)
+count_taken a zero l = refl
+count_taken a (suc n) l = at (answered a n) refl (count_taken a n (omega arith))
+  where
+    at : (t : Bool) → answered a n ≡ t → count_by (λ x. not (eqb x 255)) (take n a) ≡ how_many n (answered a)
+        → count_by (λ x. not (eqb x 255)) (take (suc n) a) ≡ how_many n (answered a) + pick (answered a n) 1 0
+    at true e before = rw (e, ← add-one n) (count_by_more_yes (λ x. not (eqb x 255)) a n 255 (omega arith) e ∙ ap (◌+ 1) before)
+    at false e before =
+        rw (e, ← add-one n) (count_by_more_no (λ x. not (eqb x 255)) a n 255 (omega arith) e ∙ before ∙ sym (add-zero (how_many n (answered a))))
+
 -- a list with zeros behind it is the table of its values
 padded : (xs : List ℕ) (n i : ℕ) (g : ℕ → ℕ) → ((k : ℕ) → g (i + k) ≡ get_or xs k 0) → length xs ≤ n
     → xs ++ drop (length xs) (replicate n 0) ≡ tabulate g n i
@@ -42,13 +59,8 @@ padded (x ∷ xs) (suc n) i g h l =
     ap₂ (λ (y : ℕ) (ys : List ℕ). y ∷ ys) (sym (h 0) ∙ ap g (add-zero i)) (padded xs n (suc i) g (λ k. ap g (next i k) ∙ h (suc k)) (omega arith))
 
 -- so the field list with zeros behind it has the number of codes of each place's field
-pub counts_taken : {bytes : List ℕ} {list fields : ℕ} (at : FieldsAt bytes list fields)
-    → take (list + fields - list) (drop list bytes) ++ drop fields (replicate places 0) ≡ code_counts (book_of bytes)
-unfolding book_of
-counts_taken {bytes} {list} {fields} at =
-    let n : list + fields - list ≡ field_count bytes = omega (arith, at.fields_is) in
-    let part : take (list + fields - list) (drop list bytes) ≡ (book_of bytes).counts =
-    ap₂ (λ (k i : ℕ). take k (drop i bytes)) n at.list_is in
-    let long = fields_count bytes list fields at in
-    ap₂ (λ (l : List ℕ) (k : ℕ). l ++ drop k (replicate places 0)) part (sym long)
-    ∙ padded (book_of bytes).counts places 0 (codes (book_of bytes)) (λ k. ap (codes (book_of bytes)) (zero-add k)) (omega (arith, fields_few bytes list fields at))
+pub counts_taken : (b : Book) → (book_of b.bytes.now).counts ++ drop b.fields (replicate places 0) ≡ code_counts (book_of b.bytes.now)
+counts_taken b =
+    let cs : List ℕ = (book_of b.bytes.now).counts in
+    ap (λ (k : ℕ). cs ++ drop k (replicate places 0)) (sym (list_long b))
+    ∙ padded cs places 0 (codes (book_of b.bytes.now)) (λ k. ap (codes (book_of b.bytes.now)) (zero-add k)) (omega (arith, list_long b, list_few b))

@@ -1,12 +1,13 @@
 -- What counting and listing take from the marks of a pass. Assumes nothing.
-use Rattle.std.specs.Prelude.{ℕ, ◌+◌, ◌*◌, ◌≤◌, ◌<◌, ◌≡◌, List, map, Bool, not, ◌&&◌, length, T, eqb}
-use Rattle.format.specs.Format.{code_limit, book_of}
-use Rattle.consistency.specs.Counting.{those}
+use Rattle.std.specs.Prelude.{ℕ, ◌<◌, ◌≡◌, List, map, Bool, not, ◌&&◌, length, get_or, T, eqb}
+use Rattle.format.specs.Basics.{pick}
+use Rattle.format.specs.Format.{Book, code_limit, book_of}
+use Rattle.consistency.specs.Counting.{those, tabulate, join_below}
 use Rattle.consistency.specs.Consistency.{places, Sheet, codes, relax}
 use Rattle.consistency.specs.Largest.{largest}
 use Rattle.consistency.specs.Emptiness.{some_empty}
-use Rattle.consistency.specs.Counts.{bit, in_doubt, Line}
-use Rattle.filter.specs.Words.{word_at}
+use Rattle.consistency.specs.Counts.{bit, mask, in_doubt, listed, Line}
+use Rattle.filter.specs.Words.{stands}
 use Rattle.filter.specs.Cases.{own_case}
 use Rattle.sheet.specs.Opened.{FieldsAt}
 
@@ -14,24 +15,27 @@ use Rattle.sheet.specs.Opened.{FieldsAt}
 abbrev pub doubted : ℕ → Bool → Bool
 doubted x p = not (eqb x 255) && not p
 
--- code c of field f stands in case k
-abbrev pub stands : List ℕ → ℕ → ℕ → ℕ → Bool
-stands M k f c = bit (word_at M f c) k
+-- the codes of a mask, rising
+unfoldable pub codes_of : ℕ → List ℕ
+codes_of m = those code_limit (bit m)
 
--- the lines of field f: those of the codes below n at which p holds, rising
-abbrev pub lines_below : ℕ → (ℕ → Bool) → ℕ → List Line
-lines_below n p f = map (λ (c : ℕ). record { field = f; code = c }) (those n p)
+-- the lines of field f for these codes
+abbrev pub lines_for : ℕ → List ℕ → List Line
+lines_for f codes = map (λ (c : ℕ). record { field = f; code = c }) codes
 
--- a case, a field, and a bound on its codes for which marks have words
-pub record InMarks (k f n : ℕ) : Type 0 where
-  pub case_in : k < 64
-  pub field_in : f < places
-  pub codes_in : n ≤ code_limit
+-- the codes listed for place f as a mask, none where the field is not in doubt; and the masks of all places
+abbrev pub listed_mask : Book → Sheet → ℕ → ℕ
+listed_mask b s f = pick (in_doubt s f) (mask (codes b f) (listed b s.answers f)) 0
 
--- o has room from place at on for two bytes each of this many lines
-pub record Room (o : List ℕ) (at many : ℕ) : Type 0 where
-  pub fits : at + 2 * many ≤ length o
-  pub small : at ≤ 65536
+abbrev pub listed_masks : Book → Sheet → List ℕ
+listed_masks b s = tabulate (listed_mask b s) places 0
+
+-- the lines of the first n masks, by place then code; and of all of them
+unfoldable pub first_lines : List ℕ → ℕ → List Line
+first_lines masks n = join_below n (λ f. lines_for f (codes_of (get_or masks f 0)))
+
+abbrev pub lines_in : List ℕ → List Line
+lines_in masks = first_lines masks (length masks)
 
 -- M has the marks of a pass over the accepted book of these bytes and sheet s, and empty the cases in which some field is empty: in the own case of
 -- each answered field without a photograph its codes with it lifted stand, and empty says whether some field is empty then

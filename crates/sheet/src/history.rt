@@ -6,6 +6,7 @@ ghost use Rattle.sheet.specs.Shown.{held_by};
 use super::Sheet;
 
 // The sheet that one call hands back, accepted or refused. Kind 0 enters, 1 withdraws, 2 clears, 3 photographs; any other is no call.
+// (a) By a byte, since a stored list of calls has the call as one.
 fn called(sheet: Sheet, book: &[u8], kind: u8, field: u8, code: u8) -> Sheet
     ensures { held_by result ≡ sheet_through book.now (held_by sheet) (add_call kind field code []) }
 {
@@ -25,8 +26,8 @@ pub(crate) fn after(book: &[u8], calls: &[u8]) -> Sheet
     ensures { held_by result ≡ sheet_after book.now (calls_in calls.now) }
 {
     let mut sheet = Sheet::fresh();
-    for call in calls.chunks_exact(3) {
-        sheet = called(sheet, book, call[0], call[1], call[2]);
+    for &[kind, field, code] in calls.as_chunks::<3>().0 {
+        sheet = called(sheet, book, kind, field, code);
     }
     sheet
 }

@@ -2,30 +2,36 @@
 #![tactic(auto)]
 
 ghost use Rattle.std.specs.Prelude.{◌≡◌, false, [], ℕ, ◌≤◌, get_or};
-ghost use Rattle.consistency.specs.Counting.{any_below};
+ghost use Rattle.consistency.specs.Counting.{any_below, how_many};
 ghost use Rattle.consistency.specs.Consistency.{places, backed};
+ghost use Rattle.consistency.specs.Counts.{answered};
 ghost use Rattle.calls.specs.Calls.{fresh_sheet, replaces_backed, entered, withdrawn, photographed, cleared, filtered, alternatives, stored, loaded, row_behind, nearest_reading};
 ghost use Rattle.calls.specs.Histories.{calls_in, sheet_after};
 ghost use Rattle.sheet.specs.Shown.{held_by, shown_nothing, shown_listing, shown_row, shown_reading, left, read_result, result_of};
 ghost use Rattle.sheet.specs.Replayed.{Replayed};
 
-use book::{Book, PLACES};
+use book::{Book, NO_ANSWER, PLACES};
 use filter::WORDS;
-use lists::Marked;
 use opened::has_code;
 
 mod handed;
 mod history;
 mod lists;
+mod mask_codes;
 mod masks;
 mod opened;
 mod reasons;
 
 pub use handed::{Alternatives, Handed, Suggestion};
+pub use mask_codes::MaskCodes;
 pub use reasons::Reason;
 
-// For each place the answered code, or 255 for no answer, and whether a photograph backs the answer.
-// Bytes and not options, in two arrays: a stored sheet and the C interface have these bytes, and they are copied as they stand.
+// The field to relax where `Sheet::filtered` relaxes none.
+// (a) The definition of the call, document 01's, names the field by a number and none by 255, and so does the C interface.
+pub const NONE_RELAXED: usize = 255;
+
+// For each place the answered code, or `NO_ANSWER`, and whether a photograph backs the answer.
+// (a) Bytes in two arrays: a stored sheet has one a field, C one for each answer and each photograph, and 14 tests several at a time.
 #[derive(Clone, Copy)]
 pub struct Sheet {
     pub answers: [u8; PLACES],
@@ -46,7 +52,7 @@ impl Sheet {
         ensures { held_by result ≡ fresh_sheet }
     {
         Sheet {
-            answers: [255; PLACES],
+            answers: [NO_ANSWER; PLACES],
             photographed: [false; PLACES],
         }
     }
@@ -94,7 +100,8 @@ impl Sheet {
         }
     }
 
-    // Plain filtering: a number for each field, bit c of it for code c. One field may be relaxed; 255 relaxes none.
+    // Plain filtering: a number for each field, bit c of it for code c. One field may be relaxed; `NONE_RELAXED` relaxes none.
+    // (a) By a number and no option: the definition of the call, document 01's, names the field so, and none by 255, and C does too.
     pub fn filtered(self, book: &[u8], relaxed: usize, out: &mut [u32]) -> Handed<()>
         ensures { result_of shown_nothing result out.new ≡ filtered book.now (held_by self) relaxed out.old }
     {
@@ -145,11 +152,23 @@ impl Sheet {
     }
 
     // Whether some field has a photograph. No place behind the fields of a sheet that passes 14 has one.
+    // (d) By the number of fields, here and below, and not the book: where a form is moved to the other none is open.
     pub fn any_photographed(&self, fields: usize) -> bool
         requires { fields ≤ places }
         ensures { result ≡ any_below fields (backed (held_by self.now)) }
     {
         self.photographed[..fields].contains(&true)
+    }
+
+    // How many fields have an answer.
+    pub fn count_answered(&self, fields: usize) -> usize
+        requires { fields ≤ places }
+        ensures { result ≡ how_many fields (answered (held_by self.now).answers) }
+    {
+        self.answers[..fields]
+            .iter()
+            .filter(|answer| **answer != NO_ANSWER)
+            .count()
     }
 }
 
@@ -175,7 +194,7 @@ impl Sheet {
         if self.photographed[field] {
             return Err(Reason::Photographed);
         }
-        self.answers[field] = 255;
+        self.answers[field] = NO_ANSWER;
         Ok(())
     }
 
@@ -192,12 +211,12 @@ impl Sheet {
         ensures { left shown_nothing result (held_by self.now) out.new ≡ filtered bytes.now (held_by self.now) relaxed out.old }
     {
         let book = self.open(bytes)?;
-        if relaxed == 255 {
+        if relaxed == NONE_RELAXED {
             return masks::write_masks(book, &self.answers, out);
         }
         self.has_answer(book, relaxed)?;
         let mut rest = self.answers;
-        rest[relaxed] = 255;
+        rest[relaxed] = NO_ANSWER;
         masks::write_masks(book, &rest, out)
     }
 
@@ -208,17 +227,13 @@ impl Sheet {
         let mut marks = [0u64; WORDS];
         let struck = filter::one_pass(book, &self.answers, &self.photographed, &mut marks);
         let empty = filter::empty_cases(&marks, book.fields);
-        let marked = Marked {
-            book,
-            sheet: self,
-            marks: &marks,
-            empty,
-        };
-        let total = marked.total();
+        let mut masks = [0; PLACES];
+        lists::list(book, self, &marks, empty, &mut masks);
+        let total = lists::total(&masks[..book.fields]);
         if out.len() < 2 * total {
             return Err(Reason::Room);
         }
-        marked.write_lines(out);
+        lists::write_lines(&masks[..book.fields], out);
         Ok(Alternatives { total, struck })
     }
 
@@ -246,16 +261,14 @@ impl Sheet {
         if out.len() < book.fields {
             return Err(Reason::Room);
         }
-        match nearest::search(book, &self.answers, &self.photographed) {
-            Some(found) => {
-                out[..book.fields].copy_from_slice(&found.reading[..book.fields]);
-                Ok(Some(Suggestion {
-                    differing: found.differing,
-                    written: book.fields,
-                }))
-            }
-            None => Ok(None),
-        }
+        let Some(found) = nearest::search(book, &self.answers, &self.photographed) else {
+            return Ok(None);
+        };
+        out[..book.fields].copy_from_slice(&found.reading[..book.fields]);
+        Ok(Some(Suggestion {
+            differing: found.differing,
+            written: book.fields,
+        }))
     }
 
     fn write_stored(&self, bytes: &[u8], out: &mut [u8]) -> Result<(), Reason>
@@ -281,7 +294,7 @@ fn read_stored(bytes: &[u8], form: &[u8]) -> Result<Sheet, Reason>
     if form.len() != book.fields {
         return Err(Reason::Length);
     }
-    let mut answers = [255; PLACES];
+    let mut answers = [NO_ANSWER; PLACES];
     answers[..form.len()].copy_from_slice(form);
     let sheet = Sheet {
         answers,

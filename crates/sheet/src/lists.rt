@@ -1,28 +1,15 @@
-// The alternatives that the marks of a pass show: how many they are, and their lines.
-ghost use Rattle.std.specs.Prelude.{◌≡◌, ◌+◌, ◌*◌, ◌≤◌, ◌++◌, length, drop};
-ghost use Rattle.std.proofs.lemmas.List.Edits.{sets};
+// The alternatives that the marks of a pass show, as a mask for each place: how many they are, and their lines.
+ghost use Rattle.std.specs.Prelude.{◌≡◌, ◌*◌, ◌≤◌, ◌<◌, ◌++◌, length, drop, replicate};
 ghost use Rattle.format.specs.Format.{code_limit, book_of};
-ghost use Rattle.consistency.specs.Counting.{how_many};
 ghost use Rattle.consistency.specs.Consistency.{places};
-ghost use Rattle.consistency.specs.Counts.{total, lines, line_bytes};
+ghost use Rattle.consistency.specs.Counts.{line_bytes};
 ghost use Rattle.sheet.specs.Shown.{held_by};
-ghost use Rattle.sheet.specs.Lists.{doubted, stands, lines_below, InMarks, Room, Passed};
+ghost use Rattle.sheet.specs.Lists.{doubted, codes_of, lines_for, listed_masks, lines_in, Passed};
 
-use super::Sheet;
 use super::opened::codes;
-use book::{Book, CODES};
+use super::{MaskCodes, Sheet};
+use book::{Book, NO_ANSWER, PLACES};
 use filter::WORDS;
-
-// The marks of the one pass over a book and a sheet, and the cases in which some field of the book is empty.
-#[derive(Clone, Copy)]
-pub(crate) struct Marked<'a> {
-    pub(crate) book: Book<'a>,
-    pub(crate) sheet: &'a Sheet,
-    pub(crate) marks: &'a [u64; WORDS],
-    pub(crate) empty: u64,
-    ghost long: { length sheet.now.answers ≡ places },
-    ghost passed: { Passed book.bytes.now (held_by sheet.now) marks.now empty book.list book.fields },
-}
 
 // The own case of the first field in doubt, behind the case with nothing relaxed.
 const FIRST_OWN: u64 = 1;
@@ -31,77 +18,72 @@ const FIRST_OWN: u64 = 1;
 fn in_doubt(answer: u8, photographed: bool) -> bool
     ensures { result ≡ doubted answer photographed }
 {
-    answer != 255 && !photographed
+    answer != NO_ANSWER && !photographed
 }
 
-// How many of the codes below n of field f stand in case k.
-fn count_codes(marks: &[u64; WORDS], k: u64, f: usize, n: usize) -> usize
-    requires { InMarks k f n }
-    ensures { (result ≡ how_many n (stands marks.now k f)) × (result ≤ n) }
+// Writes the codes listed for each place, in masks that are 0: those that stand in its field's own case, if that leaves no field empty. A field
+// that is not in doubt has none. `marks` are those of the one pass, and `empty` its cases in which some field is empty.
+// (b) Written where they are lent: masks handed back are copied twice, and alternatives of a small book took longer.
+pub(crate) fn list(
+    book: Book<'_>,
+    sheet: &Sheet,
+    marks: &[u64; WORDS],
+    empty: u64,
+    masks: &mut [u32; PLACES],
+)
+    requires passed { Passed book.bytes.now (held_by sheet.now) marks.now empty book.list book.fields }
+    requires zeros { masks.old ≡ replicate places 0 }
+    ensures { masks.new ≡ listed_masks (book_of book.entry.bytes.now) (held_by sheet.now) }
 {
-    let mut count = 0;
-    for c in 0..n {
-        if (marks[f * CODES + c] >> k) % 2 == 1 {
-            count += 1;
+    let mut next = FIRST_OWN;
+    // (d) By number, since a walk is no plainer: a field's answer, photograph, codes and mask stand in four arrays.
+    for f in 0..book.fields {
+        if !in_doubt(sheet.answers[f], sheet.photographed[f]) {
+            continue;
         }
+        let k = next;
+        next += 1;
+        if (empty >> k) % 2 == 1 {
+            continue;
+        }
+        masks[f] = filter::standing_codes(marks, k, f, codes(book, f));
     }
-    count
 }
 
-// The lines of the codes below n of field f that stand in case k, written from `at` on. Answers the place behind them.
-fn write_field(marks: &[u64; WORDS], k: u64, f: usize, n: usize, out: &mut [u8], at: usize) -> usize
-    requires { InMarks k f n × Room out.old at (how_many n (stands marks.now k f)) }
-    ensures { (result ≡ at + 2 * how_many n (stands marks.now k f)) × (out.new ≡ sets out.old at (line_bytes (lines_below n (stands marks.now k f) f))) }
+// The number of alternatives, by the masks of the book's fields.
+pub(crate) fn total(masks: &[u32]) -> usize
+    requires { length masks.now ≤ places }
+    ensures { (result ≡ length (lines_in masks.now)) × (result ≤ places * code_limit) }
 {
-    let mut next = at;
-    for c in 0..n {
-        if (marks[f * CODES + c] >> k) % 2 == 1 {
-            out[next] = f as u8;
-            out[next + 1] = c as u8;
-            next += 2;
-        }
+    let mut sum = 0;
+    for mask in masks {
+        sum += mask.count_ones() as usize;
+    }
+    sum
+}
+
+// Writes the lines of field f, whose codes are those of the mask, from the first byte on. Answers how many bytes they are.
+fn write_field(mask: u32, f: usize, out: &mut [u8]) -> usize
+    requires { (f < places) × (2 * length (codes_of mask) ≤ length out.old) }
+    ensures { (result ≡ 2 * length (codes_of mask)) × (out.new ≡ line_bytes (lines_for f (codes_of mask)) ++ drop (2 * length (codes_of mask)) out.old) }
+{
+    let mut next = 0;
+    for c in (MaskCodes { left: mask }) {
+        out[next] = f as u8;
+        out[next + 1] = c as u8;
+        next += 2;
     }
     next
 }
 
-impl<'a> Marked<'a> {
-    // The number of alternatives of the answered fields without a photograph: of those whose own case leaves no field empty.
-    pub(crate) fn total(self) -> usize
-        ensures { (result ≡ total (book_of self.entry.book.bytes.now) (held_by self.entry.sheet.now)) × (result ≤ places * code_limit) }
-    {
-        let mut sum = 0;
-        let mut next = FIRST_OWN;
-        for f in 0..self.book.fields {
-            if !in_doubt(self.sheet.answers[f], self.sheet.photographed[f]) {
-                continue;
-            }
-            let k = next;
-            next += 1;
-            if (self.empty >> k) % 2 == 1 {
-                continue;
-            }
-            sum += count_codes(self.marks, k, f, codes(self.book, f));
-        }
-        sum
-    }
-
-    // All their lines, written from the first byte on.
-    pub(crate) fn write_lines(self, out: &mut [u8])
-        requires { 2 * total (book_of self.book.bytes.now) (held_by self.sheet.now) ≤ length out.old }
-        ensures { out.new ≡ line_bytes (lines (book_of self.entry.book.bytes.now) (held_by self.entry.sheet.now)) ++ drop (2 * total (book_of self.entry.book.bytes.now) (held_by self.entry.sheet.now)) out.old }
-    {
-        let mut at = 0;
-        let mut next = FIRST_OWN;
-        for f in 0..self.book.fields {
-            if !in_doubt(self.sheet.answers[f], self.sheet.photographed[f]) {
-                continue;
-            }
-            let k = next;
-            next += 1;
-            if (self.empty >> k) % 2 == 1 {
-                continue;
-            }
-            at = write_field(self.marks, k, f, codes(self.book, f), out, at);
-        }
+// Writes all lines, from the first byte on.
+pub(crate) fn write_lines(masks: &[u32], out: &mut [u8])
+    requires places { length masks.now ≤ places }
+    requires room { 2 * length (lines_in masks.now) ≤ length out.old }
+    ensures { out.new ≡ line_bytes (lines_in masks.now) ++ drop (2 * length (lines_in masks.now)) out.old }
+{
+    let mut at = 0;
+    for (f, mask) in masks.iter().enumerate() {
+        at += write_field(*mask, f, &mut out[at..]);
     }
 }

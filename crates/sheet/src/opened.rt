@@ -7,26 +7,31 @@ ghost use Rattle.sheet.specs.Shown.{held_by};
 ghost use Rattle.sheet.specs.Opened.{seen_byte, seen_bytes, fits, code_counts, fault_at, fault_test, code_test, answer_test, opening, verdict_of};
 
 use super::{Reason, Sheet};
-use book::{Book, PLACES};
+use book::{Book, NO_ANSWER, PLACES};
+use std::array::from_fn;
 
-// What 14 looks at in a place: its byte; for a photograph without an answer 254, which no place may hold.
+// What is seen of a photograph without an answer: a byte that no place may hold, since no field has so many codes.
+const BACKED_ALONE: u8 = 254;
+
+// What 14 looks at in a place: its byte, or what is seen of a photograph without an answer.
+// (b) One byte for two facts: the scan that looks at answers and photographs apart goes place by place, and takes longer.
 fn seen(byte: u8, photographed: bool) -> u8
     ensures { result ≡ seen_byte byte photographed }
 {
-    if byte != 255 {
+    if byte != NO_ANSWER {
         return byte;
     }
     if photographed {
-        return 254;
+        return BACKED_ALONE;
     }
-    255
+    NO_ANSWER
 }
 
-// Whether a place may hold what is seen there: 255, or a code of its field, which has so many.
+// Whether a place may hold what is seen there: no answer, or a code of its field, which has so many.
 fn may_hold(byte: u8, count: u8) -> bool
     ensures { result ≡ fits byte count }
 {
-    byte == 255 || byte < count
+    byte == NO_ANSWER || byte < count
 }
 
 // The number of codes of a field.
@@ -43,7 +48,7 @@ fn code_counts(book: Book<'_>) -> [u8; PLACES]
     ensures { result ≡ code_counts (book_of book.entry.bytes.now) }
 {
     let mut counts = [0; PLACES];
-    counts[..book.fields].copy_from_slice(&book.bytes[book.list..book.list + book.fields]);
+    counts[..book.fields].copy_from_slice(book.field_list());
     counts
 }
 
@@ -67,26 +72,20 @@ impl Sheet {
     fn seen_bytes(&self) -> [u8; PLACES]
         ensures { result ≡ seen_bytes (held_by self.now) }
     {
-        let mut bytes = [0; PLACES];
-        for place in 0..PLACES {
-            bytes[place] = seen(self.answers[place], self.photographed[place]);
-        }
-        bytes
+        from_fn(|place| seen(self.answers[place], self.photographed[place]))
     }
 
-    // The first place that holds neither 255 nor a code of its field, or has a photograph and no answer. The loop compares two arrays and
-    // looks at nothing else, so that several places are tested at a time.
+    // The first place that holds neither `NO_ANSWER` nor a code of its field, or has a photograph and no answer. The walk compares two arrays
+    // and looks at nothing else, so that several places are tested at a time.
     fn first_fault(&self, book: Book<'_>) -> Option<usize>
         ensures { result ≡ fault_at (fault_of (book_of book.entry.bytes.now) (held_by self.now)) }
     {
         let counts = code_counts(book);
         let bytes = self.seen_bytes();
-        for p in 0..PLACES {
-            if !may_hold(bytes[p], counts[p]) {
-                return Some(p);
-            }
-        }
-        None
+        bytes
+            .iter()
+            .zip(&counts)
+            .position(|(byte, count)| !may_hold(*byte, *count))
     }
 
     // 14.
@@ -117,7 +116,7 @@ impl Sheet {
         if book.fields <= field {
             return Err(Reason::Field);
         }
-        if self.answers[field] == 255 {
+        if self.answers[field] == NO_ANSWER {
             return Err(Reason::NoAnswer);
         }
         Ok(())

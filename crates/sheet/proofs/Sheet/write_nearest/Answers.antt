@@ -17,10 +17,10 @@ pub returns-then-out-book : goal.returns-then-out-book
 returns-then-out-book c = let o = is_open c.in_ok-book.book c.in_ok-book.ensures.answer c.in_ok-book.ensures.bytes in
     nearest_18 _ _ _ o c.too_many.ensures c.if-too_many.false c.if-out-book.true
 
-pub returns-in-None : goal.returns-in-None
-returns-in-None c = let o = is_open c.in_ok-book.book c.in_ok-book.ensures.answer c.in_ok-book.ensures.bytes in
-    nearest_none _ _ _ o c.too_many.ensures c.if-too_many.false c.if-out-book.false c.in-None.ensures
+pub returns-in_default : goal.returns-in_default
+returns-in_default c = let o = is_open c.in_ok-book.book c.in_ok-book.ensures.answer c.in_ok-book.ensures.bytes in
+    nearest_none _ _ _ o c.too_many.ensures c.if-too_many.false c.if-out-book.false c.in_default.ensures
 
-pub returns-in-Some : goal.returns-in-Some
-returns-in-Some c = let o = is_open c.in_ok-book.book c.in_ok-book.ensures.answer c.in_ok-book.ensures.bytes in
+pub returns : goal.returns
+returns c = let o = is_open c.in_ok-book.book c.in_ok-book.ensures.answer c.in_ok-book.ensures.bytes in
     nearest_done _ _ _ o c.too_many.ensures c.if-too_many.false c.if-out-book.false _ _ (search rules) c.in-Some.ensures _ c.copy_from_slice.ensures.after

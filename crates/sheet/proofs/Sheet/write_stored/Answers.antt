@@ -5,7 +5,6 @@ use Prim.Native.Nat.{ℕ}
 use lib.ListN.{drop}
 use Rattle.std.proofs.lemmas.Result.{err_from_is_err_and}
 use Rattle.sheet.proofs.Openings.{is_open}
-use Rattle.sheet.proofs.Openings.{fields_few}
 use Rattle.sheet.proofs.CallCases.{stored_turned, stored_22, stored_18, stored_done}
 use Rattle.sheet.specs.Shown.{held_by}
 use Rattle.calls.specs.Calls.{done}
@@ -14,10 +13,6 @@ use Rattle.sheet.proofs.Sheet.write_stored.Goals as goal
 pub returns-in_err-book : goal.returns-in_err-book
 returns-in_err-book c = let p = err_from_is_err_and c.from_residual.result c.from_residual.ensures.1 in
     rw (p.1, p.2) (stored_turned _ _ _ _ _ c.in_err-book.ensures.answer)
-
-pub any_photographed-requires : goal.any_photographed-requires
-any_photographed-requires c = let o = is_open c.in_ok-book.book c.in_ok-book.ensures.answer c.in_ok-book.ensures.bytes in
-    fields_few _ _ _ o.at
 
 pub returns-then-any_photographed : goal.returns-then-any_photographed
 returns-then-any_photographed c = let o = is_open c.in_ok-book.book c.in_ok-book.ensures.answer c.in_ok-book.ensures.bytes in
