@@ -12,9 +12,8 @@ use Rattle.consistency.specs.Consistency.{Sheet}
 use Rattle.calls.specs.Calls.{fresh_sheet, turned, done, beside}
 use Rattle.calls.specs.Short.{short_of, is_short, code_fault, sheet_from_short, loaded_short, stored_short}
 use Rattle.sheet.specs.Opened.{fault_at, opening}
-use Rattle.sheet.proofs.Openings.{fields_few, fields_count, fields_of, on_ready, on_turned, IsOpen}
+use Rattle.sheet.proofs.Openings.{fields_count, fields_of, on_ready, on_turned, IsOpen}
 use Rattle.sheet.proofs.Places.{fault_told, fault_clear, fault_stop, fault_go}
-use Rattle.short.specs.Forms.{IsForm}
 
 -- ---- load
 
@@ -31,9 +30,6 @@ module _ (bytes : Bor (List ℕ)) (form : List ℕ) (book : Book) (is : book.byt
   loaded_24 e = let at = fields_of book is in simp (at.passes, fields_count bytes.now book.list book.fields at, e)
 
   module _ (ok : is_short book.fields 0 0 form ≡ true) where
-    pub is_form : IsForm form
-    is_form = record { fields = book.fields; few = fields_few bytes.now book.list book.fields (fields_of book is); ok = ok }
-
     -- a field lacks its code
     pub loaded_14 : (f : ℕ) → Some f ≡ fault_at (code_fault (book_of book.bytes.now) form) → turned 0 fresh_sheet [] 14 f ≡ loaded_short bytes.now form
     unfolding loaded_short

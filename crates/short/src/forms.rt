@@ -6,11 +6,9 @@ ghost use Rattle.sheet.specs.Shown.{held_by};
 ghost use Rattle.sheet.specs.Opened.{fault_at};
 ghost use Rattle.short.specs.Forms.{IsForm};
 
-use book::{Book, PLACES};
+use super::ENTRY;
+use book::Book;
 use sheet::Sheet;
-
-// The bytes of an entry: its field, its code, and whether it is photographed.
-const ENTRY: usize = 3;
 
 // An entry's field is one of the book's and stands behind those before it, and its photographed byte is 0 or 1.
 fn entry_ok(low: usize, fields: usize, field: usize, photographed: u8) -> bool
@@ -23,20 +21,19 @@ fn entry_ok(low: usize, fields: usize, field: usize, photographed: u8) -> bool
 pub(crate) fn is_short(form: &[u8], fields: usize) -> bool
     ensures { result ≡ is_short fields 0 0 form.now }
 {
-    let entries = form.chunks_exact(ENTRY);
-    let trailer = entries.remainder();
+    let (entries, trailer) = form.as_chunks::<ENTRY>();
     let mut low = 0;
-    let mut many = 0;
-    for entry in entries {
-        let field = usize::from(entry[0]);
-        if !entry_ok(low, fields, field, entry[2]) {
+    for &[f, _, photographed] in entries {
+        let field = usize::from(f);
+        if !entry_ok(low, fields, field, photographed) {
             return false;
         }
         low = field + 1;
-        many += 1;
     }
     match trailer {
-        [answers, counts] => usize::from(*answers) == many && usize::from(*counts) == fields,
+        [answers, counts] => {
+            usize::from(*answers) == entries.len() && usize::from(*counts) == fields
+        }
         _ => false,
     }
 }
@@ -46,9 +43,10 @@ pub(crate) fn code_fault(book: Book<'_>, form: &[u8]) -> Option<usize>
     requires { is_short book.fields 0 0 form.now ≡ true }
     ensures { result ≡ fault_at (code_fault (book_of book.entry.bytes.now) form.now) }
 {
-    for entry in form.chunks_exact(ENTRY) {
-        let field = usize::from(entry[0]);
-        if book.bytes[book.list + field] <= entry[1] {
+    let (entries, _) = form.as_chunks::<ENTRY>();
+    for &[f, code, _] in entries {
+        let field = usize::from(f);
+        if book.bytes[book.list + field] <= code {
             return Some(field);
         }
     }
@@ -60,15 +58,12 @@ pub(crate) fn said(form: &[u8]) -> Sheet
     requires { IsForm form.now }
     ensures { held_by result ≡ sheet_from_short form.now }
 {
-    let mut answers = [255u8; PLACES];
-    let mut photographed = [false; PLACES];
-    for entry in form.chunks_exact(ENTRY) {
-        let field = usize::from(entry[0]);
-        answers[field] = entry[1];
-        photographed[field] = entry[2] == 1;
+    let (entries, _) = form.as_chunks::<ENTRY>();
+    let mut sheet = Sheet::fresh();
+    for &[f, code, photographed] in entries {
+        let field = usize::from(f);
+        sheet.answers[field] = code;
+        sheet.photographed[field] = photographed == 1;
     }
-    Sheet {
-        answers,
-        photographed,
-    }
+    sheet
 }

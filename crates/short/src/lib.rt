@@ -12,8 +12,14 @@ use sheet::{Handed, Reason, Sheet};
 mod entries;
 mod forms;
 
-// The most bytes of a form: three for each place, and the trailer.
-pub const FORM_BYTES: usize = 3 * PLACES + 2;
+// The bytes of an entry: its field, its code, and whether it is photographed.
+const ENTRY: usize = 3;
+
+// The bytes behind the entries: the number of answers, and that of fields.
+const TRAILER: usize = 2;
+
+// The most bytes of a form: an entry for each place, and the trailer.
+pub const FORM_BYTES: usize = ENTRY * PLACES + TRAILER;
 
 // The sheet that a short form says.
 fn read(bytes: &[u8], form: &[u8]) -> Result<Sheet, Reason>
@@ -75,6 +81,7 @@ pub fn lengthen(book: &[u8], form: &[u8], out: &mut [u8]) -> Result<usize, Reaso
     if out.len() < fields {
         return Err(Reason::Room);
     }
+    // (a) As many bytes as the book has fields: the sheet has more places, and a caller may lend more.
     out[..fields].copy_from_slice(&sheet.answers[..fields]);
     Ok(fields)
 }

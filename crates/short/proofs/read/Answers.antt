@@ -2,7 +2,7 @@
 use mathlib.Core.Path.{sym, ◌∙◌}
 use Rattle.std.proofs.lemmas.Result.{err_from_is_err_and}
 use Rattle.book.proofs.Checks.{opens_bad}
-use Rattle.short.proofs.LoadCases.{loaded_book, loaded_24, is_form, loaded_14, loaded_done}
+use Rattle.short.proofs.LoadCases.{loaded_book, loaded_24, loaded_14, loaded_done}
 use Rattle.short.proofs.read.Goals as goal
 
 pub returns-in_err-book : goal.returns-in_err-book
@@ -11,12 +11,6 @@ returns-in_err-book c = let p = err_from_is_err_and c.from_residual.result c.fro
 
 pub returns-then-not-is_short : goal.returns-then-not-is_short
 returns-then-not-is_short c = loaded_24 _ _ c.in_ok-book.book c.in_ok-book.ensures.bytes (sym c.is_short.ensures ∙ c.if-not-is_short.true)
-
-pub code_fault-requires : goal.code_fault-requires
-code_fault-requires c = sym c.is_short.ensures ∙ c.if-not-is_short.false
-
-pub said-requires : goal.said-requires
-said-requires c = is_form _ _ c.in_ok-book.book c.in_ok-book.ensures.bytes (sym c.is_short.ensures ∙ c.if-not-is_short.false)
 
 pub returns-in-Some : goal.returns-in-Some
 returns-in-Some c = loaded_14 _ _ c.in_ok-book.book c.in_ok-book.ensures.bytes (sym c.is_short.ensures ∙ c.if-not-is_short.false) _ c.in-Some.ensures
