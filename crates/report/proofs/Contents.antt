@@ -23,7 +23,8 @@ use Rattle.consistency.proofs.Masks.{length_masks, masks_bit}
 use Rattle.consistency.proofs.Largest.{largest_is}
 use Rattle.calls.proofs.Sheets.{Within}
 use Rattle.report.specs.Text.{open_lines}
-use Rattle.report.specs.Writes.{pair_lines, mask_lines, open_in}
+use Rattle.report.specs.Writes.{pair_lines, open_in}
+use Rattle.sheet.specs.Lists.{codes_of, lines_for}
 
 -- ---- pairs
 
@@ -62,7 +63,8 @@ module _ (b : Book) (w : Within b) (a rest : List ℕ) where
       ap (λ (m : ℕ). bit m c) (get_or-append (masks b a) rest 0 f (omega (arith, length_masks b a))) ∙ masks_bit b a f c
 
   -- the lines of field f
-  field_is : (f : ℕ) → f < length b.counts → mask_lines f (get_or (masks b a ++ rest) f 0) code_limit ≡ lines_of b (largest b a f) f
+  field_is : (f : ℕ) → f < length b.counts → lines_for f (codes_of (get_or (masks b a ++ rest) f 0)) ≡ lines_of b (largest b a f) f
+  unfolding codes_of
   field_is f l =
       let p : ℕ → Bool = bit (get_or (masks b a ++ rest) f 0) in
       ap (map (λ (c : ℕ). record { field = f; code = c }))

@@ -15,7 +15,7 @@ use Rattle.format.proofs.Accepted.{verdict_accepted}
 use Rattle.consistency.specs.Consistency.{places, Sheet}
 use Rattle.consistency.specs.Counting.{how_many, join_over}
 use Rattle.consistency.specs.Counts.{answered, total, struck, lines, line_bytes, masks}
-use Rattle.consistency.proofs.Sums.{many_ext, those_ext}
+use Rattle.consistency.proofs.Sums.{those_ext}
 use Rattle.consistency.proofs.Lines.{length_lines, length_line_bytes}
 use Rattle.consistency.proofs.Limits.{total_few}
 use Rattle.std.specs.Prelude.{Result, Ok, Err, IsOk}
@@ -30,7 +30,8 @@ use Rattle.sheet.specs.declared.reasons.Reason.{Reason}
 use Rattle.sheet.specs.declared.handed.Handed.{Handed}
 use Rattle.sheet.specs.declared.handed.Alternatives.{Alternatives}
 use Rattle.report.specs.Text.{open_lines, sheet_text}
-use Rattle.report.specs.Writes.{pair_lines, mask_lines, open_in, sheet_part}
+use Rattle.report.specs.Writes.{pair_lines, open_in, sheet_part}
+use Rattle.sheet.specs.Lists.{codes_of, lines_for}
 use Rattle.report.specs.Held.{Stands}
 use Rattle.sheet.proofs.Injective.{number_some}
 use Rattle.report.proofs.Contents.{pairs_are, masks_are}
@@ -141,15 +142,9 @@ module _ (bytes : List ℕ) (s : Sheet) (fields : ℕ) (st : Stands bytes s fiel
           opens_is : open_in ms (take fields s.answers) (length (take fields s.answers)) ≡ open_lines book s.answers
           opens_is =
               ap (open_in ms (take fields s.answers)) fields_long
-              ∙ ap (λ (fs : List ℕ). join_over fs (λ f. mask_lines f (get_or ms f 0) code_limit)) (those_ext fields _ _ (λ f l. ap not (same f l)))
+              ∙ ap (λ (fs : List ℕ). join_over fs (λ f. lines_for f (codes_of (get_or ms f 0)))) (those_ext fields _ _ (λ f l. ap not (same f l)))
               ∙ ap₂ (λ (m : List ℕ) (i : ℕ). open_in m s.answers i) masks_is st.fields_are
               ∙ masks_are book within s.answers (drop (length book.counts) no_masks)
 
-          -- and the answers are counted
-          answered_is : how_many (length (take fields s.answers)) (answered (take fields s.answers)) ≡ how_many (length book.counts) (answered s.answers)
-          answered_is =
-              ap (λ (i : ℕ). how_many i (answered (take fields s.answers))) fields_long ∙ many_ext fields _ _ same
-              ∙ ap (λ (i : ℕ). how_many i (answered s.answers)) st.fields_are
-
-          pub part_is : sheet_part (take fields s.answers) (take x.total chunks) x.struck ms ≡ sheet_text s book
-          part_is = rw (alts_is, opens_is, answered_is, ← lines_fit, total_is, struck_is)
+          pub part_is : (n : ℕ) → n ≡ how_many fields (answered s.answers) → sheet_part n (take fields s.answers) (take x.total chunks) x.struck ms ≡ sheet_text s book
+          part_is n e = rw (alts_is, opens_is, e, st.fields_are, ← lines_fit, total_is, struck_is)

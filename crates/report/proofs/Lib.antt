@@ -2,7 +2,6 @@ pub mod E1Text
 pub mod Digits
 pub mod Lines
 pub mod Turns
-pub mod Places
 pub mod Pieces
 pub mod OpenLines
 pub mod Counts

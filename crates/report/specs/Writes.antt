@@ -1,8 +1,8 @@
 -- When a page has room, and the lines that pairs and masks stand for. Assumes nothing.
 use Rattle.std.specs.Prelude.{ℕ, ◌+◌, ◌≤◌, List, [], ◌∷◌, ◌++◌, map, not, length, get_or}
-use Rattle.format.specs.Format.{code_limit}
-use Rattle.consistency.specs.Counting.{how_many, those, join_over}
-use Rattle.consistency.specs.Counts.{answered, Line, bit}
+use Rattle.consistency.specs.Counting.{those, join_over}
+use Rattle.consistency.specs.Counts.{answered, Line}
+use Rattle.sheet.specs.Lists.{codes_of, lines_for}
 use Rattle.book.specs.declared.Counts.{Counts}
 use Rattle.report.specs.Text.{spaced, book_word, sheet_word, alt_word, open_word, lines_text}
 use Rattle.report.specs.Report.{text_limit}
@@ -23,16 +23,13 @@ pair_line pair = record { field = get_or pair 0 0; code = get_or pair 1 0 }
 abbrev pub pair_lines : List (List ℕ) → List Line
 pair_lines pairs = map pair_line pairs
 
--- the lines of field f whose mask m has the code's bit set, for the codes below n
-abbrev pub mask_lines : ℕ → ℕ → ℕ → List Line
-mask_lines f m n = map (λ (c : ℕ). record { field = f; code = c }) (those n (bit m))
-
 -- the lines of the unanswered fields below n, by their masks, of which each has 32 bits
 abbrev pub open_in : List ℕ → List ℕ → ℕ → List Line
-open_in masks a n = join_over (those n (λ f. not (answered a f))) (λ f. mask_lines f (get_or masks f 0) code_limit)
+open_in masks a n = join_over (those n (λ f. not (answered a f))) (λ f. lines_for f (codes_of (get_or masks f 0)))
 
--- the sheet's line, the lines of alternatives and the open lines, by what was listed and filtered for these answers
-abbrev pub sheet_part : List ℕ → List (List ℕ) → ℕ → List ℕ → List ℕ
-sheet_part a pairs struck masks =
-    (sheet_word ++ spaced (how_many (length a) (answered a) ∷ length pairs ∷ struck ∷ []))
+-- the sheet's line, which begins with the number of answered fields, the lines of alternatives and the open lines, by what was listed and filtered
+-- for these answers
+abbrev pub sheet_part : ℕ → List ℕ → List (List ℕ) → ℕ → List ℕ → List ℕ
+sheet_part n a pairs struck masks =
+    (sheet_word ++ spaced (n ∷ length pairs ∷ struck ∷ []))
     ++ (lines_text alt_word (pair_lines pairs) ++ lines_text open_word (open_in masks a (length a)))

@@ -11,7 +11,7 @@ ghost use Rattle.report.specs.Writes.{HasRoom};
 ghost use Rattle.report.specs.Held.{Stands, Told};
 
 use book::{CODES, Counts, PLACES, Refuses};
-use sheet::{Alternatives, Reason, Sheet};
+use sheet::{Alternatives, NONE_RELAXED, Reason, Sheet};
 
 mod lists;
 mod page;
@@ -24,9 +24,6 @@ pub const TEXT_LIMIT: usize = 21 + 21 + 11 * (PLACES * CODES);
 
 // As many alternatives as a book has codes, two bytes each.
 pub const PAIR_BYTES: usize = 2 * (PLACES * CODES);
-
-// (a) The C interface names the field to relax by a number, and none by this one.
-const NONE_RELAXED: usize = 255;
 
 // A buffer with fewer bytes than the text has.
 #[derive(Clone, Copy)]
@@ -57,6 +54,7 @@ fn accept(book: &[u8], form: &[u8]) -> Result<(Counts, Sheet), Reason>
 }
 
 // The sheet's line, the lines of alternatives and the open lines, of a book and a sheet that pass.
+// (d) It takes the number of fields, which is counted already: to open the book for it once more is no plainer.
 #[tactic(auto, using(crate::proofs::HeldTexts::fields_fit))]
 fn put_held(page: &mut Page, book: &[u8], held: Sheet, fields: usize)
     requires stands { Stands book.now (held_by held) fields }
@@ -69,9 +67,11 @@ fn put_held(page: &mut Page, book: &[u8], held: Sheet, fields: usize)
     held.filtered(book, NONE_RELAXED, &mut masks);
     // The book and the sheet pass, and there is room for all pairs: it is never a refusal.
     let Alternatives { total, struck } = listed.answer.unwrap();
+    // (a) There is no heap: sheet and lists have room for any book, and what this one has is taken of them.
+    let answered = held.count_answered(fields);
     let answers = &held.answers[..fields];
     let (pairs, _) = pairs.as_chunks();
-    page.put_sheet(answers, &pairs[..total], struck as usize, &masks);
+    page.put_sheet(answered, answers, &pairs[..total], struck as usize, &masks);
 }
 
 // Writes the whole text on an empty page.

@@ -1,14 +1,12 @@
-// Writing the lines of alternatives and of open codes.
+// Writing the lines of alternatives and of open codes. (d) As in page.rt: the contract has the room, and `write!` would answer a Result.
 ghost use Rattle.std.specs.Prelude.{◌++◌, ◌≡◌, ◌≤◌, length};
-ghost use Rattle.format.specs.Format.{code_limit};
+ghost use Rattle.sheet.specs.Lists.{codes_of, lines_for};
 ghost use Rattle.report.specs.Text.{lines_text};
-ghost use Rattle.report.specs.Writes.{HasRoom, pair_lines, mask_lines, open_in};
+ghost use Rattle.report.specs.Writes.{HasRoom, pair_lines, open_in};
 
 use super::page::Page;
-use book::CODES;
-
-// A place without an answer. (a) The bytes of a sheet, which the C interface lends, have it so.
-pub(crate) const NO_ANSWER: u8 = 255;
+use book::NO_ANSWER;
+use sheet::MaskCodes;
 
 impl Page {
     // A line for each pair of field and code.
@@ -21,15 +19,13 @@ impl Page {
         }
     }
 
-    // A line for each code of a field whose bit is set.
+    // A line for each code of a field's mask.
     fn put_masked(&mut self, word: &[u8], field: usize, mask: u32)
-        requires { HasRoom self.old (lines_text word.now (mask_lines field mask code_limit)) }
-        ensures { self.new ≡ self.old ++ lines_text word.now (mask_lines field mask code_limit) }
+        requires { HasRoom self.old (lines_text word.now (lines_for field (codes_of mask))) }
+        ensures { self.new ≡ self.old ++ lines_text word.now (lines_for field (codes_of mask)) }
     {
-        for code in 0..CODES {
-            if (mask >> code) % 2 == 1 {
-                self.put_line(word, &[field, code]);
-            }
+        for code in (MaskCodes { left: mask }) {
+            self.put_line(word, &[field, code]);
         }
     }
 
@@ -39,9 +35,9 @@ impl Page {
         requires room { HasRoom self.old (lines_text word.now (open_in masks.now answers.now (length answers.now))) }
         ensures { self.new ≡ self.old ++ lines_text word.now (open_in masks.now answers.now (length answers.now)) }
     {
-        for (field, &answer) in answers.iter().enumerate() {
+        for (field, (&answer, &mask)) in answers.iter().zip(masks).enumerate() {
             if answer == NO_ANSWER {
-                self.put_masked(word, field, masks[field]);
+                self.put_masked(word, field, mask);
             }
         }
     }

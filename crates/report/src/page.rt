@@ -1,4 +1,5 @@
 // The page that a text is composed on. A contract sees the text so far, and no place is counted outside it.
+// (d) Functions put words, numbers and lines on it: `write!` answers a Result, though the contract has room, and so is no plainer.
 ghost use Rattle.std.specs.Prelude.{◌≡◌, ◌<◌, ◌≤◌, List, ℕ, [], ◌∷◌, ◌++◌, take};
 ghost use Rattle.report.specs.Text.{decimal, spaced};
 ghost use Rattle.report.specs.Report.{text_limit};
@@ -43,6 +44,7 @@ impl Page {
         &self.bytes[..self.len]
     }
 
+    // (d) Each function asks for room in a clause, since its own text says how much: a page with the room in its type would have to test it.
     fn put_byte(&mut self, byte: u8)
         requires { HasRoom self.old (byte ∷ []) }
         ensures { self.new ≡ self.old ++ (byte ∷ []) }
@@ -60,7 +62,7 @@ impl Page {
         self.len = end;
     }
 
-    // In decimal: all digits but the last, then the last. (d) `write!` answers a Result, though the contract has room: no plainer.
+    // In decimal: all digits but the last, then the last.
     fn put_number(&mut self, n: usize)
         requires { HasRoom self.old (decimal n) }
         ensures { self.new ≡ self.old ++ decimal n }

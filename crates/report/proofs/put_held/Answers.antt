@@ -23,7 +23,7 @@ put_sheet-requires-clause-room c =
     let l = c.alternatives-listed in
     let f = c.filtered in
     subst (HasRoom c.args.page.now)
-    (sym (part_is _ _ _ c.requires.stands l.result _ l.ensures c.unwrap-total.result c.unwrap-total.ensures f.result _ f.ensures _ c.as_chunks.ensures.front c.as_chunks.ensures.front_len long))
+    (sym (part_is _ _ _ c.requires.stands l.result _ l.ensures c.unwrap-total.result c.unwrap-total.ensures f.result _ f.ensures _ c.as_chunks.ensures.front c.as_chunks.ensures.front_len long _ c.count_answered-answered.ensures))
     c.requires.room
 
 pub returns : goal.returns
@@ -33,4 +33,4 @@ returns c =
     let f = c.filtered in
     c.put_sheet.ensures
     ∙ ap (λ (t : List ℕ). c.args.page.now ++ t)
-    (part_is _ _ _ c.requires.stands l.result _ l.ensures c.unwrap-total.result c.unwrap-total.ensures f.result _ f.ensures _ c.as_chunks.ensures.front c.as_chunks.ensures.front_len long)
+    (part_is _ _ _ c.requires.stands l.result _ l.ensures c.unwrap-total.result c.unwrap-total.ensures f.result _ f.ensures _ c.as_chunks.ensures.front c.as_chunks.ensures.front_len long _ c.count_answered-answered.ensures)
