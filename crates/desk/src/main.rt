@@ -31,10 +31,10 @@ fn read_full(file: &mut File, buffer: &mut [u8]) -> usize
 
 // A file's bytes, as far as the buffer has room: none where it cannot be opened.
 fn read_file<'a>(rt: &HostRuntime, path: &str, buffer: &'a mut [u8]) -> &'a [u8] {
-    let count = match File::open(rt, path) {
-        Ok(mut file) => read_full(&mut file, buffer),
-        Err(_) => 0,
+    let Ok(mut file) = File::open(rt, path) else {
+        return &[];
     };
+    let count = read_full(&mut file, buffer);
     &buffer[..count]
 }
 

@@ -1,7 +1,7 @@
 // Books of a chosen shape, laid out byte by byte.
 ghost use Rattle.std.specs.Prelude.{◌≡◌, ◌≤◌, take};
 
-use book::CLOSING_BYTE;
+use book::trailer;
 
 // One more than a book may have.
 pub(crate) const BYTES: usize = 32769;
@@ -63,8 +63,7 @@ impl Written {
         }
         let list = book.len as u16;
         book.put_many(shape.codes, shape.fields as u16);
-        book.put_pair(list);
-        for byte in [shape.fields, shape.tables, shape.version, CLOSING_BYTE] {
+        for byte in trailer(list, shape.fields, shape.tables, shape.version) {
             book.put(byte);
         }
         book

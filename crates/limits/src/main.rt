@@ -7,7 +7,7 @@ mod lines;
 use book::{CODES, FIELDS_OF_VERSION_1, PLACES, TABLE_LIMIT};
 use bytes::{BYTES, Shape, Written, first, first_mut};
 use lines::{Line, say, show};
-use report::{NoRoom, PAIR_BYTES, TEXT_LIMIT};
+use report::{PAIR_BYTES, TEXT_LIMIT};
 use sheet::Sheet;
 use std::io;
 
@@ -103,13 +103,10 @@ fn try_held(rt: &HostRuntime, widest: &[u8], held: Sheet) -> io::Result<()> {
     }
     for field in [PLACES - 1, PLACES] {
         let backed = held.photograph(widest, field);
-        match backed.answer {
-            Ok(()) => {
-                let listed = backed.sheet.alternatives(widest, &mut pairs);
-                say(rt, "photograph", field, listed.answer)?;
-            }
-            refused => say(rt, "photograph", field, refused)?,
-        }
+        let listed = backed
+            .answer
+            .and_then(|()| backed.sheet.alternatives(widest, &mut pairs).answer);
+        say(rt, "photograph", field, listed)?;
     }
     for lent in [short::FORM_BYTES, short::FORM_BYTES - 1] {
         let mut form = [0; short::FORM_BYTES];
@@ -153,11 +150,8 @@ fn try_fresh(rt: &HostRuntime) -> io::Result<()> {
 fn try_text(rt: &HostRuntime, widest: &[u8], form: &[u8]) -> io::Result<()> {
     let mut text = [0; TEXT_LIMIT];
     for lent in [18315, 18314] {
-        let line = match report::report(widest, form, first_mut(&mut text, lent)) {
-            Ok(size) => Line::Written(size),
-            Err(NoRoom) => Line::TooShort,
-        };
-        show(rt, "text", lent, line)?;
+        let size = report::report(widest, form, first_mut(&mut text, lent));
+        show(rt, "text", lent, size.map_or(Line::TooShort, Line::Written))?;
     }
     Ok(())
 }

@@ -1,11 +1,11 @@
 -- What is told of one outcome, result or reply is told of an equal one. Assumes nothing.
 use Prim.Native.Nat.{ℕ}
 use mathlib.Core.Path.{◌≡◌, refl, sym, ap, ap₂, ◌∙◌, subst}
-use mathlib.Core.Logic.{◌≢◌, ◌↔◌}
+use mathlib.Core.Logic.{◌≢◌}
 use mathlib.Core.Bool.{Bool, true, false}
 use mathlib.Core.List.{List}
 use lib.Dec.{eqb}
-use borrow.Author.Tests.{eq-eqb, ne_eqb, eqb-true, eqb-false}
+use borrow.Author.Tests.{eqb-true, eqb-false}
 use Rattle.format.specs.Reading.{Outcome}
 use Rattle.format.specs.Writing.{Reply}
 use Rattle.consistency.specs.Consistency.{Sheet}
@@ -14,7 +14,7 @@ use Rattle.calls.specs.Histories.{Call, sheet_after}
 use Rattle.calls.proofs.Kept.{alternatives_keeps}
 use Rattle.sheet.specs.Replayed.{Replayed}
 use Rattle.sheet.proofs.Replayed.{replayed}
-use Rattle.sighting.specs.Exported.{sheet_in, sheet_bytes, bytes_after, Holds, Tells, Exports, Makes, Changes, Replies, result_told}
+use Rattle.sighting.specs.Exported.{sheet_in, sheet_bytes, bytes_after, Tells, Exports, Makes, Changes, Replies, result_told}
 
 -- what tells an outcome tells an equal one
 pub tells_along : {number : ℕ} {cells : List ℕ} {o o' : Outcome} → Tells number cells o → o ≡ o' → Tells number cells o'
@@ -24,37 +24,13 @@ tells_along {number} {cells} h e = subst (Tells number cells) e h
 pub replies_along : {number : ℕ} {cells buffer : List ℕ} {r r' : Reply} → Replies number cells buffer r → r ≡ r' → Replies number cells buffer r'
 replies_along {number} {cells} {buffer} h e = subst (Replies number cells buffer) e h
 
--- what holds exactly where an outcome accepts holds exactly where the number that tells it is 0
-pub reads_told : {number : ℕ} {cells : List ℕ} {o o' : Outcome} {L : Type 0}
-    → Tells number cells o → o ≡ o' → (o.number ≡ 0 ↔ L) → Tells number cells o' × (number ≡ 0 ↔ L)
-reads_told {L = L} h e i = (tells_along h e, subst (λ (n : ℕ). n ≡ 0 ↔ L) (sym h.number_is) i)
-
--- so with what holds exactly where it is not refused by 20
-pub writes_told : {number : ℕ} {cells buffer : List ℕ} {r r' : Reply} {L : Type 0}
-    → Replies number cells buffer r → r ≡ r' → (r.outcome.number ≢ 20 ↔ L) → Replies number cells buffer r' × (number ≢ 20 ↔ L)
-writes_told {L = L} h e i = (replies_along h e, subst (λ (n : ℕ). n ≢ 20 ↔ L) (sym h.tells.number_is) i)
-
 -- a call whose outcome is told, and which hands the sheet back as given, leaves that sheet and its own buffer
 pub exports_kept : {number : ℕ} {cells sheet : List ℕ} {r r' : Result}
     → Tells number cells r.outcome → r ≡ r' → r'.sheet ≡ sheet_in sheet → Exports number cells sheet r.buffer r'
 exports_kept h e k =
     record { tells = tells_along h (ap (λ (x : Result). x.outcome) e); sheet_is = sym k; buffer_is = ap (λ (x : Result). x.buffer) e }
 
--- a call that changes the sheet: where it is refused it leaves the bytes, where it is accepted they are written for the sheet handed back
-module _ {number : ℕ} {cells : List ℕ} {r : Result} (h : Tells number cells r.outcome) where
-  pub changes_none : {before : List ℕ} → (number ≡ 0 → ⊥) → Changes number cells before before r
-  changes_none n =
-      record {
-        tells = h;
-        written = rw (ne_eqb r.outcome.number 0 (λ e. n (h.number_is ∙ e)));
-        held = λ e. absurd (n (h.number_is ∙ e));
-      }
-
-  pub changes_all : {before sheet : List ℕ} → number ≡ 0 → Holds sheet r.sheet → Changes number cells before sheet r
-  changes_all e w =
-      record { tells = h; written = rw (eq-eqb r.outcome.number 0 (sym h.number_is ∙ e)) w.written; held = λ d. w.held }
-
--- so it leaves what the call is defined to leave, since a refusal hands the sheet back as given
+-- a call that changes the sheet leaves what the call is defined to leave, since a refusal hands the sheet back as given
 pub changes_along : {number : ℕ} {cells before sheet : List ℕ} {r r' : Result} → Changes number cells before sheet r → r ≡ r'
     → (r'.outcome.number ≢ 0 → r'.sheet ≡ sheet_in before) → Exports number cells sheet r.buffer r' × (sheet ≡ bytes_after before r')
 changes_along {number} {cells} {before} {sheet} {r' = r'} h e kept =
