@@ -88,6 +88,9 @@ TWINS = {
     "the number tried": "limits/main try_version, limits/main try_fields, limits/main try_codes, limits/main try_tables",
 }
 
+# Groups that share a loop: what has none any more is no twin.
+LOOPING = {"the test of a byte"}
+
 # The same of types.
 TWIN_TYPES = {
     "the answer beside the sheet": "sheet/lib Handed, sheet/lib HandedList, sheet/lib HandedRow, sheet/lib HandedReading, short/lib HandedForm",
@@ -133,7 +136,7 @@ class File:
         self.path, self.crate = path, path.split("/")[1]
         self.raw = text
         self.name = self.crate + "/" + os.path.basename(path)[: -len(".rt")]
-        self.text = blank(text, r"//[^\n]*|\"(?:\\.|[^\"\\])*\"|(?m:^ *ghost [^;]*;)")
+        self.text = blank(text, r"//[^\n]*|\"(?:\\.|[^\"\\])*\"|(?m:^ *(?:pub(?:\(crate\))? )?ghost (?:\w+: [^\n]*|[^;]*;))")
         self.code = self.text
         self.functions = list(read_functions(self))
         self.loops = [l for f in self.functions for l in read_loops(f)]
@@ -257,9 +260,10 @@ def kind_numbers(files):
 
 
 def none_values(files):
-    """255 and its like where they say that there is no answer, no key, no field: each line that names one. BYTE_LIMIT is a limit."""
+    """255 and its like where they say that there is no answer, no key, no field: each line that names one, but to import it. BYTE_LIMIT
+    is a limit."""
     for file in files:
-        for m in file.matches(r"(?m)^(?!.*BYTE_LIMIT).*\b(25[45]|NO_ANSWER|NO_KEY|NONE_RELAXED|EVERY_WORD|usize::MAX)\b"):
+        for m in file.matches(r"(?m)^(?!use |.*BYTE_LIMIT).*\b(25[45]|NO_ANSWER|NO_KEY|NONE_RELAXED|EVERY_WORD|usize::MAX)\b"):
             yield file.place(m.start(1), m[1])
 
 
@@ -272,9 +276,9 @@ def named(files, names, note=""):
 
 
 def answers_none(files):
-    """Those of ANSWERS_NONE that do not answer an Option or a Result."""
+    """Those of ANSWERS_NONE that answer no Option and no Result, and no bytes, of which there may be none."""
     for file in files:
-        told = {f.start for f in file.functions if re.search(r"\b(Option|Result)<", f.result)}
+        told = {f.start for f in file.functions if re.search(r"\b(Option|Result)<|&", f.result)}
         lines = {file.place(start, "").line for start in told}
         yield from (p for p in named([file], ANSWERS_NONE) if p.line not in lines)
 
@@ -284,6 +288,9 @@ def answers_none(files):
 def twins(files, groups):
     for what, names in groups.items():
         standing = list(named(files, re.split(r",\s+", names), f"({what})"))
+        if what in LOOPING:
+            loop = {file.place(loop.function.start).line for file in files for loop in file.loops if file.name in names}
+            standing = [p for p in standing if p.line in loop]
         if len(standing) > 1:
             yield from standing
 
@@ -438,7 +445,8 @@ def slice_and_range(f):
     found = [f"{a} {b}" for a, b in RANGES if len(numbers(f, {a, b})) == 2]
     if found and any(t.startswith("&[") for t in f.params.values()):
         return ", ".join(found)
-    return LENGTHS.get(f.file.name + " " + f.name)
+    given = LENGTHS.get(f.file.name + " " + f.name, "")
+    return given.split(" ")[-1] in f.params and given
 
 
 def parallel(loop):
@@ -457,7 +465,8 @@ def words_and_spare(f):
 def switched(f):
     """A bool that is given and chooses what is done, or a step chosen by a number of the list."""
     tested = [n for n, t in f.params.items() if t == "bool" and re.search(rf"\bif !?{n}\b", body_of(f))]
-    return "by " + tested[0] if tested else SWITCHES.get(f.file.name + " " + f.name)
+    given = SWITCHES.get(f.file.name + " " + f.name, "")
+    return "by " + tested[0] if tested else given.split(":")[0] in f.params and given
 
 
 KINDS = [
@@ -488,12 +497,12 @@ KINDS = [
     ("5a", "functions that take a book's numbers beside its bytes", lambda t: functions(t, book_apart)),
     ("5b", "functions that take answers and photographs apart", lambda t: functions(t, sheet_apart)),
     ("5c", "functions that take a table's numbers apart", lambda t: functions(t, table_apart)),
-    ("5d", "lines that reckon with a table's shape", lambda t: lines_of(t, r"(?m)^.*\b[123] \+ arity.*$")),
+    ("5d", "lines that reckon with a table's shape", lambda t: lines_of(t, r"(?m)^.*(?:\b[123] \+ (?:\w+\.)*arity|\* (?:\w+\.)*arity).*$")),
     ("5e", "fields taken out of a struct under their name", lambda t: lines_of(t, r"let (?:mut )?(\w+) = \w+\.\1;")),
     ("5f", "`requires` of facts that three functions ask for", recurring),
     ("6a", "functions that take a buffer and a place or length", lambda t: functions(t, buffer_and_place)),
     ("6b", "functions that take a slice and a range of it", lambda t: functions(t, slice_and_range)),
-    ("6c", "the first so many of a buffer", lambda t: lines_of(t, r"\w+\[\.\.\w+\]")),
+    ("6c", "the first so many of a buffer", lambda t: lines_of(t, r"\w+\[\.\.[\w.]+(?:\(\))?\]")),
     ("6d", "loops over parallel arrays", lambda t: loops(t, parallel)),
     ("6e", "functions that take words and spare ones", lambda t: functions(t, words_and_spare)),
     ("6f", "two numbers packed in one", lambda t: lines_of(t, r"[*/%] PLACE_LIMIT\b")),
