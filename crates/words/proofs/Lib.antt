@@ -6,4 +6,3 @@ pub mod Order
 pub mod Lent
 pub mod Turns
 pub mod Falls
-pub mod Inserting

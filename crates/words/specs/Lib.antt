@@ -1,4 +1,3 @@
 pub mod Sorting
 pub mod Radix
-pub mod Insertion
 pub mod RowWord
