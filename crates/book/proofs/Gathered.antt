@@ -64,7 +64,7 @@ module _ (s : List ℕ) where
   -- ---- the rows of a table
 
   -- row k of n rows from p on
-  row_at : (a p n k : ℕ) → k < n → get_or (rows_at s a p n) k [] ≡ part s (p + k * a) a
+  pub row_at : (a p n k : ℕ) → k < n → get_or (rows_at s a p n) k [] ≡ part s (p + k * a) a
   unfolding rows_at
   row_at a p zero k h = absurd (omega arith)
   row_at a p (suc n) zero h = let e : p ≡ p + 0 * a = omega (arith, zero-mul a) in ap (λ (x : ℕ). part s x a) e

@@ -1,4 +1,3 @@
-pub mod Turns
 pub mod Gathered
 pub mod Pairs
 pub mod Firsts
@@ -11,3 +10,6 @@ pub mod Checks
 pub mod Walks
 pub mod WalkSteps
 pub mod Refusing
+pub mod HandingOut
+pub mod Parts
+pub mod Columns

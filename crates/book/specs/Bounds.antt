@@ -1,5 +1,5 @@
 -- Where the reader's inner functions may look: bounds of places in the bytes. Assumes nothing.
-use Rattle.std.specs.Prelude.{ℕ, ◌+◌, ◌*◌, ◌≤◌, ◌<◌, List, length, ◌≡◌}
+use Rattle.std.specs.Prelude.{ℕ, ◌+◌, ◌*◌, ◌≤◌, ◌<◌, List, length, get_or, ◌≡◌}
 use Rattle.format.specs.Format.{byte, list_place, field_count, arity_at, first_row, arity_limit, row_limit, length_limit}
 
 -- the trailer's place of the field list and number of fields, which lie within the bytes, and few bytes
@@ -24,8 +24,13 @@ pub record CodesFit (s : List ℕ) (list first a start end : ℕ) : Type 0 where
   pub some : 1 ≤ a
   pub head : first + a ≤ length s
   pub known : (j : ℕ) → j < a → list + byte s (first + j) < length s
-  pub ordered : start ≤ end
+  pub whole : (n : ℕ) × (end ≡ start + n * a)
   pub within : end ≤ length s
+
+-- a row has a code for each of these fields, whose numbers of codes lie within the bytes
+pub record RowFitsList (s : List ℕ) (list : ℕ) (fields row : List ℕ) : Type 0 where
+  pub long : length row ≡ length fields
+  pub known : (j : ℕ) → j < length fields → list + get_or fields j 0 < length s
 
 -- the row of a codes at p and what fills up its four bytes lie within the bytes
 pub record RowFits (s : List ℕ) (a p : ℕ) : Type 0 where

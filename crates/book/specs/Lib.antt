@@ -6,3 +6,4 @@ pub mod Walk
 pub mod Ordering
 pub mod Found
 pub mod Listed
+pub mod Lent

@@ -3,13 +3,11 @@ ghost use Rattle.std.specs.Prelude.{◌≡◌, ◌≤◌, length};
 ghost use Rattle.format.specs.Format.{row_limit, different_total, book_of};
 ghost use Rattle.words.specs.Sorting.{distinct};
 
+use super::ROW_LIMIT;
 use super::view::{Book, Table};
 
 // The words of up to so many rows are held against each other: sorting them takes longer. Measured.
 const FEW: usize = 64;
-
-// As many rows as a book may have.
-const MANY: usize = words::MOST;
 
 // Up to so many rows are compared where they stand: gathering them takes longer. Measured.
 const SMALL: usize = 16;
@@ -23,11 +21,12 @@ impl Table<'_> {
     ghost use Rattle.book.specs.Listed.{rows_in, words_in};
 
     // The first code of row k, which is the highest byte of its word.
+    // (d) That there is such a row is asked for here and below in a clause, as in `word`.
     fn first_code(&self, k: usize) -> u8
         requires { k < self.now.rows }
         ensures { result ≡ get_or (words_in self.now) k 0 / 16777216 }
     {
-        self.bytes[self.first + k * self.arity]
+        self.row(k)[0]
     }
 
     // Whether row k stands again behind it. Rows that begin with different codes have different words, and most do: the words are
@@ -37,12 +36,7 @@ impl Table<'_> {
         ensures { result ≡ is_among (get_or (words_in self.now) k 0) (drop (k + 1) (words_in self.now)) }
     {
         let first = self.first_code(k);
-        for j in k + 1..self.rows {
-            if first == self.first_code(j) && self.word(k) == self.word(j) {
-                return true;
-            }
-        }
-        false
+        (k + 1..self.rows).any(|j| first == self.first_code(j) && self.word(k) == self.word(j))
     }
 
     // The number of different rows, compared where they stand. A repeated row counts where it stands last, so that each row is held
@@ -51,6 +45,7 @@ impl Table<'_> {
         ensures { (result ≡ different (rows_in self.now)) × (result ≤ self.now.rows) }
     {
         let mut found = 0;
+        // (b) Counted by hand: with `filter` and `count` reading ten rows took a sixth more instructions.
         for k in 0..self.rows {
             if !self.stands_again(k) {
                 found += 1;
@@ -67,6 +62,7 @@ impl Table<'_> {
     {
         let mut before = self.word(0);
         let mut found = 1;
+        // (d) By number, since the words are reckoned one by one and stand in no list.
         for k in 1..self.rows {
             let word = self.word(k);
             if word < before {
@@ -80,7 +76,8 @@ impl Table<'_> {
         Some(found)
     }
 
-    // The number of different rows: their words are gathered in an array of N, and counted there. A small array is soon cleared.
+    // The number of different rows: their words are gathered in an array of N, and counted there. A small array is soon cleared. (a) There is
+    // no heap: of the array as many words are taken as there are rows.
     fn count_in<const N: usize, F: FnOnce(&mut [u32]) -> usize>(&self, counted: F) -> usize
         requires room { (self.now.rows ≤ N) × (N ≤ row_limit) }
         requires callable { F.IsAlwaysCallable counted }
@@ -105,7 +102,7 @@ impl Table<'_> {
             None if self.rows <= FEW => {
                 self.count_in::<FEW, _>(|list| words::count_distinct(list))
             }
-            None => self.count_in::<MANY, _>(count_sorted),
+            None => self.count_in::<ROW_LIMIT, _>(count_sorted),
         }
     }
 }

@@ -8,6 +8,7 @@ ghost use Rattle.book.specs.Shown.{shown};
 
 mod bytes;
 mod different;
+mod lent;
 mod refusals;
 mod row_words;
 mod scans;
@@ -15,6 +16,7 @@ mod tests;
 mod view;
 
 pub use bytes::trailer;
+pub use lent::{NoRoom, hand_out};
 pub use refusals::{Refusal, Refused, Refuses};
 pub use view::{Book, Table, Tables};
 
@@ -37,11 +39,17 @@ pub const ARITY_LIMIT: usize = 4;
 
 pub const ROW_LIMIT: usize = 4096;
 
+// The bytes of every book's trailer.
+pub const TRAILER: usize = 6;
+
+// The most bytes that are read. No accepted book has so many.
+pub const LENGTH_LIMIT: usize = 32768;
+
 // The most bytes of an accepted book: 64 tables with seven beside their rows, 4,096 rows of four codes, the field list, the trailer.
 pub const BOOK_LIMIT: usize = TABLE_LIMIT * (3 + ARITY_LIMIT)
     + ARITY_LIMIT * ROW_LIMIT
     + PLACES
-    + 6;
+    + TRAILER;
 
 // What reading counts in an accepted book.
 #[derive(Clone, Copy)]

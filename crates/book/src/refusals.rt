@@ -3,6 +3,7 @@ ghost use Rattle.std.specs.Prelude.{ℕ, ◌≡◌};
 ghost use Rattle.book.specs.Numbers.{number_of};
 
 // What each call's refusal tells. Its number is set out by the definitions of the crate that has the call.
+// (d) Where a refusal holds more than its kind, `number` is a match: an enum that holds something has no discriminants to cast.
 pub trait Refuses {
     ghost number_of: { Self → ℕ };
 

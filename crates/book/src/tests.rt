@@ -5,9 +5,9 @@ ghost use Rattle.book.specs.Bounds.{BodyFits, HeadFits};
 
 use super::bytes::{CLOSING_BYTE, byte, pair};
 use super::refusals::{Refusal, Refused};
-use super::{ARITY_LIMIT, FIELDS_OF_VERSION_1, PLACES, ROW_LIMIT, TABLE_LIMIT, scans};
-
-const LENGTH_LIMIT: usize = 32768;
+use super::{
+    ARITY_LIMIT, FIELDS_OF_VERSION_1, LENGTH_LIMIT, PLACES, ROW_LIMIT, TABLE_LIMIT, TRAILER,
+};
 
 // What the trailer says: the place of the field list, and the numbers of fields and of tables.
 #[derive(Clone, Copy)]
@@ -57,7 +57,7 @@ impl Trailer {
         ensures tables { IfOk result (λ trailer. trailer.tables ≡ format.table_count book.now) }
     {
         let n = book.len();
-        if n < 6 || LENGTH_LIMIT < n {
+        if n < TRAILER || LENGTH_LIMIT < n {
             return Err(Refusal::Length.at(0));
         }
         if book[n - 1] != CLOSING_BYTE {
@@ -75,7 +75,7 @@ impl Trailer {
             return Err(Refusal::TableCount.at(n - 3));
         }
         let list = pair(book, n - 6);
-        if list + fields + 6 != n {
+        if list + fields + TRAILER != n {
             return Err(Refusal::ListPlace.at(n - 6));
         }
         Ok(Trailer {
@@ -94,8 +94,7 @@ impl<'a> Body<'a> {
     pub(crate) fn field_list(self) -> Result<(), Refused>
         ensures { verdict_of result ≡ list_test self.entry.bytes.now self.entry.list self.entry.fields }
     {
-        let end = self.list + self.fields;
-        if let Some(bad) = scans::bad_count(self.bytes, self.list, end) {
+        if let Some(bad) = self.bad_count() {
             return Err(Refusal::CodeCount.at(bad));
         }
         Ok(())
@@ -120,7 +119,7 @@ impl<'a> Body<'a> {
         if ROW_LIMIT < rows {
             return Err(Refusal::RowCount.at(at));
         }
-        if let Some(bad) = scans::bad_code(self.bytes, self.list, at + 1, arity, start, end) {
+        if let Some(bad) = self.bad_code(at + 1, arity, start, end) {
             return Err(Refusal::Code.at(bad));
         }
         Ok(Passed { at: end, rows })
@@ -143,7 +142,7 @@ impl<'a> Body<'a> {
             return Err(Refusal::Short.at(at));
         }
         let end = at + 1 + arity;
-        if let Some(bad) = scans::bad_field(self.bytes, self.fields, at + 1, end) {
+        if let Some(bad) = self.bad_field(at + 1, end) {
             return Err(Refusal::FieldNumber.at(bad));
         }
         self.rows(before)

@@ -20,6 +20,7 @@ pub struct Book<'a> {
 }
 
 // A table: its number and place in the book, its number of fields, the place of its first row, and its number of rows.
+// (d) Places in its rows are reckoned from these by its own methods: a type for a place would say no more.
 #[derive(Clone, Copy)]
 pub struct Table<'a> {
     pub bytes: &'a [u8],
@@ -41,8 +42,8 @@ pub struct Tables<'a> {
 }
 
 impl<'a> Book<'a> {
-    ghost use Rattle.std.specs.Prelude.{IfOk};
-    ghost use Rattle.format.specs.Format.{book_of};
+    ghost use Rattle.std.specs.Prelude.{◌<◌, ◌≤◌, IfOk, get_or};
+    ghost use Rattle.format.specs.Format.{code_limit, book_of};
     ghost use Rattle.format.specs.Reading.{checking};
     ghost use Rattle.book.specs.Shown.{shown_open};
 
@@ -75,7 +76,7 @@ impl<'a> Book<'a> {
         })
     }
 
-    // The table of this number at this place.
+    // The table of this number at this place. (d) Its shape is reckoned here, where there is no `Table` yet.
     pub fn table(self, index: usize, at: usize) -> Table<'a>
         requires { IsTable self.bytes.now index at }
         ensures bytes { result.bytes ≡ self.entry.bytes }
@@ -101,6 +102,15 @@ impl<'a> Book<'a> {
         &self.bytes[self.list..self.list + self.fields]
     }
 
+    // The number of codes of a field.
+    pub fn codes(self, field: usize) -> u8
+        requires { field < self.fields }
+        ensures is { result ≡ get_or (book_of self.entry.bytes.now).counts field 0 }
+        ensures few { result ≤ code_limit }
+    {
+        self.bytes[self.list + field]
+    }
+
     // All tables, from the first on.
     pub fn tables(self) -> Tables<'a>
         ensures book { result.book ≡ self.entry }
@@ -115,7 +125,26 @@ impl<'a> Book<'a> {
 }
 
 impl<'a> Table<'a> {
-    ghost use Rattle.format.specs.Format.{table_end};
+    ghost use Rattle.std.specs.Prelude.{◌<◌, [], length, get_or};
+    ghost use Rattle.format.specs.Format.{table_at, table_end};
+
+    // The numbers of its fields.
+    pub fn fields(self) -> &'a [u8]
+        ensures { result.now ≡ (table_at self.entry.bytes.now self.entry.at).fields }
+    {
+        let first = self.at + 1;
+        &self.bytes[first..first + self.arity]
+    }
+
+    // The codes of row k.
+    pub fn row(self, k: usize) -> &'a [u8]
+        requires { k < self.rows }
+        ensures is { result.now ≡ get_or (table_at self.entry.bytes.now self.entry.at).rows k [] }
+        ensures long { length result.now ≡ self.entry.arity }
+    {
+        let start = self.first + k * self.arity;
+        &self.bytes[start..start + self.arity]
+    }
 
     // The place behind its last row.
     pub fn end(self) -> usize

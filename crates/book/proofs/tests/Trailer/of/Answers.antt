@@ -3,13 +3,13 @@ use Rattle.format.proofs.Refusals.{trailer_1_short, trailer_1_long, trailer_2_cl
 use Rattle.book.proofs.Refusing.{failed}
 use native.Mathlib.Omega.{arith}
 use Rattle.book.proofs.tests.Trailer.of.Goals as goal
-use Rattle.book.proofs.tests.Trailer.of.Goals.{then-n-lt6-via-then-n-lt6, then-n-lt6-via-else-n-lt6+then-n-gt-LENGTH_LIMIT, then-fields-lt1-via-then-fields-lt1, then-fields-lt1-via-else-fields-lt1+then-limit-fields}
+use Rattle.book.proofs.tests.Trailer.of.Goals.{then-n-lt-TRAILER-via-then-n-lt-TRAILER, then-n-lt-TRAILER-via-else-n-lt-TRAILER+then-n-gt-LENGTH_LIMIT, then-fields-lt1-via-then-fields-lt1, then-fields-lt1-via-else-fields-lt1+then-limit-fields}
 
-pub returns-then-n-lt6-clause-verdict : goal.returns-then-n-lt6-clause-verdict
-returns-then-n-lt6-clause-verdict c = failed c.at.ensures.kind c.at.ensures.place
-    (elim c.then-n-lt6.branch [
-      | then-n-lt6-via-then-n-lt6 w ↦ trailer_1_short _ _ _ _ _ _ (omega (arith, w.if-n-lt6.true))
-      | then-n-lt6-via-else-n-lt6+then-n-gt-LENGTH_LIMIT w ↦ trailer_1_long _ _ _ _ _ _ (omega (arith, w.if-n-lt6.false)) (omega (arith, w.if-n-gt-LENGTH_LIMIT.true))
+pub returns-then-n-lt-TRAILER-clause-verdict : goal.returns-then-n-lt-TRAILER-clause-verdict
+returns-then-n-lt-TRAILER-clause-verdict c = failed c.at.ensures.kind c.at.ensures.place
+    (elim c.then-n-lt-TRAILER.branch [
+      | then-n-lt-TRAILER-via-then-n-lt-TRAILER w ↦ trailer_1_short _ _ _ _ _ _ (omega (arith, w.if-n-lt-TRAILER.true))
+      | then-n-lt-TRAILER-via-else-n-lt-TRAILER+then-n-gt-LENGTH_LIMIT w ↦ trailer_1_long _ _ _ _ _ _ (omega (arith, w.if-n-lt-TRAILER.false)) (omega (arith, w.if-n-gt-LENGTH_LIMIT.true))
     ])
 
 pub returns-then-book-n-clause-verdict : goal.returns-then-book-n-clause-verdict

@@ -1,0 +1,36 @@
+// Memory that a caller lends for an answer.
+ghost use Rattle.std.specs.Prelude.{◌≡◌};
+ghost use Rattle.book.specs.Lent.{HandedOut};
+
+use super::refusals::Refuses;
+
+// Less memory is lent than the answer takes.
+#[derive(Clone, Copy)]
+pub struct NoRoom;
+
+impl Refuses for NoRoom {
+    ghost number_of = { λ _. 18 };
+
+    ghost place_of = { λ _. 0 };
+
+    fn number(self) -> u64 {
+        18
+    }
+
+    fn place(self) -> usize {
+        0
+    }
+}
+
+// Copies the answer to the front of the memory lent, which stays as it is where it is too short. Tells how many elements these are.
+// (a) An answer is made elsewhere and copied whole, since the memory is the caller's and a refusal leaves it.
+pub fn hand_out<T: Copy>(answer: &[T], lent: &mut [T]) -> Result<usize, NoRoom>
+    ensures { HandedOut answer.now lent.old lent.new result }
+{
+    let n = answer.len();
+    if lent.len() < n {
+        return Err(NoRoom);
+    }
+    lent[..n].copy_from_slice(answer);
+    Ok(n)
+}
