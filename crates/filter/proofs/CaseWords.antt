@@ -1,7 +1,7 @@
 -- The words of the cases: one case with nothing relaxed, then one more for each answered field without a photograph. Assumes nothing.
-use mathlib.Core.Path.{◌≡◌, refl, sym, ap, ap₂, ◌∙◌, subst, subst₂}
+use mathlib.Core.Path.{◌≡◌, refl, sym, ap, ◌∙◌, subst, subst₂}
 use mathlib.Core.Logic.{◌⊎◌, inl, inr}
-use mathlib.Core.Bool.{Bool, true, false, not, ◌&&◌, and-false}
+use mathlib.Core.Bool.{Bool, true, false}
 use mathlib.Core.List.{List, [], ◌∷◌, ◌++◌, map, map-append, append-nil}
 use Prim.Native.Nat.{ℕ, zero, suc, ◌+◌, ◌^◌, ◌≤◌, ◌<◌}
 use native.Mathlib.Nat.{pow-suc}
@@ -17,9 +17,10 @@ use Rattle.format.specs.Basics.{pick}
 use Rattle.format.proofs.Booleans.{true_T, false_T, T_false}
 use Rattle.consistency.specs.Counting.{those}
 use Rattle.consistency.specs.Consistency.{Sheet, places, answer, backed, relax}
-use Rattle.consistency.specs.Counts.{bit, answered, in_doubt}
+use Rattle.consistency.specs.Counts.{bit, in_doubt}
 use Rattle.consistency.proofs.Booleans.{below_suc}
 use Rattle.consistency.proofs.Masks.{zero_bit}
+use Rattle.filter.specs.Cases.{doubted}
 use Rattle.filter.specs.Start.{CasesAre, cases_below}
 use Rattle.filter.proofs.Bits.{one_bit, low_bits}
 use Rattle.consistency.proofs.Elements.{answer_at}
@@ -161,17 +162,14 @@ module _ {s : Sheet} {own : List ℕ} {all f : ℕ} (x : CasesBelow s own all f)
       ∙ ap (λ (t : Bool). s.answers ∷ map (relax s.answers) (those f (in_doubt s) ++ pick t (f ∷ []) [])) e
       ∙ ap (λ (z : List (List ℕ)). s.answers ∷ z) (map-append (relax s.answers) (those f (in_doubt s)) (pick t (f ∷ []) []))
 
-  -- whether f has an answer, as its byte says
-  answered_is : (get_or s.answers f 0 ≡ 255 → ⊥) → answered s.answers f ≡ true
-  answered_is e = ap not (ne_eqb (answer s.answers f) 255 (λ z. e (answer_at s.answers f (omega (arith, x.sheet)) ∙ z)))
-
-  open_is : get_or s.answers f 0 ≡ 255 → answered s.answers f ≡ false
-  open_is e = ap not (eq-eqb (answer s.answers f) 255 (sym (answer_at s.answers f (omega (arith, x.sheet))) ∙ e))
+  -- whether it is in doubt, as its byte and its photograph say
+  pub doubt_is : {r : Bool} → r ≡ doubted (get_or s.answers f 0) (backed s f) → in_doubt s f ≡ r
+  doubt_is e = sym (e ∙ ap (λ (y : ℕ). doubted y (backed s f)) (answer_at s.answers f (omega (arith, x.sheet))))
 
   -- a field with an answer and no photograph has a case
-  pub cases_doubted : (get_or s.answers f 0 ≡ 255 → ⊥) → not (backed s f) ≡ true → CasesBelow s (set own f (all + 1)) (all + (all + 1)) (f + 1)
-  cases_doubted e u =
-      let n : cases_below (f + 1) s ≡ cases_below f s ++ (relax s.answers f ∷ []) = next_cases true (ap₂ ◌&&◌ (answered_is e) u) in
+  pub cases_doubted : in_doubt s f ≡ true → CasesBelow s (set own f (all + 1)) (all + (all + 1)) (f + 1)
+  cases_doubted e =
+      let n : cases_below (f + 1) s ≡ cases_below f s ++ (relax s.answers f ∷ []) = next_cases true e in
       record {
         sheet = x.sheet;
         size = length-set own f (all + 1) ∙ x.size;
@@ -183,7 +181,7 @@ module _ {s : Sheet} {own : List ℕ} {all f : ℕ} (x : CasesBelow s own all f)
       }
 
   -- a field without an answer, or with a photograph, has none
-  cases_still : in_doubt s f ≡ false → CasesBelow s own all (f + 1)
+  pub cases_still : in_doubt s f ≡ false → CasesBelow s own all (f + 1)
   cases_still e =
       let n : cases_below (f + 1) s ≡ cases_below f s = next_cases false e ∙ append-nil (cases_below f s) in
       record {
@@ -193,9 +191,3 @@ module _ {s : Sheet} {own : List ℕ} {all f : ℕ} (x : CasesBelow s own all f)
         few = omega (arith, ap length n, x.few);
         are = subst (λ (z : List (List ℕ)). CasesAre s.answers own all z) (sym n) x.are;
       }
-
-  pub cases_open : get_or s.answers f 0 ≡ 255 → CasesBelow s own all (f + 1)
-  cases_open e = cases_still (ap (◌&& not (backed s f)) (open_is e))
-
-  pub cases_backed : not (backed s f) ≡ false → CasesBelow s own all (f + 1)
-  cases_backed u = cases_still (ap (answered s.answers f &&◌) u ∙ and-false (answered s.answers f))

@@ -1,11 +1,12 @@
 -- The search for rows for all codes of a column: what holds between two questions, and each way on. Assumes nothing.
 use mathlib.Core.Path.{◌≡◌, sym, ◌∙◌, subst}
 use mathlib.Core.List.{List}
-use Prim.Native.Nat.{ℕ, ◌+◌, ◌-◌, ◌*◌, ◌≤◌, ◌<◌}
+use Prim.Native.Nat.{ℕ, ◌+◌, ◌-◌, ◌≤◌, ◌<◌}
 use native.Mathlib.Omega.{arith}
 use lib.Bits.{bit_xor}
 use lib.ListN.{length, get_or, set}
-use Rattle.format.specs.Format.{code_limit, byte, table_at}
+use Rattle.format.specs.Format.{code_limit, table_at}
+use Rattle.consistency.specs.Consistency.{code_of}
 use Rattle.std.specs.Prelude.{Option, None}
 use Rattle.book.specs.View.{TableIn}
 use Rattle.filter.specs.declared.support.Found.{Found}
@@ -13,7 +14,7 @@ use Rattle.filter.specs.Support.{found, row_cases, first_from}
 use Rattle.filter.specs.Revise.{Unsupported}
 use Rattle.filter.specs.Asks.{Counted}
 use Rattle.filter.proofs.Firsts.{FirstAt, FirstIs}
-use Rattle.filter.proofs.Tables.{rows_of_lem, code_is, codes_small}
+use Rattle.filter.proofs.Tables.{rows_of_lem, codes_small}
 use Rattle.filter.proofs.RowSearch.{own_in, search_is}
 use Rattle.filter.proofs.Needs.{needing_none}
 use Rattle.filter.proofs.Remaining.{Remaining, remaining_next, remaining_end, remaining_zero, taken_some}
@@ -59,7 +60,7 @@ module _ {s : List ℕ} {index at arity first rows : ℕ} (q : TableIn s index a
       pub row_below : r < rows
       row_below = subst (r <◌) (rows_of_lem q) first_at.below
 
-      module _ {c : ℕ} (ce : c ≡ byte s (first + r * arity + j)) where
+      module _ {c : ℕ} (ce : c ≡ code_of (table_at s at) r j) where
         -- c is its code in column j
         pub code_below : c < code_limit
         code_below = own_in q r j row_below jl c ce
@@ -67,13 +68,13 @@ module _ {s : List ℕ} {index at arity first rows : ℕ} (q : TableIn s index a
         remains : Remaining M (table_at s at) j need (set left c (bit_xor (get_or left c 0) v)) (r + 1)
         remains =
             remaining_next M (table_at s at) j (codes_small q) need left from h.remaining k.full r v c first_at
-            (ce ∙ code_is q r j row_below jl) code_below
+            ce code_below
 
         -- which looks for a row
         pub had_some : get_or left c 0 ≡ 0 → ⊥
         had_some =
             taken_some M (table_at s at) j (codes_small q) need left from h.remaining k.full r v c first_at
-            (ce ∙ code_is q r j row_below jl) code_below
+            ce code_below
 
         -- its cases are taken out
         pub searching_on : Searching s at rows j M need (set left c (bit_xor (get_or left c 0) v)) (r + 1)

@@ -1,15 +1,24 @@
 -- The cases in which some field is empty: the words, field by field and code by code, and what they say of the marks of a pass. Assumes nothing.
 use mathlib.Core.Path.{◌≡◌, refl, sym, ap, ap₂, ◌∙◌, subst}
 use mathlib.Core.Bool.{Bool, true, false, not, ◌&&◌, ◌||◌, and-true, and_assoc}
-use mathlib.Core.List.{List, []}
-use Prim.Native.Nat.{ℕ, ◌+◌, ◌≤◌, ◌<◌}
-use native.Mathlib.Nat.{le_trans}
+use mathlib.Core.List.{List, [], ◌∷◌, ◌++◌, map-id}
+use Prim.Native.Nat.{ℕ, zero, suc, ◌+◌, ◌≤◌, ◌<◌}
+use native.Mathlib.Nat.{le_trans, zero-add, sub-zero}
 use native.Mathlib.Numerals.{add-one}
 use native.Mathlib.Omega.{arith}
 use borrow.Author.Tests.{lt-ltb}
 use lib.ListN.{length, get_or}
 use lib.Bits.{bit_and, bit_or, bit_xor}
 use lib.Dec.{T, ltb}
+use Rattle.std.specs.Fn.{Mut, Called}
+use Rattle.std.specs.Iterator.{FoldsItems}
+use Rattle.std.specs.declared.ops.Range.{Range}
+use Rattle.std.proofs.lemmas.Fn.{fold_over}
+use Rattle.std.proofs.iter.Yields.{nat_range_steps}
+use Rattle.std.proofs.lemmas.Iterator.{YieldsList-from_range}
+use Rattle.std.specs.List.{list_all, range_with_len}
+use Rattle.std.proofs.lemmas.List.Folds.{list_all-append}
+use Rattle.std.proofs.lemmas.List.FromFn.{map-range_with_len_more}
 use Rattle.format.specs.Format.{code_limit, field_count, book_of}
 use Rattle.format.specs.Promise.{Promise}
 use Rattle.format.proofs.Views.{counts_count}
@@ -52,35 +61,60 @@ without : (x y : Bool) → (x && not (x && y)) ≡ (x && not y)
 without true y = refl
 without false y = refl
 
-module _ (M : List ℕ) where
-  -- of 64 cases, those in which each field below n has a mark
-  abbrev pub FullBelow : ℕ → ℕ → Type 0
-  FullBelow n w = (k : ℕ) → bit w k ≡ (ltb k 64 && all_below n (λ f. marked M f k))
+-- a test of all numbers below n, as a list
+all_numbers : (p : ℕ → Bool) (n : ℕ) → list_all p (range_with_len 0 n) ≡ all_below n p
+all_numbers p zero = refl
+all_numbers p (suc n) =
+    ap (list_all p)
+    (ap (range_with_len 0) (sym (add-one n)) ∙ sym (map-id (range_with_len 0 (n + 1))) ∙ map-range_with_len_more (λ x. x) 0 n n (zero-add n)
+    ∙ ap (◌++ (n ∷ [])) (map-id (range_with_len 0 n)))
+    ∙ list_all-append p (range_with_len 0 n) (n ∷ []) ∙ ap₂ ◌&&◌ (all_numbers p n) (and-true (p n))
 
-  pub full_none : FullBelow 0 18446744073709551615
+module _ (M : List ℕ) where
+  -- of 64 cases, those in which each of these fields has a mark
+  abbrev FullOver : List ℕ → ℕ → Type 0
+  FullOver fs w = (k : ℕ) → bit w k ≡ (ltb k 64 && list_all (λ f. marked M f k) fs)
+
+  full_none : FullOver [] 18446744073709551615
   full_none k = low_bits 64 k ∙ sym (and-true (ltb k 64))
 
-  pub full_more : (w f v : ℕ) → FullBelow f w → ((k : ℕ) → bit v k ≡ marked M f k) → FullBelow (f + 1) (bit_and w v)
-  full_more w f v h g k =
-      bit_and_lem w v k ∙ ap₂ ◌&&◌ (h k) (g k) ∙ and_assoc (ltb k 64) (all_below f (λ i. marked M i k)) (marked M f k)
-      ∙ ap (λ (n : ℕ). ltb k 64 && all_below n (λ i. marked M i k)) (sym (add-one f))
+  full_more : (fs : List ℕ) (w f v : ℕ) → FullOver fs w → ((k : ℕ) → bit v k ≡ marked M f k) → FullOver (fs ++ (f ∷ [])) (bit_and w v)
+  full_more fs w f v h g k =
+      bit_and_lem w v k ∙ ap₂ ◌&&◌ (h k) (g k ∙ sym (and-true (marked M f k))) ∙ and_assoc (ltb k 64) (list_all (λ i. marked M i k) fs) (marked M f k && true)
+      ∙ ap (ltb k 64 &&◌) (sym (list_all-append (λ i. marked M i k) fs (f ∷ [])))
 
   -- all others
-  pub full_done : (w f fields : ℕ) → FullBelow f w → f ≡ fields → bit_xor 18446744073709551615 w ≡ empty_cases M fields
+  full_done : (w fields : ℕ) → FullOver (range_with_len 0 fields) w → bit_xor 18446744073709551615 w ≡ empty_cases M fields
   unfolding empty_cases
-  full_done w f fields h e = same_bits (bit_xor 18446744073709551615 w) (mask 64 (emptied M fields)) at
+  full_done w fields h = same_bits (bit_xor 18446744073709551615 w) (mask 64 (emptied M fields)) at
     where
       full : ℕ → Bool
-      full k = all_below f (λ i. marked M i k)
+      full k = all_below fields (λ i. marked M i k)
+
+      have : (k : ℕ) → bit w k ≡ (ltb k 64 && full k)
+      have k = h k ∙ ap (ltb k 64 &&◌) (all_numbers (λ i. marked M i k) fields)
 
       inside : (k : ℕ) → T (bit w k) → T (bit 18446744073709551615 k)
-      inside k t = subst T (sym (low_bits 64 k)) (and_left (ltb k 64) (full k) (subst T (h k) t))
+      inside k t = subst T (sym (low_bits 64 k)) (and_left (ltb k 64) (full k) (subst T (have k) t))
 
       at : (k : ℕ) → bit (bit_xor 18446744073709551615 w) k ≡ bit (mask 64 (emptied M fields)) k
       at k =
-          bit_without 18446744073709551615 w k inside ∙ ap₂ (λ (x y : Bool). x && not y) (low_bits 64 k) (h k) ∙ without (ltb k 64) (full k)
-          ∙ ap (λ (n : ℕ). ltb k 64 && not (all_below n (λ i. marked M i k))) e
+          bit_without 18446744073709551615 w k inside ∙ ap₂ (λ (x y : Bool). x && not y) (low_bits 64 k) (have k) ∙ without (ltb k 64) (full k)
           ∙ ap (ltb k 64 &&◌) (sym (any_not fields (λ i. marked M i k))) ∙ sym (mask_bit 64 (emptied M fields) k)
+
+  -- the fields one after another, by a call for each
+  pub empty_by : {F : Type 0} {g : Mut F (ℕ × (ℕ × Unit {0})) ℕ} {s : Range ℕ} {p : F} {r : ℕ} (fields : ℕ) → FoldsItems nat_range_steps g s p 18446744073709551615 r
+      → s ≡ record { start = 0; end = fields }
+      → ((w f n : ℕ) (q : F) → Called g p (w, (f, tt)) n q → (v : ℕ) × ((k : ℕ) → bit v k ≡ marked M f k) × (n ≡ bit_and w v) × (q ≡ p))
+      → bit_xor 18446744073709551615 r ≡ empty_cases M fields
+  empty_by {F} {g} {s} {p} {r} fields d e call =
+      full_done r fields
+      (fold_over nat_range_steps (λ x. x) g FullOver p (λ fs w f n q h k. one fs w f n q h (call w f n q k)) s (range_with_len 0 fields) 18446744073709551615 r
+      (YieldsList-from_range 0 fields fields e (sub-zero fields)).runs full_none d)
+    where
+      one : (fs : List ℕ) (w f n : ℕ) (q : F) → FullOver fs w → (v : ℕ) × ((k : ℕ) → bit v k ≡ marked M f k) × (n ≡ bit_and w v) × (q ≡ p)
+          → FullOver (fs ++ (f ∷ [])) n × (q ≡ p)
+      one fs w f n q h (v, m, a, o) = (rw a (full_more fs w f v h m), o)
 
 -- bit k of the word
 empty_bit : (M : List ℕ) (n k : ℕ) → k < 64 → bit (empty_cases M n) k ≡ emptied M n k

@@ -19,6 +19,10 @@ zeros zero i = refl
 zeros (suc n) zero = refl
 zeros (suc n) (suc i) = zeros n i
 
+-- an element, by another name of the list
+pub listed : {M N : List ℕ} (i : ℕ) {x : ℕ} → M ≡ N → x ≡ get_or M i 0 → x ≡ get_or N i 0
+listed i e h = h ∙ ap (λ (y : List ℕ). get_or y i 0) e
+
 -- a list of values turns on the values below its length
 pub tabulate_ext : (g h : ℕ → ℕ) (n : ℕ) → ((k : ℕ) → k < n → g k ≡ h k) → tabulate g n 0 ≡ tabulate h n 0
 tabulate_ext g h n e =
@@ -58,6 +62,10 @@ module _ (a k : ℕ) (M N : List ℕ) (i : ℕ) (al : a ≤ length M) (l : i < l
 
 -- ---- n zeros, filled from the front
 
+-- the part of the first k has k
+pub part_zeros : {n k x : ℕ} → k ≤ n → x ≡ length (take k (replicate {A = ℕ} n 0)) → x ≡ k
+part_zeros {n} {k} l e = e ∙ length-take-le k (replicate n 0) (omega (arith, length-replicate {A = ℕ} n 0))
+
 -- below f the values of g, and 0 from there on
 pub record Filled (g : ℕ → ℕ) (n : ℕ) (N : List ℕ) (f : ℕ) : Type 0 where
   pub size : length N ≡ n
@@ -79,6 +87,11 @@ module _ (g : ℕ → ℕ) (n : ℕ) where
             (get_or-set_same N f x 0 (omega (arith, y.size)) ∙ e);
         rest = λ k m. get_or-set_other N f k x 0 (λ (q : k ≡ f). omega arith) ∙ y.rest k (omega arith);
       }
+
+  -- one more, in a part in front of another
+  pub filled_front : (N P : List ℕ) (f x : ℕ) → f < length N → Filled g n (N ++ P) f → f < n → x ≡ g f → Filled g n (set N f x ++ P) (f + 1)
+  filled_front N P f x m y l e =
+      subst (λ (Q : List ℕ). Filled g n Q (f + 1)) (set-append_left N P f x m) (filled_more (N ++ P) f x y l e)
 
   pub filled_all : (N : List ℕ) (f : ℕ) → Filled g n N f → ((k : ℕ) → f ≤ k → g k ≡ 0) → N ≡ tabulate g n 0
   filled_all N f y z =

@@ -1,19 +1,17 @@
--- The row behind a code: the place of a table, the column of a field, and what the inner question answers for one code in case 0.
+-- The row behind a code: a table by its number, the column of a field, and what the inner question answers for one code in case 0.
 -- Assumes nothing.
 use mathlib.Core.Path.{◌≡◌, sym, ap, ap₂, ◌∙◌}
-use mathlib.Core.Logic.{◌≢◌}
-use mathlib.Core.Bool.{Bool, false, not}
+use mathlib.Core.Bool.{Bool, true, false, not}
 use mathlib.Core.List.{List, [], ◌∷◌}
 use Prim.Native.Nat.{ℕ, ◌+◌, ◌-◌, ◌≤◌, ◌<◌}
 use native.Mathlib.Omega.{arith}
-use borrow.Author.Tests.{lt-ltb, le-ltb, eq-eqb, ne_eqb}
+use borrow.Author.Tests.{lt-ltb, le-ltb}
 use lib.Dec.{eqb}
 use lib.ListN.{length, set, replicate}
 use lib.Seq.{get_or-set_same, get_or-set_other}
-use Rattle.format.specs.Basics.{pick, first_bad}
-use Rattle.format.specs.Format.{Table, code_limit, byte, table_at, book_of}
+use Rattle.format.specs.Basics.{pick}
+use Rattle.format.specs.Format.{Table, code_limit, table_at, book_of}
 use Rattle.format.proofs.Views.{tables_count}
-use Rattle.format.proofs.Scans.{bad_on, bad_here, bad_none}
 use Rattle.format.proofs.Booleans.{T_false}
 use Rattle.book.specs.View.{Numbered}
 use Rattle.consistency.specs.Consistency.{Subdomain, field_of, nth}
@@ -22,15 +20,29 @@ use Rattle.consistency.specs.Rows.{no_row, column_of, has_field, first_support_i
 use Rattle.consistency.proofs.Supports.{row_there}
 use Rattle.consistency.proofs.FirstRows as first_rows
 use Rattle.filter.specs.declared.support.Found.{Found}
-use Rattle.std.specs.Prelude.{Option, None, Result, Ok, Err}
+use Rattle.std.specs.Prelude.{Option, Some, None, MatchOption, Result, Ok, Err, IfOk, IfErr}
+use Rattle.std.specs.Option.{ok_or}
+use Rattle.std.specs.Fn.{Mut, Called}
+use Rattle.std.specs.Iterator.{Yields, SkipsThenYields, FindsPosition}
+use Rattle.std.specs.Slice.Iter.{iter_rest}
+use Rattle.std.specs.declared.slice.Iter.{Iter}
+use Rattle.std.proofs.lemmas.Iterator.{IsFirst-from_position, YieldsList-from_slice}
+use Rattle.std.proofs.Common.{Bor}
+use Rattle.std.proofs.lemmas.Fn.{fronts}
+use Rattle.std.specs.List.{AllWithin, HoldsAt}
 use Rattle.filter.specs.declared.NoColumn.{NoColumn}
 use Rattle.filter.specs.Words.{domain_of}
 use Rattle.filter.specs.Cases.{marks_of}
 use Rattle.book.specs.View.{TableIn}
+use Rattle.book.specs.Walk.{GivesTable}
+use Rattle.book.specs.declared.view.Book.{Book}
+use Rattle.book.specs.declared.view.Table as view
+use Rattle.book.specs.declared.view.Tables.{Tables}
+use Rattle.book.proofs.Firsts.{first_found}
 use Rattle.filter.specs.Support.{first_from, row_cases}
 use Rattle.filter.specs.Rows.{supporting, no_column, supporting_row}
 use Rattle.filter.proofs.Lists.{zeros}
-use Rattle.filter.proofs.Tables.{nth_is, arity_of, field_is, codes_small}
+use Rattle.filter.proofs.Tables.{nth_is, arity_of, codes_small}
 use Rattle.filter.proofs.Agreement.{marks_domain}
 use Rattle.filter.proofs.FirstRow.{OneMark, row_number, first_row_lem}
 
@@ -41,37 +53,69 @@ answer_in r = Ok r
 answered : {q r : Option ℕ} → q ≡ r → answer_in q ≡ answer_in r
 answered e = ap answer_in e
 
--- ---- the column of a field
+-- ---- a table, and the column of a field
 
--- the first column from j on that is for f
-abbrev pub column_from : Table → ℕ → ℕ → ℕ
-column_from t f j = first_bad (λ k. not (eqb (field_of t k) f)) j (length t.fields)
+-- a walk over a book's tables that has given some is as many further
+walked_on : (xs : List view.Table) (s t : Tables) → Yields GivesTable s xs t → (t.book ≡ s.book) × (t.index ≡ s.index + length xs)
+walked_on [] s t e = (ap (λ (w : Tables). w.book) (sym e), omega (arith, ap (λ (w : Tables). w.index) e))
+walked_on (x ∷ xs) s t (next, g, y) =
+    let (book, index) = walked_on xs next t y in
+    (book ∙ g.4, omega (arith, index, g.5))
 
-module _ {s : List ℕ} {index at arity first rows : ℕ} (q : TableIn s index at arity first rows) where
-  abbrev here : Table
-  here = table_at s at
+-- where nothing found is refused, what a search says
+or_none : {A : Type 0} (P : Type 0) (Q : A → Type 0) (r : Option A) (x : Result A NoColumn) → x ≡ ok_or r no_column → MatchOption r P Q
+    → IfOk x Q × IfErr x (λ _. P)
+or_none P Q None x e m = rw e (tt, m)
+or_none P Q (Some a) x e m = rw e (m, tt)
 
-  module _ {j x : ℕ} (l : j < arity) (e : x ≡ byte s (at + 1 + j)) where
-    field_here : x ≡ field_of here j
-    field_here = e ∙ field_is q j l
+-- the table of this number, in these bytes
+abbrev pub TableOf : Book → ℕ → view.Table → Type 0
+TableOf b i table = (table.bytes ≡ b.bytes) × (table.index ≡ i)
 
-    -- column j is for f
-    pub column_found : {f : ℕ} → x ≡ f → j ≡ column_from here f j
-    column_found {f} d =
-        bad_here (λ k. not (eqb (field_of here k) f)) j (length here.fields) (omega (arith, arity_of q))
-        (ap not (eq-eqb (field_of here j) f (sym field_here ∙ d)))
+-- of a walk from the first table on, the one that comes behind i others, or none, is table i, or there is none
+module _ (b : Book) {s : Tables} (i : ℕ) (e : s.book ≡ b) (z : s.index ≡ 0) where
+  passed : (r : Option view.Table) (t : Tables) → SkipsThenYields GivesTable s i r t → MatchOption r (b.tables ≤ i) (TableOf b i)
+  passed None t (xs, (at, y, g), n) =
+      let (book, index) = walked_on xs s at y in
+      omega (arith, g.0, ap (λ (v : Book). v.tables) (book ∙ e), index, n, z)
+  passed (Some table) t (xs, (at, y, g), n) =
+      let (book, index) = walked_on xs s at y in
+      (g.1 ∙ ap (λ (v : Book). v.bytes) (book ∙ e), omega (arith, g.2, index, n, z))
 
-    -- it is for another
-    pub column_on : {f : ℕ} → x ≢ f → column_from here f (j + 1) ≡ column_from here f j
-    column_on {f} d =
-        bad_on (λ k. not (eqb (field_of here k) f)) j (length here.fields) (omega (arith, arity_of q))
-        (ap not (ne_eqb (field_of here j) f (λ c. d (field_here ∙ c))))
+  pub table_there : (r : Option view.Table) (t : Tables) → SkipsThenYields GivesTable s i r t
+      → {x : Result view.Table NoColumn} → x ≡ ok_or r no_column → IfOk x (TableOf b i) × IfErr x (λ _. b.tables ≤ i)
+  table_there r t g {x} d = or_none (b.tables ≤ i) (TableOf b i) r x d (passed r t g)
 
-  -- no column is
-  pub column_none : (f : ℕ) {j : ℕ} → arity ≤ j → column_from here f j ≡ column_of here f → has_field here f ≡ false
-  column_none f {j} l e =
-      le-ltb (column_of here f) (length here.fields)
-      (omega (arith, e, bad_none (λ k. not (eqb (field_of here k) f)) j (length here.fields) (omega (arith, arity_of q)), arity_of q))
+-- the first column whose number is f, as a search over the field numbers answers it
+module _ (t : Table) (f : ℕ) where
+  abbrev pub Here : ℕ → Type 0
+  Here x = eqb x f ≡ true
+
+  abbrev pub Elsewhere : ℕ → Type 0
+  Elsewhere x = eqb x f ≡ false
+
+  abbrev pub IsColumn : ℕ → Type 0
+  IsColumn j = (j < length t.fields) × (j ≡ column_of t f)
+
+  abbrev other : ℕ → Bool
+  other k = not (eqb (field_of t k) f)
+
+  first : (r : Option ℕ)
+      → MatchOption r (AllWithin Elsewhere t.fields 0 (length t.fields))
+      (λ j. (j < length t.fields) × HoldsAt Here t.fields j × AllWithin Elsewhere t.fields 0 j)
+      → MatchOption r (has_field t f ≡ false) IsColumn
+  first None m =
+      le-ltb (column_of t f) (length t.fields) (first_found other (length t.fields) 0 None (omega arith) (λ k a l. ap not (m k 0 a l)))
+  first (Some j) (l, h, m) =
+      first_found other (length t.fields) 0 (Some j) (omega arith) (omega arith, l, ap not (h 0), λ k a b. ap not (m k 0 a b))
+
+  pub column_there : {F : Type 0} {g : Mut F (Bor ℕ × Unit {0}) Bool} {s : Iter ℕ} (u : Iter ℕ) {p : F} {r : Option ℕ}
+      → FindsPosition fronts g s p r u → iter_rest s ≡ t.fields → ((x : Bor ℕ) (q : F) → Called g p (x, tt) true q → Here x.now)
+      → ((x : Bor ℕ) (q : F) → Called g p (x, tt) false q → (q ≡ p) × Elsewhere x.now)
+      → {x : Result ℕ NoColumn} → x ≡ ok_or r no_column → IfOk x IsColumn × IfErr x (λ _. has_field t f ≡ false)
+  column_there u {p} {r} d e here other {x} k =
+      or_none (has_field t f ≡ false) IsColumn r x k
+      (first r (IsFirst-from_position u p r Here Elsewhere d (YieldsList-from_slice t.fields e) here other))
 
 -- ---- what the question answers
 

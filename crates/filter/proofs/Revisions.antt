@@ -9,14 +9,14 @@ use native.Mathlib.Omega.{arith}
 use lib.Dec.{T, T_not}
 use lib.ListN.{length, get_or}
 use Rattle.format.specs.Format.{Table, code_limit, field_count, book_of, table_at}
-use Rattle.format.proofs.Views.{counts_count, counts_view}
+use Rattle.format.proofs.Views.{counts_count}
 use Rattle.format.proofs.Booleans.{T_false, false_T, T-or-not}
 use Rattle.consistency.specs.Consistency.{Support, HoldsAll, field_of, codes}
 use Rattle.consistency.specs.Counts.{bit}
 use Rattle.consistency.proofs.Supports.{support_grows}
 use Rattle.consistency.proofs.Masks.{zero_bit}
 use Rattle.filter.specs.Words.{word_at, domain_of}
-use Rattle.format.specs.Promise.{field_at, count_at}
+use Rattle.format.specs.Promise.{field_at}
 use Rattle.book.specs.View.{TableIn}
 use Rattle.filter.specs.Revise.{Unsupported, Revised}
 use Rattle.filter.specs.Asks.{Looks, Struck, Marks}
@@ -27,18 +27,15 @@ use Rattle.filter.proofs.Limits.{codes_few}
 use Rattle.filter.proofs.Tables.{arity_of, field_is, field_known, index_below, nth_is}
 
 module _ {s : List ℕ} {index at arity first rows : ℕ} (q : TableIn s index at arity first rows) {j f : ℕ} (jl : j < arity) (fe : f ≡ field_at s at j) where
-  -- f is column j's field, one of the book's, and k the number of its codes
+  -- f is column j's field, and one of the book's
   field_of_lem : field_of (table_at s at) j ≡ f
   field_of_lem = sym (field_is q j jl) ∙ sym fe
 
   known : f < field_count s
   known = subst (λ (y : ℕ). y < field_count s) field_of_lem (field_known q j jl)
 
-  codes_of : {k : ℕ} → k ≡ count_at s f → codes (book_of s) f ≡ k
-  codes_of e = counts_view s f known ∙ sym e
-
 module _ {s : List ℕ} {index at arity first rows : ℕ} (q : TableIn s index at arity first rows) {j f k n u : ℕ} (jl : j < arity)
-    (fe : f ≡ field_at s at j) (ke : k ≡ count_at s f) (few : k ≤ code_limit) {M N need left : List ℕ} (marks : Marks s M n) (l : Looks M f k need)
+    (fe : f ≡ field_at s at j) (ke : k ≡ codes (book_of s) f) (few : k ≤ code_limit) {M N need left : List ℕ} (marks : Marks s M n) (l : Looks M f k need)
     (x : Unsupported M (table_at s at) j need left) (h : Struck M N left f k n u) where
   -- what is left of a code are cases in which it stands, and it is one of the field's codes
   left_code : (c i : ℕ) → T (bit (get_or left c 0) i) → c < k
@@ -59,7 +56,7 @@ module _ {s : List ℕ} {index at arity first rows : ℕ} (q : TableIn s index a
   stands i c b =
       let w = stood few lefts h i c b in
       let cl = domain_small N i f c b in
-      let m : c < k = omega (arith, marks.of_book i f c w.0, codes_of q jl fe ke) in
+      let m : c < k = omega (arith, marks.of_book i f c w.0, ke) in
       x.rest c i (subst (λ (y : ℕ). T (bit y i)) (sym (l.words c m)) (subst T (domain_bit M i f c cl) w.0)) (T_false w.1)
 
   -- a mark that is struck had none
@@ -97,7 +94,7 @@ module _ {s : List ℕ} {index at arity first rows : ℕ} (q : TableIn s index a
           grows = omega (arith, h.counted);
           holds = holds;
           inside = inside few lefts h;
-          counts = counts few lefts h (book_of s) (omega (arith, known q jl fe, counts_count s q.table.promise.whole)) (codes_of q jl fe ke)
+          counts = counts few lefts h (book_of s) (omega (arith, known q jl fe, counts_count s q.table.promise.whole)) (sym ke)
               (codes_few s q.table.promise);
           still = still few lefts h;
         };

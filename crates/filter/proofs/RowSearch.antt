@@ -7,14 +7,14 @@ use native.Mathlib.Omega.{arith}
 use lib.Bits.{bit_and}
 use lib.ListN.{length, get_or}
 use Rattle.std.specs.Prelude.{Option}
-use Rattle.format.specs.Format.{code_limit, byte, table_at}
-use Rattle.consistency.specs.Consistency.{code_of}
+use Rattle.format.specs.Format.{code_limit, table_at}
+use Rattle.consistency.specs.Consistency.{field_of, code_of}
 use Rattle.filter.specs.Words.{word_at}
 use Rattle.book.specs.View.{TableIn}
 use Rattle.filter.specs.declared.support.Found.{Found}
 use Rattle.filter.specs.Support.{found, narrowed, row_cases, first_from}
 use Rattle.filter.proofs.Firsts.{FirstIs, first_is, first_next, first_found}
-use Rattle.filter.proofs.Tables.{arity_of, rows_of_lem, field_is, code_is, code_small}
+use Rattle.filter.proofs.Tables.{arity_of, rows_of_lem, code_small}
 use Rattle.filter.proofs.Narrowing.{narrowed_none, narrowed_skip, narrowed_and, cases_are, cases_none}
 
 module _ {s : List ℕ} {index at arity first rows : ℕ} (q : TableIn s index at arity first rows) where
@@ -24,25 +24,23 @@ module _ {s : List ℕ} {index at arity first rows : ℕ} (q : TableIn s index a
   search_is from g x l e = subst (λ (n : ℕ). FirstIs n from g x) (sym (rows_of_lem q)) (first_is rows from g x l e)
 
   -- the own code of a row has a word in need
-  pub own_in : (r i : ℕ) → r < rows → i < arity → (c : ℕ) → c ≡ byte s (first + r * arity + i) → c < code_limit
-  own_in r i rl il c ce = omega (arith, code_is q r i rl il, code_small q r i rl il)
+  pub own_in : (r i : ℕ) → r < rows → i < arity → (c : ℕ) → c ≡ code_of (table_at s at) r i → c < code_limit
+  own_in r i rl il c ce = omega (arith, code_small q r i rl il)
 
-  module _ (M : List ℕ) (j r : ℕ) (rl : r < rows) where
+  module _ (M : List ℕ) (j r : ℕ) where
     -- column i passed
-    pub column_and : (i v w f c : ℕ) → i < arity → i ≢ j → v ≡ narrowed M (table_at s at) j r w i
-        → f ≡ byte s (at + 1 + i) → c ≡ byte s (first + r * arity + i)
+    pub column_and : (i v w f c : ℕ) → i ≢ j → v ≡ narrowed M (table_at s at) j r w i
+        → f ≡ field_of (table_at s at) i → c ≡ code_of (table_at s at) r i
         → bit_and v (get_or M (f * code_limit + c) 0) ≡ narrowed M (table_at s at) j r w (i + 1)
-    column_and i v w f c il ij ve fe ce =
-        ap₂ bit_and ve (ap₂ (word_at M) (fe ∙ field_is q i il) (ce ∙ code_is q r i rl il))
-        ∙ sym (narrowed_and M (table_at s at) j r w i ij)
+    column_and i v w f c ij ve fe ce = ap₂ bit_and ve (ap₂ (word_at M) fe ce) ∙ sym (narrowed_and M (table_at s at) j r w i ij)
 
     -- column j itself is left out
     pub column_skip : (i v w : ℕ) → i ≡ j → v ≡ narrowed M (table_at s at) j r w i → v ≡ narrowed M (table_at s at) j r w (i + 1)
     column_skip i v w ij ve = ve ∙ sym (narrowed_skip M (table_at s at) j r w i ij)
 
-    module _ (jl : j < arity) (need : List ℕ) (w : ℕ) (own : w ≡ get_or need (byte s (first + r * arity + j)) 0) where
+    module _ (need : List ℕ) {o w : ℕ} (oe : o ≡ code_of (table_at s at) r j) (own : w ≡ get_or need o 0) where
       asked : w ≡ get_or need (code_of (table_at s at) r j) 0
-      asked = own ∙ ap (λ (x : ℕ). get_or need x 0) (code_is q r j rl jl)
+      asked = own ∙ ap (λ (x : ℕ). get_or need x 0) oe
 
       -- no case is asked for
       pub row_unasked : w ≡ 0 → row_cases M need (table_at s at) j r ≡ 0

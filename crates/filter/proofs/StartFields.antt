@@ -13,8 +13,8 @@ use lib.ListN.{length, get_or, replicate, length-replicate}
 use lib.Count.{ones}
 use lib.Dec.{ltb}
 use Rattle.format.specs.Basics.{pick}
-use Rattle.format.specs.Format.{Book, code_limit, field_count, byte, book_of}
-use Rattle.format.proofs.Views.{counts_count, counts_view}
+use Rattle.format.specs.Format.{Book, code_limit, field_count, book_of}
+use Rattle.format.proofs.Views.{counts_count}
 use Rattle.consistency.specs.Counting.{how_many, sum_below}
 use Rattle.consistency.specs.Consistency.{places, codes, answer}
 use Rattle.consistency.specs.Counts.{bit}
@@ -55,6 +55,10 @@ started_none {b} {a} {own} {all} {N} l e =
     }
 
 module _ {s : List ℕ} {list fields tables : ℕ} (q : Numbered s list fields tables) where
+  -- all fields have places on the sheet
+  pub fields_in : fields ≤ places
+  fields_in = omega (arith, q.fields_is, fields_few s q.promise)
+
   -- one field more
   module _ {f : ℕ} (l : f < fields) where
     -- f is a field of the book
@@ -63,12 +67,9 @@ module _ {s : List ℕ} {list fields tables : ℕ} (q : Numbered s list fields t
 
     -- the field's places in the book and on the sheet
     pub field_place : f < places
-    field_place = omega (arith, fl, fields_few s q.promise)
+    field_place = le_trans l fields_in
 
-    module _ {k : ℕ} (ke : k ≡ byte s (list + f)) where
-      k_codes : k ≡ codes (book_of s) f
-      k_codes = ke ∙ ap (λ (z : ℕ). byte s (z + f)) q.list_is ∙ sym (counts_view s f fl)
-
+    module _ {k : ℕ} (k_codes : k ≡ codes (book_of s) f) where
       k_few : k ≤ code_limit
       k_few = subst (λ (z : ℕ). z ≤ code_limit) (sym k_codes) (codes_few s q.promise f)
 

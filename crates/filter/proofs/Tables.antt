@@ -1,18 +1,16 @@
--- A table of an accepted book: where its rows and fields stand in the bytes, and how large they are. Assumes nothing.
+-- A table of an accepted book: where its fields stand in the bytes, and how large its fields and codes are. Assumes nothing.
 use mathlib.Core.Path.{◌≡◌, sym, ap, ◌∙◌, subst}
 use mathlib.Core.Logic.{◌≢◌}
 use mathlib.Core.List.{List}
-use Prim.Native.Nat.{ℕ, ◌+◌, ◌-◌, ◌*◌, ◌≤◌, ◌<◌}
-use native.Mathlib.Nat.{mul-le-mul_right}
+use Prim.Native.Nat.{ℕ, ◌+◌, ◌<◌}
 use native.Mathlib.Omega.{arith}
-use lib.ListN.{length, get_or, take, drop}
-use Rattle.format.specs.Format.{code_limit, byte, field_count, table_count, arity_at, first_row, table_end, table_at, book_of}
+use lib.ListN.{length, get_or}
+use Rattle.format.specs.Format.{code_limit, byte, field_count, table_count, arity_at, table_at, book_of}
 use Rattle.format.specs.Promise.{TablePromise, place, code_at, field_at, count_at}
 use Rattle.format.proofs.Views.{no_table, tables_count, table_view, table_rows, table_code, table_field, table_arity, fields_apart as table-fields-apart}
 use Rattle.consistency.specs.Consistency.{places, field_of, code_of, nth}
 use Rattle.book.specs.View.{TableIn}
 use Rattle.filter.proofs.Limits.{fields_few}
-use Rattle.filter.proofs.Lists.{part_all, part_in, part_at}
 
 -- table i of the book is the table at its place
 pub nth_at : (s : List ℕ) (i at : ℕ) → i < table_count s → at ≡ place s i → nth (book_of s) i ≡ table_at s at
@@ -30,24 +28,9 @@ module _ {s : List ℕ} {index at arity first rows : ℕ} (q : TableIn s index a
   pub rows_of_lem : length (table_at s at).rows ≡ rows
   rows_of_lem = table_rows s at ∙ sym q.rows_is
 
-  -- it ends before the field list, so within the bytes
-  pub end_in : first + rows * arity + 6 ≤ length s
-  end_in =
-      let e : first + rows * arity ≡ table_end s at = rw (q.first_is, q.rows_is, q.arity_is) in
-      omega (arith, promised.ends, q.table.promise.whole)
-
-  -- row r stands within the bytes
-  pub row_in : (r : ℕ) → r < rows → first + r * arity + arity + 6 ≤ length s
-  row_in r l = omega (arith, mul-le-mul_right arity l, end_in)
-
-  -- the bytes there are the table's fields and codes
+  -- the bytes behind its place are its fields
   pub field_is : (i : ℕ) → i < arity → byte s (at + 1 + i) ≡ field_of (table_at s at) i
   field_is i l = sym (table_field s at i (omega (arith, q.arity_is)))
-
-  pub code_is : (r i : ℕ) → r < rows → i < arity → byte s (first + r * arity + i) ≡ code_of (table_at s at) r i
-  code_is r i rl il =
-      let e : first + r * arity + i ≡ first_row s at + r * arity_at s at + i = rw (q.first_is, q.arity_is) in
-      ap (byte s) e ∙ sym (table_code s at r i (omega (arith, q.rows_is)) (omega (arith, q.arity_is)))
 
   -- a column's field is one of the book's
   pub field_known : (i : ℕ) → i < arity → field_of (table_at s at) i < field_count s
@@ -82,15 +65,11 @@ module _ {s : List ℕ} {index at arity first rows : ℕ} (q : TableIn s index a
   pub nth_is : nth (book_of s) index ≡ table_at s at
   nth_is = nth_at s index at q.table.within q.table.at_is
 
--- ---- its field numbers, as a part of the bytes
+-- ---- its field numbers, by another name
 
-module _ {s : List ℕ} {index at arity first rows : ℕ} (q : TableIn s index at arity first rows) {j : ℕ} where
-  pub all_columns : length (take (at + 1 + arity - (at + 1)) (drop (at + 1) s)) ≤ j → arity ≤ j
-  all_columns l = omega (arith, part_all (at + 1) (at + 1 + arity) s (omega (arith, q.first_is, q.arity_is, end_in q)))
+module _ {s : List ℕ} {index at arity first rows : ℕ} (q : TableIn s index at arity first rows) {F : List ℕ} (e : F ≡ (table_at s at).fields) where
+  pub columns : length F ≡ arity
+  columns = ap length e ∙ arity_of q
 
-  module _ (l : j < length (take (at + 1 + arity - (at + 1)) (drop (at + 1) s))) where
-    pub column_part : j < arity
-    column_part = omega (arith, part_in (at + 1) (at + 1 + arity) j s l)
-
-    pub field_part : get_or (take (at + 1 + arity - (at + 1)) (drop (at + 1) s)) j 0 ≡ byte s (at + 1 + j)
-    field_part = part_at (at + 1) (at + 1 + arity) j s l
+  pub column_field : {j : ℕ} → j < length F → get_or F j 0 ≡ byte s (at + 1 + j)
+  column_field {j} l = ap (λ (x : List ℕ). get_or x j 0) e ∙ sym (field_is q j (omega (arith, columns)))

@@ -1,11 +1,15 @@
 -- Document 01, "The sheet and its one pass", with document 02's M-105: the cases of a pass, and what the marks and the count say at its end.
 -- Assumes nothing.
-use Rattle.std.specs.Prelude.{ℕ, suc, ◌+◌, ◌*◌, ◌/◌, ◌%◌, List, [], ◌∷◌, map, length, get_or}
+use Rattle.std.specs.Prelude.{ℕ, suc, ◌+◌, ◌*◌, ◌/◌, ◌%◌, List, [], ◌∷◌, map, Bool, not, ◌&&◌, length, get_or, eqb}
 use Rattle.format.specs.Format.{Book, code_limit}
 use Rattle.consistency.specs.Counting.{how_many, tabulate}
 use Rattle.consistency.specs.Consistency.{Sheet, places, relax}
 use Rattle.consistency.specs.Largest.{largest}
 use Rattle.consistency.specs.Counts.{outside, in_doubt, relaxable, mask}
+
+-- a byte that is an answer, and no photograph: what `in_doubt` asks of a place
+abbrev pub doubted : ℕ → Bool → Bool
+doubted x p = not (eqb x 255) && not p
 
 -- "n+1 cases .. nothing lifted, then each answered field lifted by itself", as the answers of each case. Each answered field without a
 -- photograph: with one it "gets no case of its own in the one pass" (02, M-105)

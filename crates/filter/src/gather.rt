@@ -28,10 +28,10 @@ pub fn standing_codes(marks: &[u64; WORDS], k: u64, f: usize, n: usize) -> u32
 pub(crate) fn gather(book: Book, marks: &[u64; WORDS]) -> [u32; PLACES]
     ensures { result ≡ tabulate (λ f. pick (ltb f book.entry.fields) (mask code_limit (domain_of marks.now 0 f)) 0) places 0 }
 {
+    // (a) There is no heap: an array has a number for each place of any book, and this one's fields are the first.
     let mut numbers = [0u32; PLACES];
-    // By number, since a walk is no plainer: a field's marks are found by it too.
-    for f in 0..book.fields {
-        numbers[f] = standing_codes(marks, 0, f, CODES);
+    for (f, number) in numbers[..book.fields].iter_mut().enumerate() {
+        *number = standing_codes(marks, 0, f, CODES);
     }
     numbers
 }

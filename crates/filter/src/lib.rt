@@ -1,5 +1,5 @@
 // The filter over an accepted book: the one pass for all cases, plain filtering by the same engine with one case, the cases of a pass in
-// which some field is empty, and the row behind a code.
+// which some field is empty, the row behind a code, and whether an answer may be put in doubt.
 #![tactic(auto)]
 
 ghost use Rattle.std.specs.Prelude.{◌≡◌};
@@ -14,6 +14,7 @@ use cases::Cases;
 use gather::gather;
 use pass::run;
 use start::own_cases;
+use summary::marked_cases;
 
 mod cases;
 mod column;
@@ -31,8 +32,11 @@ mod survey;
 
 pub use gather::standing_codes;
 pub use lookup::supporting_row;
+pub use start::in_doubt;
 
 // A word of marks for each place and code.
+// (d) One list of words, and no array of arrays: the definitions name a word by field and code so (`f * code_limit + c`), and clearing, lending
+// and comparing marks takes them as one list.
 pub const WORDS: usize = PLACES * CODES;
 
 // Every bit of a word of cases.
@@ -43,7 +47,9 @@ const EVERY_CASE: u64 = u64::MAX;
 pub struct NoColumn;
 
 // The one pass over an accepted book, "nothing lifted, then each answered field lifted by itself", those with a photograph left out: the
-// marks of all cases, and the number struck. Answers and photographs come as two arrays, as a sheet has them.
+// marks of all cases, and the number struck.
+// (d) Answers and photographs come as two arrays, as a sheet has them: its type stands in a crate above, and one of this crate would be made
+// of it only to be taken apart.
 pub fn one_pass<'a>(
     book: Book<'a>,
     answers: &[u8; PLACES],
@@ -71,9 +77,6 @@ pub fn plain<'a>(book: Book<'a>, answers: &[u8; PLACES]) -> [u32; PLACES]
 pub fn empty_cases(marks: &[u64; WORDS], fields: usize) -> u64
     ensures { result ≡ empty_cases marks.now fields }
 {
-    let mut full = EVERY_CASE;
-    for f in 0..fields {
-        full = full & summary::marked_cases(marks, f);
-    }
+    let full = (0..fields).fold(EVERY_CASE, |full, f| full & marked_cases(marks, f));
     EVERY_CASE ^ full
 }

@@ -17,12 +17,7 @@ fn table_of<'a>(book: Book<'a>, i: usize) -> Result<Table<'a>, NoColumn>
     ensures table { IfOk result (λ table. (table.bytes ≡ book.entry.bytes) × (table.index ≡ i)) }
     ensures lacks { IfErr result (λ _. book.entry.tables ≤ i) }
 {
-    for table in book.tables() {
-        if table.index == i {
-            return Ok(table);
-        }
-    }
-    Err(NoColumn)
+    book.tables().nth(i).ok_or(NoColumn)
 }
 
 // The column of field f in the table, if it has one.
@@ -30,13 +25,12 @@ fn column_in<'a>(table: Table<'a>, f: usize) -> Result<Column<'a>, NoColumn>
     ensures column { IfOk result (λ column. (column.table ≡ table.entry) × (column.j ≡ column_of (table_at column.table.bytes.now column.table.at) f)) }
     ensures lacks { IfErr result (λ _. has_field (table_at table.entry.bytes.now table.entry.at) f ≡ false) }
 {
-    let at = table.at + 1;
-    for (j, byte) in table.bytes[at..at + table.arity].iter().enumerate() {
-        if *byte as usize == f {
-            return Ok(Column { table, j });
-        }
-    }
-    Err(NoColumn)
+    let j = table
+        .fields()
+        .iter()
+        .position(|field| usize::from(*field) == f)
+        .ok_or(NoColumn)?;
+    Ok(Column { table, j })
 }
 
 // The first row of the table that supports code c in the column in case 0.

@@ -24,7 +24,7 @@ impl Need {
     {
         let mut cases = [0u64; CODES];
         let mut waiting = 0;
-        // By number: walks here, in `strike` and in `sweep`, tried together, made a pass up to a seventh slower.
+        // (b) By number: walks here, in `strike` and in `sweep`, tried together, made a pass up to a seventh slower.
         for c in 0..field.codes {
             let word = marks[field.number * CODES + c];
             cases[c] = word;

@@ -41,7 +41,7 @@ pub(crate) fn propagate(survey: &Survey, marks: &mut [u64; WORDS], begun: u32, q
         queue,
     };
     let mut from = 0;
-    // While there is work, since there is nothing to walk over: what is left grows too.
+    // (d) A `while`, since there is nothing to walk over: what is left grows too.
     while pass.queue != 0 {
         let i = next_table(pass.queue, from);
         let rest = Pass {

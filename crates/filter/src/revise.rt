@@ -1,7 +1,8 @@
 // Striking the marks that a table no longer supports: a column at once, then the columns of a table.
 ghost use Rattle.std.specs.Prelude.{◌≡◌, ◌≤◌, ◌<◌};
 ghost use Rattle.format.specs.Format.{table_at, book_of};
-ghost use Rattle.format.specs.Promise.{field_at, count_at};
+ghost use Rattle.format.specs.Promise.{field_at};
+ghost use Rattle.consistency.specs.Consistency.{codes};
 ghost use Rattle.filter.specs.Revise.{Unsupported, Revised, Swept};
 ghost use Rattle.filter.specs.Asks.{Marks, Struck};
 
@@ -28,12 +29,12 @@ fn unsupported(column: Column, marks: &[u64; WORDS], need: Need) -> [u64; CODES]
     let Column { table, j } = column;
     let mut left = need;
     let mut from = 0;
-    // While there is work, since there is nothing to walk over: each turn goes on behind the row that it has found.
+    // (d) A `while`, since there is nothing to walk over: each turn goes on behind the row that it has found.
     while left.waiting != 0 {
         let Some(found) = support(column, marks, &left.cases, from) else {
             return left.cases;
         };
-        let c = table.bytes[table.first + found.row * table.arity + j] as usize;
+        let c = usize::from(table.row(found.row)[j]);
         left.supported(c, found.cases);
         from = found.row + 1;
     }
@@ -41,12 +42,13 @@ fn unsupported(column: Column, marks: &[u64; WORDS], need: Need) -> [u64; CODES]
 }
 
 // Strikes the cases `left` of the codes of a field, and counts them.
+// (d) Marks, field and count come apart, for the reason that `start_field` gives.
 fn strike(marks: &mut [u64; WORDS], left: &[u64; CODES], field: Field, s: u32) -> u32
     requires { s ≤ 1000000 }
     ensures { Struck marks.old marks.new left.now field.number field.codes s result }
 {
     let mut count = s;
-    // By number: walks here, in `looking` and in `sweep`, tried together, made a pass up to a seventh slower.
+    // (b) By number: walks here, in `looking` and in `sweep`, tried together, made a pass up to a seventh slower.
     for c in 0..field.codes {
         let gone = left[c];
         marks[field.number * CODES + c] ^= gone;
@@ -56,9 +58,10 @@ fn strike(marks: &mut [u64; WORDS], left: &[u64; CODES], field: Field, s: u32) -
 }
 
 // Strikes each mark of a field that no row of the table supports in the field's column.
+// (d) Marks, field and count come apart, for the reason that `start_field` gives.
 fn revise(column: Column, marks: &mut [u64; WORDS], field: Field, s: u32) -> u32
     requires field { field.number ≡ field_at column.table.bytes.now column.table.at column.j }
-    requires codes { field.codes ≡ count_at column.table.bytes.now field.number }
+    requires codes { field.codes ≡ codes (book_of column.table.bytes.now) field.number }
     requires marks { Marks column.table.bytes.now marks.old s }
     ensures { Revised (book_of column.entry.table.bytes.now) marks.old marks.new (table_at column.entry.table.bytes.now column.entry.table.at) column.entry.j field.number s result }
 {
@@ -75,13 +78,14 @@ pub(crate) fn sweep(survey: &Survey, i: usize, marks: &mut [u64; WORDS], before:
     ensures { Swept survey.now.book.bytes.now survey.now.watch marks.old marks.new i before.struck result.struck before.queue result.queue }
 {
     let table = survey.table(i);
+    let fields = table.fields();
     let mut pass = before;
-    // By number: walks here, in `looking` and in `strike`, tried together, made a pass up to a seventh slower.
+    // (b) By number: walks here, in `looking` and in `strike`, tried together, made a pass up to a seventh slower.
     for j in 0..table.arity {
-        let f = table.bytes[table.at + 1 + j] as usize;
+        let f = usize::from(fields[j]);
         let field = Field {
             number: f,
-            codes: survey.book.bytes[survey.book.list + f] as usize,
+            codes: usize::from(survey.book.codes(f)),
         };
         let struck = revise(Column { table, j }, marks, field, pass.struck);
         if struck != pass.struck {

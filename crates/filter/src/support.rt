@@ -26,19 +26,20 @@ pub(crate) fn support(
     ensures { result ≡ first_from (column.entry.table.rows - from) from (row_cases marks.now need.now (table_at column.entry.table.bytes.now column.entry.table.at) column.entry.j) }
 {
     let Column { table, j } = column;
+    let fields = table.fields();
+    // (d) By number, since the row found is told by it, and the search goes on behind it.
     'rows: for r in from..table.rows {
-        let row = table.first + r * table.arity;
-        let own = table.bytes[row + j] as usize;
-        let mut cases = need[own];
+        let row = table.row(r);
+        let mut cases = need[usize::from(row[j])];
         if cases == 0 {
             continue 'rows;
         }
-        // By number, since a walk is no plainer: column j is left out, and the field and the code stand apart.
+        // (d) By number, since a walk is no plainer: column j is left out, and the field and the code stand apart.
         for k in 0..table.arity {
             if k != j {
-                let f = table.bytes[table.at + 1 + k] as usize;
-                let code = table.bytes[row + k] as usize;
-                cases = cases & marks[f * CODES + code];
+                let f = usize::from(fields[k]);
+                let code = usize::from(row[k]);
+                cases &= marks[f * CODES + code];
                 if cases == 0 {
                     continue 'rows;
                 }

@@ -4,6 +4,7 @@ ghost use Rattle.filter.specs.Queue.{Surveyed, Watched};
 use book::{Book, PLACES, TABLE_LIMIT, Table};
 
 // The tables' places, and for each field the word of the tables that have it.
+// (d) Places and no `Table`s: with the book and a table's number its place gives the rest of its view.
 #[derive(Clone, Copy)]
 pub(crate) struct Survey<'a> {
     pub(crate) book: Book<'a>,
@@ -16,10 +17,9 @@ pub(crate) struct Survey<'a> {
 fn watch_table(table: Table, watch: &mut [u64; PLACES])
     ensures { Watched table.entry.bytes.now watch.old watch.new table.entry.at table.entry.index table.entry.arity }
 {
-    let at = table.at + 1;
-    // A walk over the fields' numbers, which are their places among the words.
-    for field in &table.bytes[at..at + table.arity] {
-        watch[*field as usize] |= 1 << table.index;
+    // A field's number is its place among the words.
+    for field in table.fields() {
+        watch[usize::from(*field)] |= 1 << table.index;
     }
 }
 

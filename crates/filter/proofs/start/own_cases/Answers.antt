@@ -1,10 +1,10 @@
-use Rattle.std.proofs.Common.{not, ap, arith, refl}
+use Rattle.std.proofs.Common.{arith, refl, ◌∙◌}
 use Rattle.consistency.specs.Consistency.{places}
-use Rattle.filter.proofs.CaseWords.{cases_none, cases_same, cases_doubted, cases_backed, cases_open, own_within}
+use Rattle.filter.proofs.CaseWords.{cases_none, cases_same, doubt_is, cases_doubted, cases_still, own_within}
 use Rattle.filter.proofs.Lists.{zeros}
 use Rattle.filter.proofs.Passes.{cases_done}
 use Rattle.filter.proofs.StartFields.{field_place}
-use Rattle.filter.proofs.start.own_cases.Goals.{then-answers-f+then-not-photographed-f, else-answers-f, else-answers-f-via-then-answers-f+else-not-photographed-f, else-answers-f-via-else-answers-f}
+use Rattle.filter.proofs.start.own_cases.Goals.{then-in_doubt, else-in_doubt}
 use Rattle.filter.proofs.start.own_cases.Goals as goal
 
 pub loop-f-init : goal.loop-f-init
@@ -12,13 +12,11 @@ loop-f-init c = cases_none c.told-answers refl (zeros places)
 
 pub loop-f-preserved : goal.loop-f-preserved
 loop-f-preserved c =
-    elim c.if-answers-f.branch [
-      | then-answers-f+then-not-photographed-f w ↦ cases_same w.own-is w.all-is (cases_doubted c.loop-f.invariant (field_place c.args.book.viewed.numbers c.loop-f-test.true) w.if-answers-f.true (ap not w.if-not-photographed-f.true))
-      | else-answers-f w ↦ cases_same w.own-is w.all-is
-          (elim w.else-answers-f.branch [
-            | else-answers-f-via-then-answers-f+else-not-photographed-f v ↦ cases_backed c.loop-f.invariant (field_place c.args.book.viewed.numbers c.loop-f-test.true) (ap not v.if-not-photographed-f.false)
-            | else-answers-f-via-else-answers-f v ↦ cases_open c.loop-f.invariant (field_place c.args.book.viewed.numbers c.loop-f-test.true) v.if-answers-f.false
-          ])
+    let l = field_place c.args.book.viewed.numbers c.loop-f-test.true in
+    let e = doubt_is c.loop-f.invariant l c.in_doubt.ensures in
+    elim c.if-in_doubt.branch [
+      | then-in_doubt w ↦ cases_same w.own-is w.all-is (cases_doubted c.loop-f.invariant l (e ∙ w.if-in_doubt.true))
+      | else-in_doubt w ↦ cases_same w.own-is w.all-is (cases_still c.loop-f.invariant l (e ∙ w.if-in_doubt.false))
     ]
 
 pub invariant_of-result : goal.invariant_of-result
