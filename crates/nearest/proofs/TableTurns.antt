@@ -9,7 +9,7 @@ use lib.Seq.{take-add, take_at, drop_at}
 use lib.Dec.{eqb}
 use borrow.Rule.Slice.PartMut.{put_mid, same_len_mid}
 use Rattle.std.proofs.lemmas.Slice.{take-put_mid}
-use borrow.Author.Tests.{ltb-true, eq-eqb, ne_eqb}
+use borrow.Author.Tests.{ltb-true}
 use Rattle.format.specs.Format.{Table, row_limit, row_total, table_at, book_of}
 use Rattle.format.specs.Promise.{Promise}
 use Rattle.format.proofs.Decode.{promise_well}
@@ -17,7 +17,13 @@ use Rattle.words.specs.Sorting.{is_among}
 use Rattle.words.specs.RowWord.{row_word}
 use Rattle.words.proofs.RowWords.{RowOf}
 use Rattle.book.specs.View.{TableIn}
-use Rattle.book.proofs.WalkSteps.{tables_from}
+use Rattle.std.proofs.lemmas.Iterator.{YieldsList}
+use Rattle.std.proofs.lemmas.Iterator.Consumers.{YieldsList-from_shown}
+use Rattle.std.specs.List.{list_any}
+use Rattle.book.specs.Walk.{GivesTable}
+use Rattle.book.specs.declared.view.Table as view
+use Rattle.book.specs.declared.view.Tables.{Tables}
+use Rattle.book.proofs.WalkSteps.{tables_from, none_left, stepped, walked}
 use Rattle.consistency.specs.Rows.{column_of, has_field}
 use Rattle.nearest.specs.declared.front.Front.{Front}
 use Rattle.nearest.specs.Words.{width_of, front_of, begins, can_hold, any_empty, word_front, FrontIn, row_words, Packed}
@@ -146,17 +152,6 @@ module _ (s : List ℕ) where
                   ∙ ap (λ (x : List ℕ). take first w ++ x) (sym words_are) ∙ o.words;
             }
 
-    -- ---- looking for an empty table
-
-    empty_cons : any_empty (tables_left i) ≡ (eqb n 0 || any_empty (tables_left (i + 1)))
-    empty_cons = ap any_empty (tables_from s i at a p n t) ∙ ap (λ (k : ℕ). eqb k 0 || any_empty (tables_left (i + 1))) (rows_many s i at a p n t)
-
-    pub empty_yes : n ≡ 0 → true ≡ any_empty (tables_left i)
-    empty_yes e = sym (rw (eq-eqb n 0 e) at empty_cons)
-
-    pub empty_on : (n ≡ 0 → ⊥) → any_empty (tables_left (i + 1)) ≡ any_empty (tables_left i)
-    empty_on e = sym (rw (ne_eqb n 0 e) at empty_cons)
-
     -- ---- looking
 
     module _ (R : List ℕ) (f : ℕ) where
@@ -191,3 +186,19 @@ module _ (s : List ℕ) where
             (sym (fronts_among (width_of (table_at s at) f) (length (table_at s at).fields) (omega arith)
             (omega (arith, upto, fields_many s i at a p n t)) (omega (arith, upto, arity_few s i at a p n t)) (front_of (table_at s at) R f) row_of
             (table_at s at).rows (rows_of_lem (book_of s).counts (promise_well s t.table.promise).sized (table_at s at) (table_ok s i at a p n t))))
+
+-- ---- looking for an empty table
+
+-- a walk gives a book's tables, in their order
+pub walked_list : (w : Tables) → YieldsList GivesTable (λ (t : view.Table). table_at t.bytes.now t.at) w (tables_left w.book.bytes.now w.index)
+walked_list w =
+    YieldsList-from_shown GivesTable (λ (t : view.Table). table_at t.bytes.now t.at) (λ (x : Tables). tables_left x.book.bytes.now x.index)
+    (λ old new g. ap length (none_left old.book.bytes.now old.index (walked old.book old new refl g)))
+    (λ old x new g.
+    let st = stepped old.book old new refl x g in
+    rw (st.book, st.next, st.bytes) (tables_from old.book.bytes.now old.index x.at x.arity x.first x.rows st.table_in))
+    w
+
+pub empty_any : (ts : List Table) → any_empty ts ≡ list_any (λ (t : Table). eqb (length t.rows) 0) ts
+empty_any [] = refl
+empty_any (t ∷ ts) = ap (λ (b : Bool). eqb (length t.rows) 0 || b) (empty_any ts)

@@ -1,19 +1,19 @@
 -- What a table's view says of the book that the bytes hold. Assumes nothing.
 use mathlib.Core.Path.{◌≡◌, sym, ap, subst, ◌∙◌}
 use mathlib.Core.List.{List}
-use Prim.Native.Nat.{ℕ, ◌+◌, ◌-◌, ◌≤◌, ◌<◌}
+use Prim.Native.Nat.{ℕ, ◌≤◌, ◌<◌}
 use native.Mathlib.Omega.{arith}
-use lib.ListN.{length, get_or, take, drop, length-take, length-drop}
-use lib.Seq.{get_or-take, get_or-drop}
-use Rattle.format.specs.Format.{TableOk, byte, rows_at, table_at, book_of}
+use lib.ListN.{length}
+use Rattle.format.specs.Format.{TableOk, version_of, rows_at, table_at, book_of}
 use Rattle.format.specs.Promise.{TablePromise}
 use Rattle.format.proofs.Decode.{promise_well}
 use Rattle.format.proofs.Elements.{all_at}
-use Rattle.format.proofs.Views.{no_table, rows_count, tables_count, table_view, table_arity, table_field}
+use Rattle.format.proofs.Limits.{limit_most}
+use Rattle.format.proofs.Views.{no_table, counts_count, rows_count, tables_count, table_view, table_arity}
 use Rattle.book.specs.Bounds.{RowsFit}
 use Rattle.book.specs.View.{TableIn}
 use Rattle.book.proofs.TableRows as book
-use Rattle.consistency.specs.Consistency.{field_of}
+use Rattle.consistency.specs.Consistency.{places, field_of}
 
 module _ (s : List ℕ) (i at a p n : ℕ) (t : TableIn s i at a p n) where
   promised : TablePromise s at
@@ -43,14 +43,8 @@ module _ (s : List ℕ) (i at a p n : ℕ) (t : TableIn s i at a p n) where
   pub fields_many : length (table_at s at).fields ≡ a
   fields_many = table_arity s at (omega (arith, rows_fit.within, t.first_is)) ∙ sym t.arity_is
 
-  field_is : (j : ℕ) → j < a → field_of (table_at s at) j ≡ byte s (at + 1 + j)
-  field_is j h = table_field s at j (omega (arith, t.arity_is))
-
-  -- as a part of the bytes
-  pub fields_long : length (take (at + 1 + a - (at + 1)) (drop (at + 1) s)) ≡ a
-  fields_long =
-      omega (arith, length-take (at + 1 + a - (at + 1)) (drop (at + 1) s), length-drop (at + 1) s, rows_fit.within, t.first_is, t.arity_is)
-
-  pub field_part : (j : ℕ) → j < a → get_or (take (at + 1 + a - (at + 1)) (drop (at + 1) s)) j 0 ≡ field_of (table_at s at) j
-  field_part j h =
-      get_or-take (at + 1 + a - (at + 1)) (drop (at + 1) s) j 0 (omega arith) ∙ get_or-drop (at + 1) s j 0 ∙ sym (field_is j h)
+  -- each of them has a place on a sheet
+  pub field_few : (j : ℕ) → j < a → field_of (table_at s at) j < places
+  field_few j h =
+      let known = all_at (λ f. f < length (book_of s).counts) (table_at s at).fields 0 table_ok.known j (omega (arith, fields_many)) in
+      omega (arith, known, counts_count s t.table.promise.whole, t.table.promise.few, limit_most (version_of s))

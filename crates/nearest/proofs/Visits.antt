@@ -11,11 +11,11 @@ use lib.Seq.{length-take-le}
 use lib.Dec.{T, ltb}
 use borrow.Author.Tests.{ltb-true, ltb-false}
 use Rattle.format.specs.Basics.{pick}
-use Rattle.format.specs.Format.{WellFormed, byte, version_of, book_of}
+use Rattle.format.specs.Format.{WellFormed, version_of, book_of}
 use Rattle.format.proofs.Decode.{promise_well}
 use Rattle.format.proofs.Limits.{limit_most}
 use Rattle.format.proofs.Picks.{both_true}
-use Rattle.format.proofs.Views.{counts_count, counts_view}
+use Rattle.format.proofs.Views.{counts_count}
 use Rattle.book.specs.View.{Numbered}
 use Rattle.consistency.specs.Consistency.{places, Sheet, codes, backed}
 use Rattle.consistency.specs.Readings.{differs}
@@ -87,17 +87,13 @@ module _ (s : List ℕ) (list fields tables : ℕ) (v : Numbered s list fields t
           → found t.differing (take fields t.reading) ≡ choose (book_of s) z (readings (book_of s) (fields - t.f) (take t.f t.reading)) (held fields best)
       leaf e h = ready_leaf (book_of s) well z fields fields_are t.reading t.f t.differing best (omega (arith, few_fields, o.long)) e o h
 
-      -- the book's number of codes of the field
-      at_list : t.f < fields → codes (book_of s) t.f ≡ byte s (list + t.f)
-      at_list h = counts_view s t.f (omega (arith, v.fields_is)) ∙ ap (λ (l : ℕ). byte s (l + t.f)) (sym v.list_is)
-
-      module _ (count : ℕ) (h : t.f < fields) (counted : count ≡ byte s (list + t.f)) where
+      module _ (count : ℕ) (h : t.f < fields) (counted : count ≡ codes (book_of s) t.f) where
         -- the codes of the field, from the first on
         pub codes_start : (x : Nearest)
             → rest_of (book_of s) z (take t.f t.reading) (fields - (t.f + 1)) 0 (count - 0) x ≡ choose (book_of s) z (readings (book_of s) (fields - t.f) (take t.f t.reading)) x
         codes_start x =
             rest_start (book_of s) z (take t.f t.reading) (fields - (t.f + 1)) (fields - t.f) count x (omega arith)
-            (counted ∙ sym (at_list h) ∙ ap (codes (book_of s)) (sym (length-take-le t.f t.reading (omega (arith, few_fields, o.long)))))
+            (counted ∙ ap (codes (book_of s)) (sym (length-take-le t.f t.reading (omega (arith, few_fields, o.long)))))
 
         module _ (c : ℕ) (l : c < count) where
           -- y is the nearest after code c
@@ -165,5 +161,5 @@ module _ (s : List ℕ) (list fields tables : ℕ) (v : Numbered s list fields t
                 (t.differing + apart_at z t.f c) m e in
                 rw w.0
                 (ready_next (book_of s) well z fields fields_are t.reading t.f c h room t.differing (apart_at z t.f c) best t.best o one_is
-                (omega (arith, counted, at_list h)) (λ i. u (omega (arith, counted, at_list h)))
+                (omega (arith, counted)) (λ i. u (omega (arith, counted)))
                 (kept_when (backed z t.f) (differs z.answers (set t.reading t.f c) t.f) t.differing (rw one_is at w.1.1)) w.1.0)

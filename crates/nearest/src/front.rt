@@ -3,9 +3,6 @@ ghost use Rattle.std.specs.Prelude.{◌≤◌, ◌<◌, ◌*◌, ◌^◌};
 
 use book::{PLACES, Table};
 
-// The bits of a row's word, a byte for each code that a row may have.
-const WORD_BITS: usize = 32;
-
 // How many codes, and the codes as a number.
 #[derive(Clone, Copy)]
 pub(crate) struct Front {
@@ -26,10 +23,9 @@ impl Front {
         ensures { IsFront (table_at table.entry.bytes.now table.entry.at) reading.now f result }
     {
         let mut word = 0u32;
-        let at = table.at + 1;
-        for (j, byte) in table.bytes[at..at + table.arity].iter().enumerate() {
+        for (j, byte) in table.fields().iter().enumerate() {
             let field = usize::from(*byte);
-            // Times 256, as the definition of the number has it: a shift and an or are no plainer.
+            // (d) Times 256, as the definition of the number has it: a shift and an or are no plainer.
             word = word * 256 + u32::from(reading[field]);
             if field == f {
                 return Some(Front { width: j + 1, word });
@@ -39,12 +35,14 @@ impl Front {
     }
 
     // Whether one of the rows, as words, begins with them: without the bytes behind them, a row's word is their number with as many bytes behind
-    // it. The search goes on where it has found one: without a way out of the loop several words are compared at a time. And it shifts no row: such
-    // a loop is longer, and took up to twice the time, by where in memory it came to lie.
+    // it. It shifts no row: such a loop is longer, and took up to twice the time, by where in memory it came to lie.
+    // (b) The search goes on where it has found one: without a way out of the loop several words are compared at a time, and a long table without
+    // the one sought takes a fifth. (d) Not one function with `is_repeated` of words: that masks nothing, and its answer is as wide as a word.
+    // (d) The mask of so many bytes is made in book too, by `row_mask`: public, it would ask its callers for a width that has a mask.
     pub(crate) fn begins(self, rows: &[u32]) -> bool
         ensures { result ≡ is_among self.word (map (word_front self.width) rows.now) }
     {
-        let behind = WORD_BITS - 8 * self.width;
+        let behind = u32::BITS as usize - 8 * self.width;
         let mask = u32::MAX << behind;
         let word = self.word << behind;
         let mut found = false;

@@ -21,8 +21,9 @@ use turn::Turn;
 // The most readings, full or not, of a book that is searched.
 const READINGS: usize = 65536;
 
-// The nearest full reading that keeps the photographed answers; none where there is no such reading. Answers and photographs
-// come as two arrays, as a sheet has them.
+// The nearest full reading that keeps the photographed answers; none where there is no such reading.
+// (d) Answers and photographs come as two arrays, as a sheet has them: its type stands in a crate above, and one of this crate would be made
+// of it only to be taken apart.
 pub fn search(
     book: Book<'_>,
     answers: &[u8; PLACES],

@@ -22,12 +22,13 @@ pub(crate) struct Query<'a> {
 
 impl Query<'_> {
     ghost use Rattle.std.specs.Prelude.{◌≡◌, ◌+◌, ◌≤◌, ◌<◌};
-    ghost use Rattle.format.specs.Format.{book_of, byte};
+    ghost use Rattle.format.specs.Format.{book_of};
     ghost use Rattle.consistency.specs.Consistency.{sheet_with};
     ghost use Rattle.nearest.specs.Asks.{held, Right, decides, Passed, differing_with};
     ghost use Rattle.nearest.specs.Words.{can_hold};
 
     // Whether each table with field f has a row that begins with the reading's codes for its fields up to f.
+    // (d) A reading and f apart, from here to `Front::of`: a type of both would be made for each code that is tried, to be taken apart at once.
     fn can_hold(&self, reading: &[u8; PLACES], f: usize) -> bool
         ensures { result ≡ can_hold (book_of self.now.book.bytes.now).tables reading.now f }
     {
@@ -49,21 +50,8 @@ impl Query<'_> {
         ensures { result ≡ differing_with (sheet_with self.now.answers.now self.now.photographed.now) turn.now code }
     {
         let differing = turn.differing + apart(self.answers[turn.f], code);
-        if !nearer(differing, &turn.best) {
-            return None;
-        }
-        if loses(self.photographed[turn.f], turn.differing, differing) {
-            return None;
-        }
-        Some(differing)
-    }
-
-    // The number of codes of a field.
-    fn codes(&self, f: usize) -> u8
-        requires { f < self.now.book.fields }
-        ensures { result ≡ byte self.now.book.bytes.now (self.now.book.list + f) }
-    {
-        self.book.bytes[self.book.list + f]
+        (nearer(differing, &turn.best)
+            && !loses(self.photographed[turn.f], turn.differing, differing)).then_some(differing)
     }
 
     // The turn behind the fields of one code that come next, which need no test: each row that begins with the codes before them goes on with
@@ -73,9 +61,9 @@ impl Query<'_> {
         ensures { Passed (book_of self.now.book.bytes.now) (sheet_with self.now.answers.now self.now.photographed.now) self.now.book.fields turn result }
     {
         let mut at = turn;
-        // By number, since a walk is no plainer: a field's number of codes, answer and photograph stand apart.
+        // (d) By number, since a walk is no plainer: a field's number of codes, answer and photograph stand apart.
         for f in turn.f..self.book.fields {
-            if self.codes(f) != 1 {
+            if self.book.codes(f) != 1 {
                 return at;
             }
             let Some(differing) = self.differing(&at, 0) else {
@@ -102,7 +90,7 @@ impl Query<'_> {
                 differing: at.differing,
             });
         }
-        let count = self.codes(at.f);
+        let count = self.book.codes(at.f);
         for code in 0..count {
             let Some(differing) = self.differing(&at, code) else {
                 continue;

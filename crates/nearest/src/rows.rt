@@ -12,12 +12,7 @@ use book::{Book, PLACES, Table};
 pub(crate) fn any_empty(book: Book<'_>) -> bool
     ensures { result ≡ any_empty (book_of book.entry.bytes.now).tables }
 {
-    for table in book.tables() {
-        if table.rows == 0 {
-            return true;
-        }
-    }
-    false
+    book.tables().any(|table| table.rows == 0)
 }
 
 // Packs the rows of all tables, one behind another.
@@ -25,6 +20,7 @@ pub(crate) fn pack(book: Book<'_>, words: &mut [u32])
     requires { row_limit ≤ length words.old }
     ensures { Packed book.entry.bytes.now words.new }
 {
+    // (c) By places: with `split_at_mut` and a rest that the loop carries on, the check tells nothing of what the memory holds at the end.
     let mut first = 0;
     for table in book.tables() {
         let end = first + table.rows;

@@ -13,6 +13,7 @@ pub struct Found {
 }
 
 // The codes of the fields below f, how many of them differ, and the nearest reading so far.
+// (a) The codes stand first in an array, of which the first f count, since there is no heap.
 #[derive(Clone, Copy)]
 pub(crate) struct Turn {
     pub(crate) reading: [u8; PLACES],

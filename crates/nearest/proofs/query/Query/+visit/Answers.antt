@@ -15,7 +15,7 @@ pub loop-code-init : goal.loop-code-init
 loop-code-init t c = (
   refl,
   c.passed-at.ensures.right,
-  codes_start c.args.self.now.book.bytes.now c.args.self.now.book.list c.args.self.now.book.fields c.args.self.now.book.tables c.args.self.now.book.viewed.numbers (sheet_with c.args.self.now.answers.now c.args.self.now.photographed.now) c.passed-at.result _ c.passed-at.ensures.right c.codes-count.result c.if-self-at.false c.codes-count.ensures
+  codes_start c.args.self.now.book.bytes.now c.args.self.now.book.list c.args.self.now.book.fields c.args.self.now.book.tables c.args.self.now.book.viewed.numbers (sheet_with c.args.self.now.answers.now c.args.self.now.photographed.now) c.passed-at.result _ c.passed-at.ensures.right c.codes-count.result c.if-self-at.false c.codes-count.ensures.is
       (held c.args.self.now.book.fields c.passed-at.result.best),
 )
 
@@ -27,7 +27,7 @@ loop-code-preserved-in_default t c =
     let h : c.loop-code.at.f < c.args.self.now.book.fields = omega arith in (
       c.loop-code.invariant.0,
       c.loop-code.invariant.1,
-      turn_lost c.args.self.now.book.bytes.now c.args.self.now.book.list c.args.self.now.book.fields c.args.self.now.book.tables c.args.self.now.book.viewed.numbers (sheet_with c.args.self.now.answers.now c.args.self.now.photographed.now) c.loop-code.at _ c.loop-code.invariant.1 c.codes-count.result h (rw c.loop-code.invariant.0 c.codes-count.ensures) c.loop-code.code
+      turn_lost c.args.self.now.book.bytes.now c.args.self.now.book.list c.args.self.now.book.fields c.args.self.now.book.tables c.args.self.now.book.viewed.numbers (sheet_with c.args.self.now.answers.now c.args.self.now.photographed.now) c.loop-code.at _ c.loop-code.invariant.1 c.codes-count.result h (rw c.loop-code.invariant.0 c.codes-count.ensures.is) c.loop-code.code
           c.loop-code-test.true c.args.self.now.long (sym c.in_default.is ∙ c.differing.ensures) ∙ c.loop-code.invariant.2,
     )
 
@@ -36,7 +36,7 @@ loop-code-preserved-then-not-can_hold t c =
     let h : c.loop-code.at.f < c.args.self.now.book.fields = omega arith in (
       c.loop-code.invariant.0,
       c.loop-code.invariant.1,
-      turn_rows c.args.self.now.book.bytes.now c.args.self.now.book.list c.args.self.now.book.fields c.args.self.now.book.tables c.args.self.now.book.viewed.numbers (sheet_with c.args.self.now.answers.now c.args.self.now.photographed.now) c.loop-code.at _ c.loop-code.invariant.1 c.codes-count.result h (rw c.loop-code.invariant.0 c.codes-count.ensures) c.loop-code.code
+      turn_rows c.args.self.now.book.bytes.now c.args.self.now.book.list c.args.self.now.book.fields c.args.self.now.book.tables c.args.self.now.book.viewed.numbers (sheet_with c.args.self.now.answers.now c.args.self.now.photographed.now) c.loop-code.at _ c.loop-code.invariant.1 c.codes-count.result h (rw c.loop-code.invariant.0 c.codes-count.ensures.is) c.loop-code.code
           c.loop-code-test.true (held c.args.self.now.book.fields c.loop-code.at.best) (sym c.can_hold.ensures ∙ c.if-not-can_hold.true)
           ∙ c.loop-code.invariant.2,
     )
@@ -45,7 +45,7 @@ pub visit-at-requires : goal.visit-at-requires
 visit-at-requires t c =
     let h : c.loop-code.at.f < c.args.self.now.book.fields = omega arith in (
       omega (arith, c.passed-at.ensures.later),
-      turn_ready c.args.self.now.book.bytes.now c.args.self.now.book.list c.args.self.now.book.fields c.args.self.now.book.tables c.args.self.now.book.viewed.numbers (sheet_with c.args.self.now.answers.now c.args.self.now.photographed.now) c.loop-code.at _ c.loop-code.invariant.1 c.codes-count.result h (rw c.loop-code.invariant.0 c.codes-count.ensures) c.loop-code.code
+      turn_ready c.args.self.now.book.bytes.now c.args.self.now.book.list c.args.self.now.book.fields c.args.self.now.book.tables c.args.self.now.book.viewed.numbers (sheet_with c.args.self.now.answers.now c.args.self.now.photographed.now) c.loop-code.at _ c.loop-code.invariant.1 c.codes-count.result h (rw c.loop-code.invariant.0 c.codes-count.ensures.is) c.loop-code.code
           c.loop-code-test.true c.args.self.now.long _ (sym c.in-Some.is ∙ c.differing.ensures) (λ l. sym c.can_hold.ensures ∙ c.if-not-can_hold.false),
     )
 
@@ -54,7 +54,7 @@ loop-code-preserved t c =
     let h : c.loop-code.at.f < c.args.self.now.book.fields = omega arith in (
       c.loop-code.invariant.0,
       c.loop-code.invariant.1,
-      turn_deeper c.args.self.now.book.bytes.now c.args.self.now.book.list c.args.self.now.book.fields c.args.self.now.book.tables c.args.self.now.book.viewed.numbers (sheet_with c.args.self.now.answers.now c.args.self.now.photographed.now) c.loop-code.at _ c.loop-code.invariant.1 c.codes-count.result h (rw c.loop-code.invariant.0 c.codes-count.ensures) c.loop-code.code
+      turn_deeper c.args.self.now.book.bytes.now c.args.self.now.book.list c.args.self.now.book.fields c.args.self.now.book.tables c.args.self.now.book.viewed.numbers (sheet_with c.args.self.now.answers.now c.args.self.now.photographed.now) c.loop-code.at _ c.loop-code.invariant.1 c.codes-count.result h (rw c.loop-code.invariant.0 c.codes-count.ensures.is) c.loop-code.code
           c.loop-code-test.true (held c.args.self.now.book.fields c.visit-at.result) (held c.args.self.now.book.fields c.loop-code.at.best)
           c.visit-at.ensures ∙ c.loop-code.invariant.2,
     )

@@ -15,8 +15,8 @@ loop-f-preserved c =
     let one : 0 < c.codes.result = omega (arith, c.if-codes-ne1.false) in
     rw (← c.loop-f.invariant.0) (
       refl,
-      turn_ready c.args.self.now.book.bytes.now c.args.self.now.book.list c.args.self.now.book.fields c.args.self.now.book.tables c.args.self.now.book.viewed.numbers (sheet_with c.args.self.now.answers.now c.args.self.now.photographed.now) c.loop-f.at _ c.loop-f.invariant.1 c.codes.result h (rw c.loop-f.invariant.0 c.codes.ensures) 0 one c.args.self.now.long _
+      turn_ready c.args.self.now.book.bytes.now c.args.self.now.book.list c.args.self.now.book.fields c.args.self.now.book.tables c.args.self.now.book.viewed.numbers (sheet_with c.args.self.now.answers.now c.args.self.now.photographed.now) c.loop-f.at _ c.loop-f.invariant.1 c.codes.result h (rw c.loop-f.invariant.0 c.codes.ensures.is) 0 one c.args.self.now.long _
           (sym c.in-Some.is ∙ c.differing.ensures) (λ l. absurd (omega (arith, c.if-codes-ne1.false))),
-      turn_only c.args.self.now.book.bytes.now c.args.self.now.book.list c.args.self.now.book.fields c.args.self.now.book.tables c.args.self.now.book.viewed.numbers (sheet_with c.args.self.now.answers.now c.args.self.now.photographed.now) c.loop-f.at _ c.loop-f.invariant.1 c.codes.result h (rw c.loop-f.invariant.0 c.codes.ensures) 0 one
+      turn_only c.args.self.now.book.bytes.now c.args.self.now.book.list c.args.self.now.book.fields c.args.self.now.book.tables c.args.self.now.book.viewed.numbers (sheet_with c.args.self.now.answers.now c.args.self.now.photographed.now) c.loop-f.at _ c.loop-f.invariant.1 c.codes.result h (rw c.loop-f.invariant.0 c.codes.ensures.is) 0 one
           (held c.args.self.now.book.fields c.loop-f.at.best) c.if-codes-ne1.false ∙ c.loop-f.invariant.2,
     )
