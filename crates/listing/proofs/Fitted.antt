@@ -25,7 +25,7 @@ use Rattle.format.proofs.Sizes.{tables_longer}
 use Rattle.format.proofs.Parsing.{listing_length}
 use Rattle.format.proofs.Rebuilding.{ends_rise, counts_length, tables_length, listing_again}
 use Rattle.listing.proofs.Laying.{bytes_parts, bytes_small}
-use Rattle.listing.proofs.Showing.{part_stored}
+use Rattle.book.proofs.Parts.{part_stored}
 
 -- ---- tables that pass
 

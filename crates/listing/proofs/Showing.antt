@@ -14,6 +14,7 @@ use Rattle.format.proofs.Sizes.{tables_longer}
 use Rattle.format.proofs.Views.{part_length, table_rows, table_arity, counts_count, tables_count}
 use Rattle.book.specs.View.{Numbered, TableIn}
 use Rattle.book.proofs.WalkSteps.{tables_from}
+use Rattle.book.proofs.Parts.{part_stored}
 use Rattle.format.specs.Listing.{table_numbers, tables_numbers, listing_of}
 use Rattle.format.proofs.Storing.{stored_more, sets_then, sets_front, rows_flat, part_cons}
 
@@ -30,14 +31,7 @@ stored_whole o xs i e h =
     ∙ ap (λ (z : List ℕ). xs ++ z) (drop-length o)
     ∙ append-nil xs
 
--- a part that was written as a whole is stored
-pub part_stored : (o u : List ℕ) (at k : ℕ) → length u ≡ k → at + k ≤ length o → put_mid at k o u ≡ sets o at u
-part_stored o u at k e h =
-    let m : at + k ≡ at + length u = omega arith in
-    ap (λ (x : List ℕ). take at o ++ (u ++ x)) (drop-drop k at o ∙ ap (λ (n : ℕ). drop n o) m)
-    ∙ sym (append_assoc (take at o) u (drop (at + length u) o)) ∙ sym (sets-eq u o at (omega arith))
-
--- and so is one at the front
+-- a part at the front that was written as a whole is stored
 pub front_stored : (o u : List ℕ) (k : ℕ) → length u ≡ k → k ≤ length o → u ++ drop k o ≡ sets o 0 u
 front_stored o u k e h = ap (λ (n : ℕ). u ++ drop n o) (sym e) ∙ sym (sets_front o u (omega (arith, e)))
 

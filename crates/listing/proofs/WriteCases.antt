@@ -2,21 +2,24 @@
 use mathlib.Core.Path.{◌≡◌, refl, sym, ap, ◌∙◌}
 use mathlib.Core.Logic.{◌≢◌, ◌↔◌}
 use mathlib.Core.Bool.{Bool, true, false}
-use mathlib.Core.List.{List, [], ◌∷◌, ◌++◌}
-use Prim.Native.Nat.{ℕ, ◌≤◌, ◌<◌}
+use mathlib.Core.List.{List}
+use Prim.Native.Nat.{ℕ, ◌≤◌}
 use native.Mathlib.Omega.{arith}
 use lib.ListN.{length, take, drop}
 use lib.Seq.{sets, length-sets, take-append_seam}
-use Rattle.format.specs.Reading.{accepted, pass, fail, verdict, Accepted}
+use Rattle.std.specs.Prelude.{Result}
+use Rattle.format.specs.Reading.{pass, fail, verdict, Accepted}
 use Rattle.format.specs.Writing.{Reply, into, declined, writing, writable, laid_out, book_limit}
 use Rattle.format.specs.WriteAndShow.{HasListing}
 use Rattle.format.proofs.Trailer.{fail≢pass}
 use Rattle.format.proofs.Accepted.{accepted_verdict, verdict_accepted}
 use Rattle.format.proofs.Storing.{sets_front}
-use Rattle.format.proofs.Replies.{into_short, into_whole}
 use Rattle.format.proofs.Writable.{writable_says, says_writable}
 use Rattle.format.proofs.WriteAndShow.{book_well, write_and_show}
 use Rattle.format.proofs.Sizes.{book_few}
+use Rattle.book.specs.Lent.{HandedOut, handed}
+use Rattle.book.specs.declared.lent.NoRoom.{NoRoom}
+use Rattle.book.proofs.HandingOut.{handed_into}
 use Rattle.listing.specs.Fits.{fits}
 use Rattle.listing.proofs.Fitted.{Fitted, fitted, fits_of}
 
@@ -35,16 +38,9 @@ module _ (l out : List ℕ) where
     unfolding writing
     writes = rw e
 
-    -- 18
-    pub wrote_short : (n : ℕ) → n ≡ length (laid_out l) → length out < n → declined out 18 0 ≡ writing l out
-    wrote_short n en h = sym (writes ∙ into_short (laid_out l) out (rw en at h))
-
-    -- the bytes u, written at the front
-    pub wrote_whole : (n : ℕ) → n ≡ length (laid_out l) → n ≤ length out → (u : List ℕ) → u ≡ laid_out l
-        → record { outcome = accepted (n ∷ []); buffer = u ++ drop n out } ≡ writing l out
-    wrote_whole n en h u eu =
-        let k : length (laid_out l) ≤ length out = rw en at h in
-        sym (writes ∙ into_whole (laid_out l) out k ∙ rw (eu, en))
+    -- the bytes laid out, handed out: 18, or all of them
+    pub wrote_handed : (xs out' : List ℕ) (r : Result ℕ NoRoom) → xs ≡ laid_out l → HandedOut xs out out' r → handed r out' ≡ writing l out
+    wrote_handed xs out' r ex h = handed_into xs out out' r h ∙ ap (λ (z : List ℕ). into z out) ex ∙ sym writes
 
 -- what can be written fits
 writable_fits : (l : List ℕ) → writable l ≡ true → Fitted l

@@ -1,4 +1,5 @@
 // The bytes of a listing's book, laid out.
+// (d) Parts of both memories by places reckoned here: `split_at` would need the same numbers, since each part says how long the next is.
 ghost use Rattle.std.specs.Prelude.{◌≡◌, true, ◌≤◌, length};
 ghost use Rattle.std.proofs.lemmas.List.Edits.{sets};
 ghost use Rattle.format.specs.Format.{table_bytes, tables_bytes};
@@ -8,7 +9,10 @@ ghost use Rattle.format.specs.Writing.{laid_out, book_limit};
 ghost use Rattle.listing.specs.Fits.{fits};
 ghost use Rattle.listing.specs.Bounds.{TableLays, TablesLay};
 
-// Numbers, each a byte, in memory for as many. (d) No one function with `widen`: this way a cast is needed, and that way a conversion.
+use book::TRAILER;
+
+// Numbers, each a byte, in memory for as many. (d) No one function with `widen`: this way a cast is needed, and that way a conversion. One that
+// takes the conversion as a closure would have to hand it what is known here of the numbers, that each is a byte.
 fn narrow(numbers: &[u16], out: &mut [u8])
     requires bytes { Bytes numbers.now }
     requires long { length out.old ≡ length numbers.now }
@@ -39,6 +43,7 @@ fn lay_table(listing: &[u16], out: &mut [u8]) -> usize
 }
 
 // Writes the bytes of the tables from `first` on, from the first byte on. Answers how many they are.
+// (d) The listing and a place in it, and no slice from there on: the definitions count places in the whole listing.
 fn lay_tables(listing: &[u16], first: usize, tables: usize, out: &mut [u8]) -> usize
     requires { TablesLay listing.now first tables out.old }
     ensures { (result ≡ length (tables_bytes (tables_in listing.now first tables))) × (out.new ≡ sets out.old 0 (tables_bytes (tables_in listing.now first tables))) }
@@ -65,6 +70,6 @@ pub(crate) fn lay_out(listing: &[u16], out: &mut [u8]) -> usize
     narrow(&listing[1..1 + fields], &mut out[list..end]);
     let version = listing[listing.len() - 1] as u8;
     let trailer = book::trailer(list as u16, fields as u8, tables as u8, version);
-    out[end..end + 6].copy_from_slice(&trailer);
-    end + 6
+    out[end..end + TRAILER].copy_from_slice(&trailer);
+    end + TRAILER
 }

@@ -21,6 +21,7 @@ pub fn show(bytes: &[u8], out: &mut [u16]) -> Result<usize, ShowRefusal>
 {
     let book = Book::open(bytes)?;
     let count = 3 + book.fields + book.list - book.tables;
+    // (d) The room is tested here and not by `hand_out`, which copies an answer made elsewhere: these numbers are written in place.
     if out.len() < count {
         return Err(ShowRefusal::Room);
     }
@@ -29,7 +30,8 @@ pub fn show(bytes: &[u8], out: &mut [u16]) -> Result<usize, ShowRefusal>
 }
 
 // Writes the bytes of the book that a listing says, and answers how many they are. They are laid out and checked apart from the memory lent, so that
-// a refusal leaves it. (a) They stand first in an array, since there is no heap.
+// a refusal leaves it.
+// (a) They stand first in an array, at its front, since there is no heap.
 pub fn write(listing: &[u16], out: &mut [u8]) -> Result<usize, WriteRefusal>
     ensures answer { wrote result out.new ≡ writing listing.now out.old }
     ensures listing { (wrote result out.new).outcome.number ≢ 20 ↔ HasListing listing.now }
@@ -39,13 +41,9 @@ pub fn write(listing: &[u16], out: &mut [u8]) -> Result<usize, WriteRefusal>
     }
     let mut scratch = [0u8; BOOK_LIMIT];
     let n = layout::lay_out(listing, &mut scratch);
-    // By `let .. else`, the form that document 01 names for the writer.
+    // (a) By `let .. else`, the form that the project's papers name for the writer.
     let Ok(_) = Book::open(&scratch[..n]) else {
         return Err(WriteRefusal::Listing);
     };
-    if out.len() < n {
-        return Err(WriteRefusal::Room);
-    }
-    out[..n].copy_from_slice(&scratch[..n]);
-    Ok(n)
+    Ok(book::hand_out(&scratch[..n], out)?)
 }

@@ -1,4 +1,6 @@
 // A book's listing, written number by number.
+// (d) A table's bytes are taken as they stand, since a listing has the same numbers in the same order; and the version is a byte that no view tells.
+// (d) Parts of the memory by places reckoned here: `split_at_mut` would need the same numbers, which are the book's and its tables'.
 ghost use Rattle.std.specs.Prelude.{◌≡◌, ◌++◌, ◌≤◌, length, drop};
 ghost use Rattle.std.proofs.lemmas.List.Edits.{sets};
 ghost use Rattle.format.specs.Format.{table_at, book_of};

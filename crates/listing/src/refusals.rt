@@ -2,8 +2,9 @@
 ghost use Rattle.std.specs.Prelude.{◌≡◌};
 ghost use Rattle.listing.specs.Refusals.{show_number, show_place, write_number};
 ghost use Rattle.listing.specs.declared.refusals.ShowRefusal.TheVariants.{Book};
+ghost use Rattle.listing.specs.declared.refusals.WriteRefusal.TheVariants.{Room};
 
-use book::{Refused, Refuses};
+use book::{NoRoom, Refused, Refuses};
 
 // The bytes are no book, or fewer numbers are lent than its listing has.
 #[derive(Clone, Copy, PartialEq, Eq)]
@@ -12,11 +13,11 @@ pub enum ShowRefusal {
     Room,
 }
 
-// The numbers are no book's listing, or fewer bytes are lent than the book has.
+// The numbers are no book's listing, or fewer bytes are lent than the book has: a refusal's discriminant is its number.
 #[derive(Clone, Copy, PartialEq, Eq)]
 pub enum WriteRefusal {
-    Listing,
-    Room,
+    Listing = 20,
+    Room = 18,
 }
 
 impl From<Refused> for ShowRefusal {
@@ -24,6 +25,14 @@ impl From<Refused> for ShowRefusal {
 
     fn from(refused: Refused) -> ShowRefusal {
         ShowRefusal::Book(refused)
+    }
+}
+
+impl From<NoRoom> for WriteRefusal {
+    ghost from_gives = { λ _ refusal. refusal ≡ Room };
+
+    fn from(_: NoRoom) -> WriteRefusal {
+        WriteRefusal::Room
     }
 }
 
@@ -53,10 +62,7 @@ impl Refuses for WriteRefusal {
     ghost place_of = { λ _. 0 };
 
     fn number(self) -> u64 {
-        match self {
-            WriteRefusal::Listing => 20,
-            WriteRefusal::Room => 18,
-        }
+        self as u64
     }
 
     fn place(self) -> usize {

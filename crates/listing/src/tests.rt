@@ -7,7 +7,7 @@ ghost use Rattle.listing.specs.Fits.{table_fits, tables_fit, fits};
 
 use book::BOOK_LIMIT;
 
-const BYTE_LIMIT: u16 = 255;
+const BYTE_LIMIT: u16 = u8::MAX as u16;
 
 // Whether each number is a byte.
 fn all_bytes(numbers: &[u16]) -> bool
@@ -30,6 +30,7 @@ fn table(listing: &[u16], at: usize) -> Option<usize>
 }
 
 // The tables from `at` on, with one number behind them, the version.
+// (d) The listing and a place in it, and no slice from there on: the definitions count places in the whole listing.
 fn tables(listing: &[u16], at: usize, count: usize) -> bool
     ensures { result ≡ tables_fit listing.now at count }
 {

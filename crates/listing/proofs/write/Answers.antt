@@ -1,12 +1,13 @@
 -- `listing::write` meets its contract: 20 by its tests or by the reader's, 18, and the bytes. Assumes nothing.
 use mathlib.Core.Path.{◌≡◌, sym, ◌∙◌}
 use mathlib.Core.Bool.{true}
-use lib.ListN.{length-take}
 use native.Mathlib.Omega.{arith}
+use Rattle.std.specs.Prelude.{Ok, Err}
+use Rattle.std.proofs.lemmas.Result.{err_from_is_err_and}
 use Rattle.format.specs.Writing.{writable}
 use Rattle.format.proofs.Verdict.{promise_verdict}
 use Rattle.book.proofs.Checks.{opens_bad}
-use Rattle.listing.proofs.WriteCases.{wrote_unwritable, wrote_short, wrote_whole, unfit_unwritable, refused_unwritable, passed_writable, laid_front, listing_clause}
+use Rattle.listing.proofs.WriteCases.{wrote_unwritable, wrote_handed, unfit_unwritable, refused_unwritable, passed_writable, laid_front, listing_clause}
 use Rattle.listing.proofs.write.Goals as goal
 use Rattle.listing.proofs.write.Goals.{In-Ok}
 
@@ -33,22 +34,19 @@ returns-in_default c =
     (refused_unwritable c.args.listing.now _ (laid_front c.args.listing.now _ _ _ (sym c.fits.ensures ∙ c.if-not-fits.false) (omega arith) c.lay_out-n.ensures.0 c.lay_out-n.ensures.1).bytes _ _ (opens_bad _ _ c.in_default.ensures.answer)) in
     record { answer = r; listing = listing_clause _ _ _ r }
 
-pub returns-then-out-n : goal.returns-then-out-n
-returns-then-out-n c =
-    let r = wrote_short c.args.listing.now c.args.out.now (taken (goal.at.returns-then-out-n c).In-Ok) _ c.lay_out-n.ensures.0 c.if-out-n.true in
-    record { answer = r; listing = listing_clause _ _ _ r }
-
 pub slice_bounds-scratch-end-2 : goal.slice_bounds-scratch-end-2
 slice_bounds-scratch-end-2 c = (laid_front c.args.listing.now _ _ _ (sym c.fits.ensures ∙ c.if-not-fits.false) (omega arith) c.lay_out-n.ensures.0 c.lay_out-n.ensures.1).within
 
-pub slice_bounds-copy_from_slice-end-3 : goal.slice_bounds-copy_from_slice-end-3
-slice_bounds-copy_from_slice-end-3 c = (laid_front c.args.listing.now _ _ _ (sym c.fits.ensures ∙ c.if-not-fits.false) (omega arith) c.lay_out-n.ensures.0 c.lay_out-n.ensures.1).count
+pub slice_bounds-hand_out-end : goal.slice_bounds-hand_out-end
+slice_bounds-hand_out-end c = (laid_front c.args.listing.now _ _ _ (sym c.fits.ensures ∙ c.if-not-fits.false) (omega arith) c.lay_out-n.ensures.0 c.lay_out-n.ensures.1).count
 
-pub copy_from_slice-requires : goal.copy_from_slice-requires
-copy_from_slice-requires c = omega (arith, length-take c.lay_out-n.result c.args.out.now, (laid_front c.args.listing.now _ _ _ (sym c.fits.ensures ∙ c.if-not-fits.false) (omega arith) c.lay_out-n.ensures.0 c.lay_out-n.ensures.1).count, c.if-out-n.false)
+pub returns-in_err-hand_out : goal.returns-in_err-hand_out
+returns-in_err-hand_out c =
+    let p = err_from_is_err_and c.from_residual.result c.from_residual.ensures.1 in
+    let r = wrote_handed c.args.listing.now c.args.out.now (taken (goal.at.returns-in_err-hand_out c).In-Ok) _ _ (Err c.in_err-hand_out.field-0.0) (laid_front c.args.listing.now _ _ _ (sym c.fits.ensures ∙ c.if-not-fits.false) (omega arith) c.lay_out-n.ensures.0 c.lay_out-n.ensures.1).bytes c.in_err-hand_out.ensures in
+    rw (p.1, p.2) (record { answer = r; listing = listing_clause _ _ _ r })
 
 pub returns : goal.returns
 returns c =
-    let r = wrote_whole c.args.listing.now c.args.out.now (taken (goal.at.returns c).In-Ok) _ c.lay_out-n.ensures.0 c.if-out-n.false _
-    (c.copy_from_slice.ensures.after ∙ (laid_front c.args.listing.now _ _ _ (sym c.fits.ensures ∙ c.if-not-fits.false) (omega arith) c.lay_out-n.ensures.0 c.lay_out-n.ensures.1).bytes) in
+    let r = wrote_handed c.args.listing.now c.args.out.now (taken (goal.at.returns c).In-Ok) _ _ (Ok c.in_ok-hand_out.field-0) (laid_front c.args.listing.now _ _ _ (sym c.fits.ensures ∙ c.if-not-fits.false) (omega arith) c.lay_out-n.ensures.0 c.lay_out-n.ensures.1).bytes c.in_ok-hand_out.ensures in
     record { answer = r; listing = listing_clause _ _ _ r }

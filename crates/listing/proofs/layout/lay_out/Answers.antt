@@ -7,7 +7,7 @@ use native.Mathlib.Omega.{arith}
 use borrow.Rule.Slice.PartMut.{put_mid}
 use Rattle.format.specs.Writing.{book_limit}
 use Rattle.listing.proofs.Fitted.{fitted, fields_within, lay_tables, lay_size, lay_counts, lay_last, counts_laid, counts_long, all_stored}
-use Rattle.listing.proofs.Showing.{part_stored}
+use Rattle.book.proofs.Parts.{part_stored}
 use Rattle.listing.proofs.layout.lay_out.Goals as goal
 
 pub bounds-listing-0 : goal.bounds-listing-0
