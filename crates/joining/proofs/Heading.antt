@@ -2,13 +2,16 @@
 use mathlib.Core.Path.{◌≡◌, refl, sym, ap, ◌∙◌, subst}
 use mathlib.Core.Logic.{inl, inr, ⊎_elim}
 use mathlib.Core.List.Memᴰ
-use mathlib.Core.List.{List, [], ◌∷◌, ◌++◌, map, map-append}
-use Prim.Native.Nat.{ℕ, zero, suc, ◌+◌, ◌≤◌, ◌<◌}
-use native.Mathlib.Numerals.{add-one}
+use mathlib.Core.List.{List, [], ◌∷◌, ◌++◌, map}
+use mathlib.Core.Bool.{Bool, true, false, cond}
+use Prim.Native.Nat.{ℕ, zero, suc, ◌+◌, ◌≤◌, ◌<◌, min}
+use lib.Dec.{leb}
+use Rattle.std.proofs.lemmas.Bool.{leb-true, leb-false}
+use Rattle.std.specs.List.{filter, fold, reduce}
 use native.Mathlib.Omega.{arith}
 use native.Mathlib.Decide.{dec_lt}
 use lib.ListN.{length, get_or, take, set, length-set, length-map}
-use lib.Seq.{take-suc, take_all, get_or-set_same, get_or-set_other, get_or-take, length-take-le, ext_get_or}
+use lib.Seq.{get_or-set_same, get_or-set_other, get_or-take, length-take-le, ext_get_or}
 use Rattle.std.specs.Prelude.{Option, Some, None}
 use Rattle.format.specs.Basics.{In}
 use Rattle.format.specs.Format.{table_count, table_at, book_of}
@@ -28,47 +31,6 @@ use Rattle.joining.specs.declared.heads.Head.{Head}
 -- the keys of heads
 abbrev pub keys : List Head → List ℕ
 keys hs = map (λ (h : Head). h.key) hs
-
--- one key more: it is below a, or not below the least so far, or the least now
-in_snoc : (ks : List ℕ) (k j : ℕ) → In j (ks ++ (k ∷ [])) → (P : ℕ → Type 0) → ((i : ℕ) → In i ks → P i) → P k → P j
-in_snoc ks k j m P f p =
-    ⊎_elim (λ (n : In j ks). f j n)
-    (λ (n : In j (k ∷ [])). ⊎_elim (λ (e : j ≡ k). rw e p) (λ (x : In j []). absurd (Memᴰ.not-nil x)) (Memᴰ.cases_cons n))
-    (Memᴰ.append_cases ks m)
-
-pub least_low : (a : ℕ) (ks : List ℕ) (k : ℕ) (r : Option ℕ) → Least a ks r → k < a → Least a (ks ++ (k ∷ [])) r
-least_low a ks k None l h = λ j m. in_snoc ks k j m (λ i. i < a) l h
-least_low a ks k (Some b) l h = (
-  Memᴰ.append_left (k ∷ []) l.0,
-  l.1,
-  λ j m. in_snoc ks k j m (λ i. a ≤ i → b ≤ i) l.2 (λ g. absurd (omega arith)),
-)
-
-least_stays : (a : ℕ) (ks : List ℕ) (k b : ℕ) → Least a ks (Some b) → b ≤ k → Least a (ks ++ (k ∷ [])) (Some b)
-least_stays a ks k b l h = (
-  Memᴰ.append_left (k ∷ []) l.0,
-  l.1,
-  λ j m. in_snoc ks k j m (λ i. a ≤ i → b ≤ i) l.2 (λ g. h),
-)
-
-least_first : (a : ℕ) (ks : List ℕ) (k : ℕ) → Least a ks None → a ≤ k → Least a (ks ++ (k ∷ [])) (Some k)
-least_first a ks k l h = (
-  Memᴰ.append_right ks (Memᴰ.head refl),
-  h,
-  λ j m. in_snoc ks k j m (λ i. a ≤ i → k ≤ i) (λ i n g. absurd (omega (arith, l i n))) (λ g. omega arith),
-)
-
-least_falls : (a : ℕ) (ks : List ℕ) (k b : ℕ) → Least a ks (Some b) → a ≤ k → k ≤ b → Least a (ks ++ (k ∷ [])) (Some k)
-least_falls a ks k b l h g = (
-  Memᴰ.append_right ks (Memᴰ.head refl),
-  h,
-  λ j m. in_snoc ks k j m (λ i. a ≤ i → k ≤ i) (λ i n q. omega (arith, l.2 i n q)) (λ q. omega arith),
-)
-
-pub least_on : (a : ℕ) (ks : List ℕ) (k : ℕ) (r q : Option ℕ) → Least a ks r → a ≤ k → LesserIs r (Some k) q → Least a (ks ++ (k ∷ [])) q
-least_on a ks k None q l h e = subst (Least a (ks ++ (k ∷ []))) (sym e) (least_first a ks k l h)
-least_on a ks k (Some b) q l h (inl e) = subst (Least a (ks ++ (k ∷ []))) (sym e.1) (least_stays a ks k b l e.0)
-least_on a ks k (Some b) q l h (inr e) = subst (Least a (ks ++ (k ∷ []))) (sym e.1) (least_falls a ks k b l h e.0)
 
 -- the lesser of two lists' least keys
 pub least_both : (a : ℕ) (ks ls : List ℕ) (r s q : Option ℕ) → Least a ks r → Least a ls s → LesserIs r s q → Least a (ks ++ ls) q
@@ -100,11 +62,46 @@ least_both a ks ls (Some b) (Some c) q l m (inr e) =
       λ k n h. ⊎_elim (λ (i : In k ks). omega (arith, l.2 k i h, e.0)) (λ (i : In k ls). m.2 k i h) (Memᴰ.append_cases ks n),
     )
 
--- the keys of one head more
-pub keys_on : (hs : List Head) (i : ℕ) → i < length hs → keys (take (i + 1) hs) ≡ keys (take i hs) ++ ((get_or hs i no_head).key ∷ [])
-keys_on hs i h =
-    ap (λ (k : ℕ). keys (take k hs)) (add-one i) ∙ ap keys (take-suc hs i no_head h)
-    ∙ map-append (λ (x : Head). x.key) (take i hs) (get_or hs i no_head ∷ [])
+-- whether a key is not below a
+abbrev pub not_below : ℕ → ℕ → Bool
+not_below a k = leb a k
+
+min_is : (k l : ℕ) → LesserIs (Some k) (Some l) (Some (min k l))
+min_is k l = at (dec_lt l k)
+  where
+    at : Dec (l < k) → LesserIs (Some k) (Some l) (Some (min k l))
+    at (yes h) = inr (omega arith, ap Some (omega arith))
+    at (no h) = inl (omega arith, ap Some (omega arith))
+
+min_first : (k x : ℕ) (xs : List ℕ) → fold min (min k x) xs ≡ min k (fold min x xs)
+min_first k x [] = refl
+min_first k x (y ∷ ys) =
+    let e : min (min k x) y ≡ min k (min x y) = omega arith in
+    ap (λ (z : ℕ). fold min z ys) e ∙ min_first k (min x y) ys
+
+min_on : (k : ℕ) (xs : List ℕ) → LesserIs (Some k) (reduce min xs) (Some (fold min k xs))
+min_on k [] = refl
+min_on k (x ∷ xs) = subst (λ (z : ℕ). LesserIs (Some k) (Some (fold min x xs)) (Some z)) (sym (min_first k x xs)) (min_is k (fold min x xs))
+
+one_low : (a k : ℕ) → k < a → Least a (k ∷ []) None
+one_low a k h = λ j m. ⊎_elim (λ (e : j ≡ k). omega arith) (λ (x : In j []). absurd (Memᴰ.not-nil x)) (Memᴰ.cases_cons m)
+
+one_key : (a k : ℕ) → a ≤ k → Least a (k ∷ []) (Some k)
+one_key a k h = (
+  Memᴰ.head refl,
+  h,
+  λ j m g. ⊎_elim (λ (e : j ≡ k). omega arith) (λ (x : In j []). absurd (Memᴰ.not-nil x)) (Memᴰ.cases_cons m),
+)
+
+-- the least of the keys that are not below a
+least_key : (a : ℕ) (ks : List ℕ) → Least a ks (reduce min (filter (not_below a) ks))
+least_key a [] = λ k m. absurd (Memᴰ.not-nil m)
+least_key a (k ∷ ks) = at (leb a k) refl (least_key a ks)
+  where
+    at : (b : Bool) → leb a k ≡ b → Least a ks (reduce min (filter (not_below a) ks))
+        → Least a (k ∷ ks) (reduce min (cond b (k ∷ filter (not_below a) ks) (filter (not_below a) ks)))
+    at true e l = least_both a (k ∷ []) ks (Some k) _ _ (one_key a k (leb-true a k e)) l (min_on k (filter (not_below a) ks))
+    at false e l = least_both a (k ∷ []) ks None _ _ (one_low a k (leb-false a k e)) l refl
 
 -- ---- gathering
 
@@ -182,5 +179,6 @@ heads_keys s hs v =
     map_at g (x ∷ xs) (suc k) d e h = map_at g xs k d e (omega arith)
 
 -- the least of all heads' keys is that of the tables
-pub least_all : (s : List ℕ) (hs : List Head) (a i : ℕ) (r : Option ℕ) → HeadsOf s hs → Least a (keys (take i hs)) r → length hs ≤ i → Least a (map key_of (book_of s).tables) r
-least_all s hs a i r v l h = subst (λ (ks : List ℕ). Least a ks r) (ap keys (take_all i hs h) ∙ heads_keys s hs v) l
+pub least_head : (s : List ℕ) (hs : List Head) (a : ℕ) (r : Option ℕ) → HeadsOf s hs → r ≡ reduce min (filter (not_below a) (keys hs))
+    → Least a (map key_of (book_of s).tables) r
+least_head s hs a r v e = subst (λ (ks : List ℕ). Least a ks r) (heads_keys s hs v) (subst (Least a (keys hs)) (sym e) (least_key a (keys hs)))

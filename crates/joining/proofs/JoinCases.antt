@@ -1,38 +1,29 @@
 -- The ways to the answers of join. Assumes nothing.
 use mathlib.Core.Path.{◌≡◌, refl, sym, ap, ap₂, ◌∙◌, subst}
 use mathlib.Core.Logic.{inl, inr, ⊎_elim}
-use mathlib.Core.List.{List, [], ◌∷◌, ◌++◌}
-use Prim.Native.Nat.{ℕ, ◌≤◌, ◌<◌}
+use mathlib.Core.List.{List, ◌++◌}
+use Prim.Native.Nat.{ℕ, ◌<◌}
 use native.Mathlib.Omega.{arith}
-use lib.ListN.{length, take, drop}
-use Rattle.std.specs.Prelude.{Result, Ok, Err}
+use lib.ListN.{length, take}
+use Rattle.std.specs.Prelude.{Result, Err}
 use Rattle.std.specs.Borrow.{Bor}
 use Rattle.format.specs.Format as format
 use Rattle.format.specs.Format.{tables_bytes, trailer, trailer_bytes, encode, book_of}
 use Rattle.format.specs.Promise.{Promise}
-use Rattle.format.specs.Reading.{accepted, fail, verdict}
+use Rattle.format.specs.Reading.{fail, verdict}
 use Rattle.format.specs.Writing.{Reply, declined, into, book_limit}
 use Rattle.format.specs.Joining.{common_tables, joined, joined_into, joining}
 use Rattle.format.proofs.Joinings.{join_first, join_second, join_both, into_differ, into_over, into_within}
-use Rattle.format.proofs.Replies.{into_short, into_whole}
 use Rattle.format.proofs.Verdict.{promise_verdict}
+use Rattle.book.specs.Lent.{HandedOut, handed}
+use Rattle.book.specs.declared.lent.NoRoom.{NoRoom}
 use Rattle.book.specs.declared.view.Book.{Book}
 use Rattle.joining.specs.Puts.{Put}
 use Rattle.joining.specs.Laid.{both_tables, AllLaid, LaidOut}
-use Rattle.joining.specs.Answers.{joined_by, JoinedIn}
+use Rattle.joining.specs.Answers.{JoinedIn}
 use Rattle.joining.specs.declared.lay.Over.{Over}
-use Rattle.joining.specs.declared.refusals.JoinRefusal.{JoinRefusal}
-use Rattle.joining.specs.declared.refusals.JoinRefusal.TheVariants.{Limit}
-use Rattle.std.specs.Result.{result_unwrap_or}
 use Rattle.book.proofs.FieldList.{list_long}
-
--- ---- handing out
-
-pub hand_short : (laid out : List ℕ) → length out < length laid → declined out 18 0 ≡ into laid out
-hand_short laid out h = sym (into_short laid out h)
-
-pub hand_whole : (laid out : List ℕ) → length laid ≤ length out → record { outcome = accepted (length laid ∷ []); buffer = laid ++ drop (length laid) out } ≡ into laid out
-hand_whole laid out h = sym (into_whole laid out h)
+use Rattle.book.proofs.HandingOut.{handed_into}
 
 -- ---- two books with the same field list
 
@@ -66,25 +57,12 @@ module _ (b c : Book) (same : (book_of c.bytes.now).counts ≡ (book_of b.bytes.
           ∙ ap (λ (x : ℕ). trailer (length (tables_bytes tables)) (length (book_of b.bytes.now).counts) x 2) l.tables_is)
 
       -- and handed out
-      pub handed : (out out' : List ℕ) (r : Result ℕ JoinRefusal) → joined_by r out' ≡ into (take n o') out
-          → joined_by r out' ≡ joined_into (book_of b.bytes.now) (book_of c.bytes.now) out
+      pub handed_over : (out out' : List ℕ) (r : Result ℕ NoRoom) → HandedOut (take n o') out out' r
+          → handed r out' ≡ joined_into (book_of b.bytes.now) (book_of c.bytes.now) out
       unfolding joined
-      handed out out' r e =
-          e ∙ ap (λ (z : List ℕ). into z out) bytes_are
+      handed_over out out' r h =
+          handed_into (take n o') out out' r h ∙ ap (λ (z : List ℕ). into z out) bytes_are
           ∙ sym (into_within (book_of b.bytes.now) (book_of c.bytes.now) out same l.few l.rows_few)
-
--- with memory for any book
-pub large : (b c : format.Book) (o o' : List ℕ) (r : Result (Result ℕ JoinRefusal) Over) → JoinedIn book_limit b c o o' r
-    → joined_by (result_unwrap_or r (Err Limit)) o' ≡ joined_into b c o
-large b c o o' (Ok r) j = j
-large b c o o' (Err e) j =
-    ⊎_elim (λ (h : book_limit < book_limit). absurd (omega arith)) (λ h. ap (λ (z : List ℕ). declined z 26 0) j.0 ∙ h) j.1
-
--- where it does not join them, the memory lent stays
-pub kept : (bytes : ℕ) (b c : format.Book) (o o' : List ℕ) (r : Result (Result ℕ JoinRefusal) Over) → JoinedIn bytes b c o o' r
-    → ((x : Result ℕ JoinRefusal) → r ≡ Ok x → ⊥) → o' ≡ o
-kept bytes b c o o' (Ok r) j n = absurd (n r refl)
-kept bytes b c o o' (Err e) j n = j.0
 
 -- 25
 pub counts_differ : (b c : format.Book) (o : List ℕ) → (c.counts ≡ b.counts → ⊥) → declined o 25 0 ≡ joined_into b c o

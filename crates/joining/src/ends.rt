@@ -1,4 +1,4 @@
-// The field list and the trailer, which stand behind the tables.
+// The field list and the trailer, which stand behind the tables. Put as in puts.rt.
 ghost use Rattle.std.specs.Prelude.{◌≡◌, ◌++◌, length};
 ghost use Rattle.std.specs.Bool.{Decides};
 ghost use Rattle.format.specs.Format.{trailer, book_of};

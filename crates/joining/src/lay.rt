@@ -2,16 +2,16 @@
 ghost use Rattle.std.specs.Prelude.{◌≡◌, ◌≤◌, length, map};
 ghost use Rattle.format.specs.Format.{row_limit};
 ghost use Rattle.format.specs.Joining.{common_tables};
-ghost use Rattle.joining.specs.Words.{key_of, Least};
+ghost use Rattle.joining.specs.Words.{key_of, Least, LesserIs};
 ghost use Rattle.joining.specs.Laid.{both_tables, KeyIn, SetEvery, end_most, LaidOut};
 
-use super::heads::{Headed, lesser};
+use super::heads::Headed;
 use super::puts::put_table;
 use super::rows::Common;
-use book::{ARITY_LIMIT, PLACES, ROW_LIMIT, TABLE_LIMIT};
+use book::{ARITY_LIMIT, PLACES, ROW_LIMIT, TABLE_LIMIT, TRAILER};
 
 // What stands behind the tables at most, the field list and the trailer. Room for it is kept, and so for the four bytes of the last row.
-const END_MOST: usize = PLACES + 6;
+const END_MOST: usize = PLACES + TRAILER;
 
 // Too many tables or rows, or more than there is room for.
 #[derive(Clone, Copy)]
@@ -29,6 +29,16 @@ pub(crate) struct Laid {
 pub(crate) struct Both<'a, 'h, const ROWS: usize> {
     pub(crate) first: Headed<'a, 'h, ROWS>,
     pub(crate) second: Headed<'a, 'h, ROWS>,
+}
+
+// The lesser of two keys, where there are two.
+fn lesser(one: Option<u32>, other: Option<u32>) -> Option<u32>
+    ensures { LesserIs one other result }
+{
+    match (one, other) {
+        (Some(best), Some(key)) => Some(best.min(key)),
+        _ => one.or(other),
+    }
 }
 
 impl<'a, 'h, const ROWS: usize> Both<'a, 'h, ROWS> {

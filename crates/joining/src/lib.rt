@@ -4,14 +4,14 @@
 
 ghost use Rattle.std.specs.Prelude.{◌≡◌, ◌≤◌, length};
 ghost use Rattle.format.specs.Format.{row_limit, book_of};
-ghost use Rattle.format.specs.Writing.{into, book_limit};
+ghost use Rattle.format.specs.Writing.{book_limit};
 ghost use Rattle.format.specs.Joining as model;
 ghost use Rattle.joining.specs.Laid.{end_most};
 ghost use Rattle.joining.specs.Answers.{joined_by, JoinedIn};
 
-use book::{BOOK_LIMIT, Book, ROW_LIMIT, TABLE_LIMIT};
+use book::{BOOK_LIMIT, Book, NoRoom, ROW_LIMIT, TABLE_LIMIT};
 use ends::{put_end, same_counts};
-use heads::{Headed, NO_HEAD, gather_heads};
+use heads::{Head, Headed};
 use lay::{Both, Over, lay_tables};
 use rows::Common;
 
@@ -31,28 +31,15 @@ const FEW: usize = 64;
 // The bytes that are kept for the joined book then.
 const SMALL: usize = 1024;
 
-// Copies the bytes laid out to the memory lent for the answer, or answers 18 where that is too short. (a) They are laid out elsewhere and
-// copied whole, since that memory is the caller's and a refusal leaves it.
-fn hand_out(laid: &[u8], out: &mut [u8]) -> Result<usize, JoinRefusal>
-    ensures { joined_by result out.new ≡ into laid.now out.old }
-{
-    let n = laid.len();
-    if out.len() < n {
-        return Err(JoinRefusal::Room);
-    }
-    out[..n].copy_from_slice(laid);
-    Ok(n)
-}
-
 // 18, or else the bytes of two books with the same field list, with memory of its own for so many rows of each and so many bytes; or that
 // a limit is broken, or that there is no room. The bytes are laid out apart from the memory lent, so that a refusal leaves it.
-// (a) They stand first in an array, since there is no heap.
+// (a) Bytes and heads stand first in arrays, at their fronts, since there is no heap.
 #[inline(never)]
 fn join_in<'a, const ROWS: usize, const BYTES: usize>(
     first: Book<'a>,
     second: Book<'a>,
     out: &mut [u8],
-) -> Result<Result<usize, JoinRefusal>, Over>
+) -> Result<Result<usize, NoRoom>, Over>
     requires same { (book_of second.bytes.now).counts ≡ (book_of first.bytes.now).counts }
     requires first { first.rows ≤ ROWS }
     requires second { second.rows ≤ ROWS }
@@ -61,21 +48,13 @@ fn join_in<'a, const ROWS: usize, const BYTES: usize>(
     requires bytes { BYTES ≤ book_limit }
     ensures { JoinedIn BYTES (book_of first.entry.bytes.now) (book_of second.entry.bytes.now) out.old out.new result }
 {
-    let mut heads = [NO_HEAD; TABLE_LIMIT];
-    let mut others = [NO_HEAD; TABLE_LIMIT];
+    let mut heads = [Head::default(); TABLE_LIMIT];
+    let mut others = [Head::default(); TABLE_LIMIT];
     let mut words = [0u32; ROWS];
     let mut spare = [0u32; ROWS];
     let mut laid = [0u8; BYTES];
-    gather_heads(first, &mut heads);
-    gather_heads(second, &mut others);
-    let one = Headed {
-        book: first,
-        heads: &heads[..first.tables],
-    };
-    let other = Headed {
-        book: second,
-        heads: &others[..second.tables],
-    };
+    let one = Headed::of(first, &mut heads);
+    let other = Headed::of(second, &mut others);
     let books = Both::of(one, other);
     let mut common: Common<'_, ROWS> = Common {
         words: &mut words,
@@ -84,7 +63,7 @@ fn join_in<'a, const ROWS: usize, const BYTES: usize>(
     };
     let tables = lay_tables(&books, &mut common, &mut laid)?;
     let n = put_end(&mut laid, tables, first);
-    Ok(hand_out(&laid[..n], out))
+    Ok(book::hand_out(&laid[..n], out))
 }
 
 // 26, then 18, of two books with the same field list. Few rows are joined with little memory; what has no room there is laid out once more.
@@ -94,10 +73,10 @@ fn join_alike<'a>(first: Book<'a>, second: Book<'a>, out: &mut [u8]) -> Result<u
 {
     if first.rows <= FEW && second.rows <= FEW {
         if let Ok(answer) = join_in::<FEW, SMALL>(first, second, out) {
-            return answer;
+            return Ok(answer?);
         }
     }
-    join_in::<ROW_LIMIT, BOOK_LIMIT>(first, second, out).unwrap_or(Err(JoinRefusal::Limit))
+    Ok(join_in::<ROW_LIMIT, BOOK_LIMIT>(first, second, out)??)
 }
 
 // Writes the bytes of two books joined.

@@ -56,7 +56,7 @@ pub(crate) fn put_table(laid: &mut [u8], at: usize, key: u32, words: &[u32]) -> 
     ensures { Put laid.old at (table_bytes (word_table key words.now)) laid.new result }
 {
     let arity = key_arity(key);
-    // (b) Two stores at places reckoned here: with `put_bytes` for both, joins of ten rows took a thirtieth longer.
+    // (b) The numbers of fields and of rows are stored at places reckoned here: with `put_bytes` for both, joins of ten rows took a thirtieth longer.
     let [low, high] = (words.len() as u16).to_le_bytes();
     laid[at] = arity as u8;
     put_word(laid, at + 1, key);

@@ -1,9 +1,10 @@
 // Why two books are not joined, and what a refusal tells.
 ghost use Rattle.std.specs.Prelude.{◌≡◌};
 ghost use Rattle.joining.specs.Numbers.{number_of, place_of};
-ghost use Rattle.joining.specs.declared.refusals.JoinRefusal.TheVariants.{Book};
+ghost use Rattle.joining.specs.declared.refusals.JoinRefusal.TheVariants.{Book, Limit, Room};
 
-use book::{Refused, Refuses};
+use super::lay::Over;
+use book::{NoRoom, Refused, Refuses};
 
 // The reader's refusal of the first book, or else of the second; that the books' code counts differ; that the joined book breaks a limit;
 // or that fewer bytes are lent.
@@ -20,6 +21,22 @@ impl From<Refused> for JoinRefusal {
 
     fn from(refused: Refused) -> JoinRefusal {
         JoinRefusal::Book(refused)
+    }
+}
+
+impl From<Over> for JoinRefusal {
+    ghost from_gives = { λ _ refusal. refusal ≡ Limit };
+
+    fn from(_: Over) -> JoinRefusal {
+        JoinRefusal::Limit
+    }
+}
+
+impl From<NoRoom> for JoinRefusal {
+    ghost from_gives = { λ _ refusal. refusal ≡ Room };
+
+    fn from(_: NoRoom) -> JoinRefusal {
+        JoinRefusal::Room
     }
 }
 

@@ -1,4 +1,5 @@
 // The rows in every table on a set of fields, as a set of words.
+// (a) Prefixes of arrays and of memory lent, since there is no heap for lists that shrink: how long each is, is told beside it.
 ghost use Rattle.std.specs.Prelude.{◌≡◌, ◌≤◌, length, take};
 ghost use Rattle.format.specs.Format.{table_at};
 ghost use Rattle.joining.specs.Words.{table_words};
@@ -9,7 +10,7 @@ use super::sets::{keep_common, keep_once};
 use book::Table;
 
 // The words that every table so far has: each word where there was no table yet, or else as many as were found, which rise. The spare
-// memory takes the words of one table. (a) Both stand first in arrays, since there is no heap for lists that shrink.
+// memory takes the words of one table.
 #[derive(Drop)]
 pub(crate) struct Common<'a, const ROWS: usize> {
     pub(crate) words: &'a mut [u32],
@@ -19,24 +20,17 @@ pub(crate) struct Common<'a, const ROWS: usize> {
     pub(crate) ghost held: { Held found words.now },
 }
 
-// The rows of a table as a set of words, in memory for as many. Many tables are written in order.
-fn row_set(table: Table<'_>, words: &mut [u32]) -> usize
-    requires { length words.old ≡ table.rows }
+// The rows of a table as a set of words, in memory for at least as many. Many tables are written in order.
+fn table_set(table: Table<'_>, words: &mut [u32]) -> usize
+    requires { table.rows ≤ length words.old }
     ensures { SetOf (table_words (table_at table.entry.bytes.now table.entry.at)) result words.new }
 {
+    let words = &mut words[..table.rows];
     table.gather(words);
     if !words::is_sorted(words) {
         words::sort(words);
     }
     keep_once(words)
-}
-
-// The same in memory for more.
-fn table_set(table: Table<'_>, words: &mut [u32]) -> usize
-    requires { table.rows ≤ length words.old }
-    ensures { SetOf (table_words (table_at table.entry.bytes.now table.entry.at)) result words.new }
-{
-    row_set(table, &mut words[..table.rows])
 }
 
 impl<'a, const ROWS: usize> Common<'a, ROWS> {

@@ -1,7 +1,0 @@
--- `joining::heads::gather_heads` meets its contract. The invariant: the heads of the tables so far are gathered. Assumes nothing.
-use mathlib.Core.Path.{◌≡◌}
-use Rattle.joining.proofs.Heading.{HeadsTo}
-use Rattle.joining.proofs.heads.gather_heads.Given as goal
-
-abbrev pub invariant-loop-table : goal.invariant-loop-table
-invariant-loop-table l = (l.table-iterator.book ≡ l.book) × HeadsTo l.book.bytes.now l.heads l.table-iterator.index
