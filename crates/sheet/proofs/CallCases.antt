@@ -1,20 +1,23 @@
 -- Each way through the calls on a sheet: the tests passed so far and the one that fails give the refusal, all passed give the result. Assumes nothing.
-use mathlib.Core.Path.{◌≡◌, sym, ap, subst, ◌∙◌}
+use mathlib.Core.Path.{◌≡◌, refl, sym, ap, subst, ◌∙◌}
 use mathlib.Core.Bool.{Bool, true, false}
-use mathlib.Core.List.{List, [], ◌++◌}
-use Prim.Native.Nat.{ℕ, ◌≤◌, ◌<◌}
+use mathlib.Core.List.{List, [], ◌∷◌, ◌++◌}
+use Prim.Native.Nat.{ℕ, ◌≤◌}
 use native.Mathlib.Omega.{arith}
 use lib.ListN.{length, get_or, take, drop}
-use borrow.Author.Tests.{lt-ltb, le-ltb}
+use lib.Dec.{ltb}
+use lib.Seq.{length-take-le}
 use Rattle.format.specs.Basics.{pick}
 use Rattle.format.specs.Format as format
 use Rattle.format.specs.Format.{book_of}
-use Rattle.format.specs.Reading.{pass, fail}
+use Rattle.format.specs.Reading.{accepted, pass, fail}
+use Rattle.format.specs.Writing.{Reply, declined, into}
 use Rattle.book.specs.declared.view.Book.{Book}
 use Rattle.consistency.specs.Counting.{any_below}
 use Rattle.consistency.specs.Consistency.{places, Sheet, answer, backed}
 use Rattle.calls.specs.Calls.{Result, turned, done, replaces_backed, set_answer, set_photograph, on_answered, entered, withdrawn, photographed, any_backed, stored}
 use Rattle.sheet.specs.Opened.{code_test, answer_test, opening}
+use Rattle.sheet.specs.Shown.{first_answers}
 use Rattle.sheet.proofs.Openings.{fields_count, fields_few, opening_good, on_ready, on_turned, IsOpen}
 use Rattle.sheet.proofs.Tests.{code_stop, code_go, code_known, answer_stop, answer_go}
 use Rattle.consistency.proofs.Elements.{answer_at}
@@ -124,6 +127,22 @@ module _ (bytes : List ℕ) (s : Sheet) (f : ℕ) where
 
 -- ---- store
 
+-- by whether some of the first n answers has a photograph
+pub first_by : (n : ℕ) (s : Sheet) (o : List ℕ) {t : Bool} → any_below n (backed s) ≡ t
+    → pick t (declined o 22 0) (into (take n s.answers) o) ≡ first_answers n s o
+first_by n s o e = ap (λ (t : Bool). pick t (declined o 22 0) (into (take n s.answers) o)) (sym e)
+
+-- what a call that counts nothing leaves behind, with sheet s handed back
+abbrev kept : Sheet → Reply → Result
+kept s r = record { outcome = record { number = r.outcome.number; place = r.outcome.place; counts = [] }; sheet = s; buffer = r.buffer }
+
+kept_first : (s : Sheet) (o : List ℕ) (t u : Bool) (n : ℕ) (x : List ℕ)
+    → kept s (pick t (declined o 22 0) (pick u (declined o 18 0) (record { outcome = accepted (n ∷ []); buffer = x })))
+    ≡ pick t (turned 0 s o 22 0) (pick u (turned 0 s o 18 0) (done [] s x))
+kept_first s o true u n x = refl
+kept_first s o false true n x = refl
+kept_first s o false false n x = refl
+
 module _ (bytes : List ℕ) (s : Sheet) (o : List ℕ) where
   -- 1 to 14
   pub stored_turned : (number place : ℕ) → fail number place ≡ opening bytes s → turned 0 s o number place ≡ stored bytes s o
@@ -138,18 +157,13 @@ module _ (bytes : List ℕ) (s : Sheet) (o : List ℕ) where
         let w = fault_free (book_of bytes) s (opening_good bytes s p.passes) in
         subst (λ (n : ℕ). any_below n (backed s) ≡ any_backed s) count (any_known (book_of bytes) s w (counts_few p))
 
-    -- some field is photographed
-    pub stored_22 : any_below book.fields (backed s) ≡ true → turned 0 s o 22 0 ≡ stored bytes s o
-    unfolding stored
-    stored_22 m = on_ready 0 bytes s o _ p.passes _ (simp (sym any_fields ∙ m))
-
-    module _ (m : any_below book.fields (backed s) ≡ false) where
-      -- fewer bytes lent than fields
-      pub stored_18 : length o < book.fields → turned 0 s o 18 0 ≡ stored bytes s o
-      unfolding stored
-      stored_18 h = on_ready 0 bytes s o _ p.passes _ (simp (sym any_fields ∙ m, fields_count bytes book.list book.fields p.at, lt-ltb))
-
-      -- the bytes of the fields are written, and the others stay
-      pub stored_done : book.fields ≤ length o → done [] s (take book.fields s.answers ++ drop book.fields o) ≡ stored bytes s o
-      unfolding stored
-      stored_done h = on_ready 0 bytes s o _ p.passes _ (simp (sym any_fields ∙ m, fields_count bytes book.list book.fields p.at, le-ltb))
+    -- with nothing counted, what handing out the answers of the fields leaves behind
+    module _ {r : Reply} (e : r ≡ first_answers book.fields s o) (long : length s.answers ≡ places) where
+      pub stored_by : kept s r ≡ stored bytes s o
+      unfolding stored into
+      stored_by =
+          let size : length (take book.fields s.answers) ≡ book.fields = length-take-le book.fields s.answers (omega (arith, long, fields_few bytes book.list book.fields p.at)) in
+          ap (kept s) e
+          ∙ on_ready 0 bytes s o _ p.passes _
+          (rw (any_fields, size, fields_count bytes book.list book.fields p.at)
+          (kept_first s o (any_backed s) (ltb (length o) book.fields) book.fields (take book.fields s.answers ++ drop book.fields o)))

@@ -2,7 +2,10 @@
 use mathlib.Core.Path.{◌≡◌, refl, sym, ap, ◌∙◌, subst}
 use mathlib.Core.Bool.{Bool, true, false, not, ◌&&◌, and-true, and-false, not-not}
 use mathlib.Core.List.{List}
-use Prim.Native.Nat.{ℕ, ◌+◌, ◌≤◌, ◌<◌}
+use mathlib.Core.Logic.{⊎_elim}
+use Prim.Native.Nat.{ℕ, zero, suc, ◌+◌, ◌≤◌, ◌<◌}
+use native.Mathlib.Nat.{eq-or-lt_of_le}
+use native.Mathlib.Numerals.{add-one}
 use native.Mathlib.Omega.{arith}
 use lib.Dec.{T}
 use lib.ListN.{length, get_or, set, get_or-eq_default}
@@ -17,14 +20,14 @@ use Rattle.consistency.specs.Counts.{bit, mask, in_doubt, listed}
 use Rattle.consistency.proofs.Elements.{answer_at}
 use Rattle.consistency.proofs.EmptyFields.{some_or_none}
 use Rattle.consistency.proofs.Masks.{mask_ext, mask_none}
-use Rattle.filter.specs.Cases.{own_case}
+use Rattle.filter.specs.Cases.{doubted, own_case}
 use Rattle.filter.proofs.Agreement.{own_few}
 use Rattle.filter.proofs.Limits.{codes_few}
 use Rattle.filter.proofs.Lists.{Filled, filled_more, filled_all}
-use Rattle.sheet.specs.Lists.{doubted, listed_mask, listed_masks, Passed}
+use Rattle.sheet.specs.Lists.{listed_mask, listed_masks, Passed}
 use Rattle.filter.specs.Words.{stands, InMarks}
 use Rattle.sheet.proofs.Openings.{fields_few, fields_count}
-use Rattle.sheet.proofs.Upward.{many_more}
+use Rattle.sheet.proofs.Upward.{many_more, many_same}
 
 -- a value that is 0 is there already
 filled_skip : (g : ℕ → ℕ) (n : ℕ) (N : List ℕ) (f : ℕ) → Filled g n N f → g f ≡ 0 → Filled g n N (f + 1)
@@ -51,6 +54,24 @@ module _ {bytes : List ℕ} {s : Sheet} {M : List ℕ} {empty list fields : ℕ}
       by : (t : Bool) → pick {A = ℕ} t 0 0 ≡ 0
       by true = refl
       by false = refl
+
+  -- fields that are not in doubt change neither the masks nor the next own case
+  pub passed_over : {masks : List ℕ} {k f : ℕ} (g : ℕ) → f ≤ g → ((h : ℕ) → f ≤ h → h < g → in_doubt s h ≡ false) → k ≡ own_case s f → Listed masks f
+      → (k ≡ own_case s g) × Listed masks g
+  passed_over {masks} {k} {f} zero l none d y =
+      let e : f ≡ zero = omega arith in
+      (d ∙ ap (own_case s) e, subst (Listed masks) e y)
+  passed_over {masks} {k} {f} (suc g) l none d y =
+      ⊎_elim (λ (e : f ≡ suc g). (d ∙ ap (own_case s) e, subst (Listed masks) e y))
+      (λ (m : f < suc g).
+      let h = passed_over g (omega arith) (λ i a b. none i a (omega arith)) d y in
+      let e = none g (omega arith) (omega arith) in
+      subst (λ (i : ℕ). (k ≡ own_case s i) × Listed masks i) (add-one g) (
+        omega (arith, h.0, many_same (in_doubt s) g e),
+        filled_skip (listed_mask (book_of bytes) s) places masks g h.1
+            (ap (λ (t : Bool). pick t (mask (codes (book_of bytes) g) (listed (book_of bytes) s.answers g)) 0) e),
+      ))
+      (eq-or-lt_of_le l)
 
   module _ {f : ℕ} (l : f < fields) where
     -- whether it is answered without a photograph stands on the sheet

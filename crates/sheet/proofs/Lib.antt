@@ -3,6 +3,8 @@ pub mod CodesOf
 pub mod Fronts
 pub mod MaskLines
 pub mod FieldTurns
+pub mod FilteredRanges
+pub mod FieldWalk
 pub mod OwnCases
 pub mod PlainMasks
 pub mod Openings

@@ -1,7 +1,7 @@
 -- What is known where book and sheet pass 1 to 14, and what every call on a sheet answers by them. Assumes nothing.
 use mathlib.Core.Path.{◌≡◌, sym, ap, subst, ◌∙◌}
 use mathlib.Core.List.{List}
-use Prim.Native.Nat.{ℕ, ◌+◌, ◌≤◌, ◌<◌}
+use Prim.Native.Nat.{ℕ, ◌≤◌}
 use native.Mathlib.Omega.{arith}
 use lib.Dec.{ltb}
 use lib.ListN.{length}
@@ -14,10 +14,10 @@ use Rattle.format.proofs.Limits.{limit_most}
 use Rattle.format.proofs.Picks.{pick_first, pick_second}
 use Rattle.format.proofs.Trailer.{fail≢pass}
 use Rattle.format.proofs.Verdict.{verdict_promise, promise_verdict}
-use Rattle.format.proofs.Views.{counts_count, counts_view}
+use Rattle.format.proofs.Views.{counts_count}
 use Rattle.book.specs.View.{Viewed}
 use Rattle.book.specs.declared.view.Book.{Book}
-use Rattle.consistency.specs.Consistency.{places, Sheet, codes}
+use Rattle.consistency.specs.Consistency.{places, Sheet}
 use Rattle.calls.specs.Calls as calls
 use Rattle.calls.specs.Calls.{turned, fault_of, with_book, fault_then, on_sheet}
 use Rattle.sheet.specs.Opened.{fault_test, opening, FieldsAt}
@@ -29,13 +29,9 @@ pub fields_at : {bytes : List ℕ} {list fields tables rows : ℕ} → Viewed by
 fields_at {bytes} v =
     record { passes = promise_verdict bytes v.numbers.promise; list_is = v.numbers.list_is; fields_is = v.numbers.fields_is }
 
--- ---- the fields of a book that passes, by places in its bytes
+-- ---- the fields of a book that passes
 
 module _ (bytes : List ℕ) (list fields : ℕ) (at : FieldsAt bytes list fields) where
-  -- field list and trailer end the bytes
-  pub fields_end : list + fields + 6 ≡ length bytes
-  fields_end = omega (arith, at.list_is, at.fields_is, (verdict_promise bytes at.passes).whole)
-
   -- a book has no more fields than a sheet has places
   pub fields_few : fields ≤ places
   fields_few =
@@ -44,10 +40,6 @@ module _ (bytes : List ℕ) (list fields : ℕ) (at : FieldsAt bytes list fields
   -- the book has as many fields as its trailer says
   pub fields_count : length (book_of bytes).counts ≡ fields
   fields_count = counts_count bytes (verdict_promise bytes at.passes).whole ∙ sym at.fields_is
-
-  -- a field's number of codes stands in the field list
-  pub codes_at : (f : ℕ) → f < fields → codes (book_of bytes) f ≡ byte bytes (list + f)
-  codes_at f h = counts_view bytes f (omega (arith, at.fields_is)) ∙ ap (λ (l : ℕ). byte bytes (l + f)) (sym at.list_is)
 
 -- ---- 1 to 13, then 14
 

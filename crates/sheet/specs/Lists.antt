@@ -1,5 +1,5 @@
 -- What counting and listing take from the marks of a pass. Assumes nothing.
-use Rattle.std.specs.Prelude.{ℕ, ◌<◌, ◌≡◌, List, map, Bool, not, ◌&&◌, length, get_or, T, eqb}
+use Rattle.std.specs.Prelude.{ℕ, ◌<◌, ◌≡◌, List, map, length, get_or, T}
 use Rattle.format.specs.Basics.{pick}
 use Rattle.format.specs.Format.{Book, code_limit, book_of}
 use Rattle.consistency.specs.Counting.{those, tabulate, join_below}
@@ -10,10 +10,6 @@ use Rattle.consistency.specs.Counts.{bit, mask, in_doubt, listed, Line}
 use Rattle.filter.specs.Words.{stands}
 use Rattle.filter.specs.Cases.{own_case}
 use Rattle.sheet.specs.Opened.{FieldsAt}
-
--- a byte that is an answer, and no photograph: what `in_doubt` asks of a place
-abbrev pub doubted : ℕ → Bool → Bool
-doubted x p = not (eqb x 255) && not p
 
 -- the codes of a mask, rising
 unfoldable pub codes_of : ℕ → List ℕ

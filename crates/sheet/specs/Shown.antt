@@ -1,7 +1,11 @@
 -- The answers of the calls in the papers' terms: number, place and counts for each answer, and what a call left behind. Assumes nothing.
-use Rattle.std.specs.Prelude.{ℕ, List, [], ◌∷◌, Option, Some, None, Result, Ok, Err}
+use Rattle.std.specs.Prelude.{ℕ, List, [], ◌∷◌, take, Option, Some, None, Result, Ok, Err}
+use Rattle.format.specs.Basics.{pick}
 use Rattle.format.specs.Reading.{Outcome, accepted, refused}
+use Rattle.format.specs.Writing.{Reply, declined, into}
+use Rattle.consistency.specs.Counting.{any_below}
 use Rattle.consistency.specs.Consistency as consistency
+use Rattle.consistency.specs.Consistency.{backed}
 use Rattle.calls.specs.Calls as calls
 use Rattle.sheet.specs.Numbers.{number_of, place_of}
 use Rattle.sheet.specs.declared.Sheet.{Sheet}
@@ -43,6 +47,10 @@ counts_of_reading None = 0 ∷ 0 ∷ 0 ∷ []
 abbrev pub shown_reading : Counts (Option Suggestion)
 shown_reading = record { many = 3; of = counts_of_reading }
 
+-- the bytes written
+abbrev pub shown_form : Counts ℕ
+shown_form = record { many = 1; of = λ bytes. bytes ∷ [] }
+
 -- the answer of a call, by what it counts
 abbrev pub shown : {T : Type 0} → Counts T → Result T Reason → Outcome
 shown counts (Ok x) = accepted (counts.of x)
@@ -59,3 +67,11 @@ result_of counts r o = left counts r.answer (held_by r.sheet) o
 abbrev pub read_result : Result Sheet Reason → calls.Result
 read_result (Ok s) = calls.done [] (held_by s) []
 read_result (Err reason) = calls.turned 0 calls.fresh_sheet [] (number_of reason) (place_of reason)
+
+-- what a call that is given no sheet leaves behind
+abbrev pub reply_of : Result ℕ Reason → List ℕ → Reply
+reply_of answer o = record { outcome = shown shown_form answer; buffer = o }
+
+-- what is left behind where the first n answers of sheet s are stored, a byte each, with o lent: 22, then 18, or they are written
+abbrev pub first_answers : ℕ → consistency.Sheet → List ℕ → Reply
+first_answers n s o = pick (any_below n (backed s)) (declined o 22 0) (into (take n s.answers) o)

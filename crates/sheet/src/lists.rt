@@ -4,26 +4,18 @@ ghost use Rattle.format.specs.Format.{code_limit, book_of};
 ghost use Rattle.consistency.specs.Consistency.{places};
 ghost use Rattle.consistency.specs.Counts.{line_bytes};
 ghost use Rattle.sheet.specs.Shown.{held_by};
-ghost use Rattle.sheet.specs.Lists.{doubted, codes_of, lines_for, listed_masks, lines_in, Passed};
+ghost use Rattle.sheet.specs.Lists.{codes_of, lines_for, listed_masks, lines_in, Passed};
 
-use super::opened::codes;
 use super::{MaskCodes, Sheet};
-use book::{Book, NO_ANSWER, PLACES};
-use filter::WORDS;
+use book::{Book, PLACES};
+use filter::{WORDS, in_doubt};
 
 // The own case of the first field in doubt, behind the case with nothing relaxed.
 const FIRST_OWN: u64 = 1;
 
-// Whether an answer may be put in doubt: there is one, and no photograph backs it.
-fn in_doubt(answer: u8, photographed: bool) -> bool
-    ensures { result ≡ doubted answer photographed }
-{
-    answer != NO_ANSWER && !photographed
-}
-
 // Writes the codes listed for each place, in masks that are 0: those that stand in its field's own case, if that leaves no field empty. A field
 // that is not in doubt has none. `marks` are those of the one pass, and `empty` its cases in which some field is empty.
-// (b) Written where they are lent: masks handed back are copied twice, and alternatives of a small book took longer.
+// (b) Written where they are lent: handed back they are copied twice, and alternatives took 0.56 µs on 3 fields, 1.78 on 60, for 0.46, 1.52.
 pub(crate) fn list(
     book: Book<'_>,
     sheet: &Sheet,
@@ -35,18 +27,13 @@ pub(crate) fn list(
     requires zeros { masks.old ≡ replicate places 0 }
     ensures { masks.new ≡ listed_masks (book_of book.entry.bytes.now) (held_by sheet.now) }
 {
-    let mut next = FIRST_OWN;
-    // (d) By number, since a walk is no plainer: a field's answer, photograph, codes and mask stand in four arrays.
-    for f in 0..book.fields {
-        if !in_doubt(sheet.answers[f], sheet.photographed[f]) {
-            continue;
+    for (f, k) in (0..book.fields)
+        .filter(|&f| in_doubt(sheet.answers[f], sheet.photographed[f]))
+        .zip(FIRST_OWN..)
+    {
+        if (empty >> k) % 2 == 0 {
+            masks[f] = filter::standing_codes(marks, k, f, usize::from(book.codes(f)));
         }
-        let k = next;
-        next += 1;
-        if (empty >> k) % 2 == 1 {
-            continue;
-        }
-        masks[f] = filter::standing_codes(marks, k, f, codes(book, f));
     }
 }
 
@@ -67,6 +54,8 @@ fn write_field(mask: u32, f: usize, out: &mut [u8]) -> usize
     requires { (f < places) × (2 * length (codes_of mask) ≤ length out.old) }
     ensures { (result ≡ 2 * length (codes_of mask)) × (out.new ≡ line_bytes (lines_for f (codes_of mask)) ++ drop (2 * length (codes_of mask)) out.old) }
 {
+    // (d) The place is counted along, since it is the answer: how many codes a mask has is not handed on.
+    // (b) Two stores: by `copy_from_slice` of both bytes alternatives on 60 fields took 25,646 instructions, and 25,454 with these.
     let mut next = 0;
     for c in (MaskCodes { left: mask }) {
         out[next] = f as u8;
@@ -82,6 +71,7 @@ pub(crate) fn write_lines(masks: &[u32], out: &mut [u8])
     requires room { 2 * length (lines_in masks.now) ≤ length out.old }
     ensures { out.new ≡ line_bytes (lines_in masks.now) ++ drop (2 * length (lines_in masks.now)) out.old }
 {
+    // (d) The place is counted along: a field's lines begin where those before it end.
     let mut at = 0;
     for (f, mask) in masks.iter().enumerate() {
         at += write_field(*mask, f, &mut out[at..]);

@@ -16,9 +16,11 @@ pub(crate) fn write_masks(
 ) -> Result<(), Reason>
     ensures { (s : Sheet) → left shown_nothing result s out.new ≡ masks_into (book_of book.entry.bytes.now) s answers.now out.old }
 {
+    // (b) Not `book::hand_out`, which stands behind the filtering: with it a refusal by 18 took 1.10 µs on 60 fields without a table, for 0.08.
     if out.len() < book.fields {
         return Err(Reason::Room);
     }
+    // (a) There is no heap: the numbers stand in an array of all places, of which the book's fields take the first.
     let numbers = filter::plain(book, answers);
     out[..book.fields].copy_from_slice(&numbers[..book.fields]);
     Ok(())

@@ -1,7 +1,7 @@
 // The tests with which calls on a sheet and a book begin: 1 to 13 of the book, 14 of the sheet, then 15 to 17 of a field.
-ghost use Rattle.std.specs.Prelude.{◌≡◌, ◌≤◌, ◌<◌, IfOk, OnOk};
+ghost use Rattle.std.specs.Prelude.{◌≡◌, ◌<◌, IfOk, OnOk};
 ghost use Rattle.format.specs.Format.{code_limit, book_of};
-ghost use Rattle.consistency.specs.Consistency.{places, codes};
+ghost use Rattle.consistency.specs.Consistency.{places};
 ghost use Rattle.calls.specs.Calls.{fault_of};
 ghost use Rattle.sheet.specs.Shown.{held_by};
 ghost use Rattle.sheet.specs.Opened.{seen_byte, seen_bytes, fits, code_counts, fault_at, fault_test, code_test, answer_test, opening, verdict_of};
@@ -11,20 +11,23 @@ use book::{Book, NO_ANSWER, PLACES};
 use std::array::from_fn;
 
 // What is seen of a photograph without an answer: a byte that no place may hold, since no field has so many codes.
+// (a) A byte, as in the definition of what 14 looks at.
 const BACKED_ALONE: u8 = 254;
 
 // What 14 looks at in a place: its byte, or what is seen of a photograph without an answer.
-// (b) One byte for two facts: the scan that looks at answers and photographs apart goes place by place, and takes longer.
+// (b) One byte for two facts: a scan that looks at answers and photographs apart goes place by place. Enter, withdraw, load and store of E1
+// took 60, 91, 62 and 107 ns with it, and 66, 73, 67 and 40 with this one.
+// (b) Two tests: by one, of a photograph without an answer, each call that opens a book took 42 instructions more.
 fn seen(byte: u8, photographed: bool) -> u8
     ensures { result ≡ seen_byte byte photographed }
 {
     if byte != NO_ANSWER {
-        return byte;
+        byte
+    } else if photographed {
+        BACKED_ALONE
+    } else {
+        NO_ANSWER
     }
-    if photographed {
-        return BACKED_ALONE;
-    }
-    NO_ANSWER
 }
 
 // Whether a place may hold what is seen there: no answer, or a code of its field, which has so many.
@@ -34,16 +37,8 @@ fn may_hold(byte: u8, count: u8) -> bool
     byte == NO_ANSWER || byte < count
 }
 
-// The number of codes of a field.
-pub(crate) fn codes(book: Book<'_>, field: usize) -> usize
-    requires { field < book.fields }
-    ensures is { result ≡ codes (book_of book.entry.bytes.now) field }
-    ensures few { result ≤ code_limit }
-{
-    usize::from(book.bytes[book.list + field])
-}
-
 // The number of codes of each place's field; 0 for a place without one.
+// (a) There is no heap: the array has a place for each field of any book, and this one's are the first.
 fn code_counts(book: Book<'_>) -> [u8; PLACES]
     ensures { result ≡ code_counts (book_of book.entry.bytes.now) }
 {
@@ -53,6 +48,7 @@ fn code_counts(book: Book<'_>) -> [u8; PLACES]
 }
 
 // 15, no such field; 16, no such code.
+// (d) 15 is tested here and in `has_answer`: a function for one test, with its promise, is longer than the two.
 pub(crate) fn has_code(book: Book<'_>, field: usize, code: usize) -> Result<(), Reason>
     ensures verdict { verdict_of result ≡ code_test (book_of book.entry.bytes.now) field code }
     ensures field { OnOk result (field < places) }
@@ -61,7 +57,7 @@ pub(crate) fn has_code(book: Book<'_>, field: usize, code: usize) -> Result<(), 
     if book.fields <= field {
         return Err(Reason::Field);
     }
-    if codes(book, field) <= code {
+    if usize::from(book.codes(field)) <= code {
         return Err(Reason::Code);
     }
     Ok(())

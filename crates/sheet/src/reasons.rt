@@ -1,9 +1,9 @@
 // Why a call on a sheet is turned down: the papers' number of each reason, and the place that it speaks of.
 ghost use Rattle.std.specs.Prelude.{◌≡◌};
 ghost use Rattle.sheet.specs.Numbers.{number_of, place_of};
-ghost use Rattle.sheet.specs.declared.reasons.Reason.TheVariants.{Book, Table};
+ghost use Rattle.sheet.specs.declared.reasons.Reason.TheVariants.{Book, Room, Table};
 
-use book::{Refused, Refuses};
+use book::{NoRoom, Refused, Refuses};
 use filter::NoColumn;
 
 // The reader's refusal of the book, 14 with the first place at fault, 15 to 19, or 21 to 24.
@@ -27,6 +27,15 @@ impl From<Refused> for Reason {
 
     fn from(refused: Refused) -> Self {
         Self::Book(refused)
+    }
+}
+
+// 18: less memory is lent than the answer takes.
+impl From<NoRoom> for Reason {
+    ghost from_gives = { λ _ reason. reason ≡ Room };
+
+    fn from(_none: NoRoom) -> Self {
+        Self::Room
     }
 }
 

@@ -4,10 +4,9 @@ use mathlib.Core.List.{List}
 use Prim.Native.Nat.{ℕ}
 use lib.ListN.{get_or}
 use Rattle.std.specs.Prelude.{Result}
-use Rattle.sheet.specs.Shown.{shown}
+use Rattle.sheet.specs.Shown.{shown, shown_form}
 use Rattle.sheet.specs.declared.reasons.Reason.{Reason}
 use Rattle.sheet.proofs.Injective.{shown_injective}
-use Rattle.short.specs.Shown.{shown_form}
 
 pub shown_form_injective : (x y : Result ℕ Reason) → shown shown_form x ≡ shown shown_form y → x ≡ y
 shown_form_injective = shown_injective shown_form (λ n m e. ap (λ (l : List ℕ). get_or l 0 0) e)

@@ -1,20 +1,16 @@
 -- Each way through shorten and lengthen, by what loading the form handed back. Assumes nothing.
 use mathlib.Core.Path.{◌≡◌, sym, ap, ap₂, ◌∙◌, subst}
 use mathlib.Core.Logic.{◌≢◌}
-use mathlib.Core.Bool.{Bool, true, false}
-use mathlib.Core.List.{List, [], ◌∷◌, ◌++◌}
-use Prim.Native.Nat.{ℕ, ◌+◌, ◌-◌, ◌*◌, ◌≤◌, ◌<◌}
+use mathlib.Core.Bool.{Bool}
+use mathlib.Core.List.{List, []}
+use Prim.Native.Nat.{ℕ, ◌+◌, ◌-◌, ◌*◌, ◌≤◌}
 use native.Mathlib.Omega.{arith}
 use borrow.Author.Tests.{ne_eqb}
-use lib.ListN.{length, get_or, take, drop}
-use lib.Seq.{length-take-le}
-use Rattle.std.specs.Prelude.{Result as Answer}
+use lib.ListN.{length, get_or, take}
 use Rattle.format.specs.Basics.{pick}
 use Rattle.format.specs.Format.{book_of}
-use Rattle.format.specs.Reading.{accepted}
 use Rattle.format.specs.Writing.{Reply, declined, into}
 use Rattle.format.proofs.Accepted.{verdict_accepted}
-use Rattle.format.proofs.Replies.{into_short, into_whole}
 use Rattle.consistency.specs.Counting.{any_below}
 use Rattle.consistency.specs.Consistency.{places, Sheet, backed}
 use Rattle.calls.specs.Calls.{Result, turned, done, any_backed, loaded}
@@ -28,9 +24,8 @@ use Rattle.calls.proofs.ShortForms.{read_fine}
 use Rattle.calls.proofs.ShortLayouts.{layout_of}
 use Rattle.calls.proofs.ShortCalls.{Reads, load_accepted, loaded_sheet, there, back, shorten_on, lengthen_on}
 use Rattle.sheet.specs.Numbers.{number_of, place_of}
-use Rattle.sheet.specs.Shown.{held_by, shown_nothing, left, result_of}
+use Rattle.sheet.specs.Shown.{first_answers}
 use Rattle.sheet.specs.declared.reasons.Reason.{Reason}
-use Rattle.sheet.specs.declared.handed.Handed.{Handed}
 use Rattle.sheet.proofs.Injective.{number_some}
 
 -- ---- what a load answered
@@ -52,11 +47,6 @@ refused_too r reason e o go =
     let no : r.outcome.number ≢ 0 = (λ z. omega (arith, z, number, number_some reason)) in
     ap₂ (declined o) (sym number) (sym at)
     ∙ ap (λ (t : Bool). pick t (go r.sheet) (declined o r.outcome.number r.outcome.place)) (sym (ne_eqb r.outcome.number 0 no))
-
--- the same of an answer beside its sheet
-pub of_answer : {h : Handed (Unit {0})} {r : Result} (answer : Answer (Unit {0}) Reason) → h.answer ≡ answer → result_of shown_nothing h [] ≡ r
-    → left shown_nothing answer (held_by h.sheet) [] ≡ r
-of_answer {h} answer d e = ap (λ (a : Answer (Unit {0}) Reason). left shown_nothing a (held_by h.sheet) []) (sym d) ∙ e
 
 -- ---- to the short form
 
@@ -124,30 +114,9 @@ module _ (bytes form o : List ℕ) (s : Sheet) where
       pub fields_fit : fields ≤ places
       fields_fit = omega (arith, few, fields_is)
 
-      -- by whether some field has a photograph
-      back_as : {t : Bool} → any_below fields (backed s) ≡ t → pick t (declined o 22 0) (into (take fields s.answers) o) ≡ lengthened bytes form o
-      back_as {t} q =
-          let all : any_backed s ≡ t =
-          sym (any_known (book_of bytes) s fine few) ∙ ap (λ (n : ℕ). any_below n (backed s)) fields_is ∙ q in
-          ap₂ (λ (x : Bool) (n : ℕ). pick x (declined o 22 0) (into (take n s.answers) o)) (sym all) (sym fields_is) ∙ rest
-
-      pub lengthen_22 : any_below fields (backed s) ≡ true → declined o 22 0 ≡ lengthened bytes form o
-      lengthen_22 = back_as
-
-      module _ (plain : any_below fields (backed s) ≡ false) (long : length s.answers ≡ places) where
-        abbrev xs : List ℕ
-        xs = take fields s.answers
-
-        size : length xs ≡ fields
-        size = length-take-le fields s.answers (omega (arith, fields_fit, long))
-
-        pub lengthen_18 : length o < fields → declined o 18 0 ≡ lengthened bytes form o
-        lengthen_18 l = sym (into_short xs o (omega (arith, size))) ∙ back_as plain
-
-        -- the bytes of the fields are written, ys being they
-        pub lengthen_done : fields ≤ length o → (ys : List ℕ) → ys ≡ xs
-            → record { outcome = accepted (fields ∷ []); buffer = ys ++ drop fields o } ≡ lengthened bytes form o
-        lengthen_done l ys q =
-            ap (λ (zs : List ℕ). record { outcome = accepted (fields ∷ []); buffer = zs ++ drop fields o }) q
-            ∙ ap (λ (n : ℕ). record { outcome = accepted (n ∷ []); buffer = xs ++ drop n o }) (sym size)
-            ∙ sym (into_whole xs o (omega (arith, size))) ∙ back_as plain
+      -- what handing out the answers of the fields leaves behind
+      pub lengthen_by : {r : Reply} → r ≡ first_answers fields s o → r ≡ lengthened bytes form o
+      lengthen_by e =
+          let all : any_below fields (backed s) ≡ any_backed s =
+          ap (λ (n : ℕ). any_below n (backed s)) (sym fields_is) ∙ any_known (book_of bytes) s fine few in
+          e ∙ ap₂ (λ (x : Bool) (n : ℕ). pick x (declined o 22 0) (into (take n s.answers) o)) all (sym fields_is) ∙ rest

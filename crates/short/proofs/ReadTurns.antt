@@ -3,13 +3,16 @@ use mathlib.Core.Path.{◌≡◌, refl, sym, ap, subst, ◌∙◌}
 use mathlib.Core.Logic.{⊎_elim}
 use mathlib.Core.Bool.{Bool, true, false, ◌&&◌}
 use mathlib.Core.List.{List, []}
-use Prim.Native.Nat.{ℕ, ◌+◌, ◌-◌, ◌*◌, ◌/◌, ◌≤◌, ◌<◌}
+use Prim.Native.Nat.{ℕ, zero, suc, ◌+◌, ◌-◌, ◌*◌, ◌/◌, ◌≤◌, ◌<◌}
 use native.Mathlib.Nat.{add-zero, eq-or-lt_of_le}
+use native.Mathlib.Numerals.{add-one}
 use native.Mathlib.Omega.{arith}
 use borrow.Author.Tests.{ltb-true, lt-ltb, le-ltb, ne_eqb, eq-eqb}
 use lib.ListN.{length, get_or, set, drop, length-drop}
 use lib.Dec.{leb, ltb, eqb}
-use Rattle.std.proofs.Common.{Some, None}
+use Rattle.std.specs.Prelude.{Option, Some, None, MatchOption}
+use Rattle.std.specs.List.{AllWithin, HoldsAt}
+use Rattle.std.specs.Option.{option_map}
 use Rattle.std.specs.Simd.{first_chunks}
 use Rattle.std.proofs.lemmas.List.{get_or-drop}
 use Rattle.format.specs.Basics.{pick}
@@ -22,7 +25,7 @@ use Rattle.calls.specs.Short.{is_short, code_fault, set_both, entries_onto}
 use Rattle.calls.proofs.ShortPlaces.{ok_next, ok_end, ok_few, fault_next, fault_end, onto_next, onto_end}
 use Rattle.sheet.specs.Opened.{fault_at}
 use Rattle.sheet.proofs.Chunks.{byte_is, first_is, there, behind}
-use Rattle.sheet.proofs.Openings.{fields_at, fields_few, codes_at}
+use Rattle.sheet.proofs.Openings.{fields_at, fields_few}
 
 -- ---- the bytes of an entry
 
@@ -151,30 +154,54 @@ module _ (form : List ℕ) (entries : List (List ℕ)) (e : entries ≡ first_ch
     pub onto_last : length entries ≤ i → sheet_with answers photographed ≡ whole
     onto_last h = sym (onto_end form (3 * i) (sheet_with answers photographed) (omega arith)) ∙ inv
 
-  -- ---- 14
+-- ---- 14
 
-  module _ (book : Book) {whole : ℕ} (i : ℕ) (inv : code_fault (book_of book.bytes.now) (drop (3 * i) form) ≡ whole) where
-    module _ (l : i < length entries) (ok : RestOk book.fields form i) (f : ℕ) (f-is : f ≡ get_or (get_or entries i []) 0 0) where
-      abbrev count : ℕ
-      count = get_or book.bytes.now (book.list + f) 0
+-- an entry's code is one of its field's, or none of them
+abbrev pub Known : Book → List ℕ → Type 0
+Known book x = get_or x 1 0 < codes (book_of book.bytes.now) (get_or x 0 0)
 
-      -- by the field's number of codes, which stands in the field list
-      next_fault : {t : Bool} → ltb (get_or (get_or entries i []) 1 0) count ≡ t → pick t (code_fault (book_of book.bytes.now) (drop (3 * (i + 1)) form)) f ≡ whole
-      next_fault {t} q =
-          let e' : codes (book_of book.bytes.now) f ≡ count =
-          codes_at book.bytes.now book.list book.fields (fields_at book.viewed) f (omega (arith, rest_field i l book.fields ok)) in
-          rw (← q, ← e', f-is) (sym (fault_entry form entries e many i l (book_of book.bytes.now))) ∙ inv
+abbrev pub Unknown : Book → List ℕ → Type 0
+Unknown book x = codes (book_of book.bytes.now) (get_or x 0 0) ≤ get_or x 1 0
 
-      pub fault_here : count ≤ get_or (get_or entries i []) 1 0 → Some f ≡ fault_at whole
-      fault_here h =
-          let is : f ≡ whole = next_fault (le-ltb (get_or (get_or entries i []) 1 0) count h) in
-          let few : f < places = omega (arith, rest_field i l book.fields ok, fields_few book.bytes.now book.list book.fields (fields_at book.viewed)) in
-          rw (← is, lt-ltb f places few)
+module _ (form : List ℕ) (entries : List (List ℕ)) (e : entries ≡ first_chunks 3 (length form / 3) form) (many : length entries ≡ length form / 3)
+    (book : Book) (ok : is_short book.fields 0 0 form ≡ true) where
+  rest_at : (i : ℕ) → i ≤ length entries → RestOk book.fields form i
+  rest_at zero l = record { low = 0; ok = ok }
+  rest_at (suc i) l = rw (← add-one i) (rest_next form entries e many i (omega arith) book.fields (rest_at i (omega arith)))
 
-      pub fault_on : get_or (get_or entries i []) 1 0 < count → code_fault (book_of book.bytes.now) (drop (3 * (i + 1)) form) ≡ whole
-      fault_on h = next_fault (lt-ltb (get_or (get_or entries i []) 1 0) count h)
+  -- the field of each entry is one of the book's
+  pub entry_field : (i : ℕ) → i < length entries → get_or (get_or entries i []) 0 0 < book.fields
+  entry_field i l = rest_field form entries e many i l book.fields (rest_at i (omega arith))
 
-    pub fault_last : length entries ≤ i → None ≡ fault_at whole
-    fault_last h =
-        let is : places ≡ whole = sym (fault_end form (3 * i) (book_of book.bytes.now) (omega arith)) ∙ inv in
-        subst (λ (n : ℕ). None ≡ fault_at n) is refl
+  -- entries whose codes are known are left behind
+  passed : (i : ℕ) → i ≤ length entries → AllWithin (Known book) entries 0 i
+      → code_fault (book_of book.bytes.now) (drop (3 * i) form) ≡ code_fault (book_of book.bytes.now) form
+  passed zero l h = refl
+  passed (suc i) l h =
+      let t = lt-ltb (get_or (get_or entries i []) 1 0) (codes (book_of book.bytes.now) (get_or (get_or entries i []) 0 0)) (h i [] (omega arith) (omega arith)) in
+      rw (← add-one i)
+      (sym
+      (fault_entry form entries e many i (omega arith) (book_of book.bytes.now)
+      ∙ ap (λ (b : Bool). pick b (code_fault (book_of book.bytes.now) (drop (3 * (i + 1)) form)) (get_or (get_or entries i []) 0 0)) t))
+      ∙ passed i (omega arith) (λ k d a b. h k d a (omega arith))
+
+  -- the first entry whose code is unknown has the first field at fault; without one there is none
+  pub fault_found : {A : Type 0} (v : A → List ℕ) (r : Option A)
+      → MatchOption r (AllWithin (Known book) entries 0 (length entries))
+      (λ x. Unknown book (v x) × (i : ℕ) × (i < length entries) × HoldsAt (λ y. y ≡ v x) entries i × AllWithin (Known book) entries 0 i)
+      → option_map (λ x. get_or (v x) 0 0) r ≡ fault_at (code_fault (book_of book.bytes.now) form)
+  fault_found v None h =
+      let is : places ≡ code_fault (book_of book.bytes.now) form =
+      sym (fault_end form (3 * length entries) (book_of book.bytes.now) (omega arith)) ∙ passed (length entries) (omega arith) h in
+      subst (λ (n : ℕ). None ≡ fault_at n) is refl
+  fault_found v (Some x) (u, i, l, at, h) =
+      let f : ℕ = get_or (v x) 0 0 in
+      let here : get_or entries i [] ≡ v x = at [] in
+      let t = le-ltb (get_or (v x) 1 0) (codes (book_of book.bytes.now) f) u in
+      let is : f ≡ code_fault (book_of book.bytes.now) form =
+      sym
+      (rw here at (fault_entry form entries e many i l (book_of book.bytes.now))
+      ∙ ap (λ (b : Bool). pick b (code_fault (book_of book.bytes.now) (drop (3 * (i + 1)) form)) f) t)
+      ∙ passed i (omega arith) h in
+      let few : f < places = omega (arith, rw here at (entry_field i l), fields_few book.bytes.now book.list book.fields (fields_at book.viewed)) in
+      rw (← is, lt-ltb f places few)

@@ -2,17 +2,15 @@
 use mathlib.Core.Path.{◌≡◌, refl, sym, ap, ap₂, ◌∙◌}
 use mathlib.Core.Logic.{◌⊎◌, inl, inr}
 use mathlib.Core.Bool.{Bool, true, false, not}
-use mathlib.Core.List.{List, [], ◌∷◌, ◌++◌, append-nil, append_assoc}
+use mathlib.Core.List.{List, [], ◌∷◌, ◌++◌, append-nil}
 use Rattle.std.proofs.lemmas.List.{get_or-take}
-use Rattle.std.proofs.lemmas.List.Edits.{paste_all}
-use Rattle.std.proofs.lemmas.Slice.{put_mid-paste}
 use Prim.Native.Nat.{ℕ, zero, suc, ◌+◌, ◌-◌, ◌*◌, ◌≤◌, ◌<◌}
 use native.Mathlib.Nat.{eq-or-lt_of_le}
 use native.Mathlib.Numerals.{add-one}
 use native.Mathlib.Omega.{arith}
 use borrow.Author.Tests.{ne_eqb, eq-eqb}
-use lib.ListN.{length, get_or, take, drop, length-append}
-use lib.Seq.{sets, sets-eq, length-sets}
+use lib.ListN.{length, get_or, take, length-append}
+use lib.Seq.{sets, length-sets}
 use borrow.Rule.Slice.PartMut.{put_mid}
 use mir.Val.{bool_byte}
 use Rattle.format.specs.Basics.{pick}
@@ -24,15 +22,10 @@ use Rattle.consistency.specs.Counting.{how_many}
 use Rattle.consistency.specs.Consistency.{places, Sheet, answer, backed}
 use Rattle.consistency.specs.Counts.{answered}
 use Rattle.consistency.proofs.Elements.{answer_at}
+use Rattle.book.proofs.Parts.{part_stored}
 use Rattle.calls.specs.Short.{flag_byte, entry_of, entries_of, short_of}
 use Rattle.calls.proofs.ShortPlaces.{entries_next, length_entries, short_is, length_short}
 use Rattle.short.specs.Forms.{Fits}
-
--- bytes that were written into a part of o are stored there
-pub stored : (o u zs : List ℕ) (at k : ℕ) → u ≡ zs → length zs ≡ k → at + k ≤ length o → put_mid at k o u ≡ sets o at zs
-stored o u zs at k e n h =
-    put_mid-paste at k o u zs (length zs) e n refl ∙ paste_all o at zs (length zs) refl
-    ∙ sym (append_assoc (take at o) zs (drop (at + length zs) o)) ∙ sym (sets-eq zs o at (omega arith))
 
 -- a photograph as a byte
 pub flag_is : (p : Bool) → bool_byte p ≡ flag_byte p
@@ -105,7 +98,8 @@ module _ (n : ℕ) (s : Sheet) (o : List ℕ) (room : Fits n s o) (long : length
             (record {
               next_is = omega (arith, en, far.next_is, ap length more, length-append (entries_of f s) (entry_of s f));
               bytes =
-                  eo ∙ stored o' u (entry_of s f) next (next + 3 - next) (eu ∙ entry_is) (omega arith) (omega (arith, room_entry))
+                  eo ∙ ap (put_mid next (next + 3 - next) o') (eu ∙ entry_is)
+                  ∙ part_stored o' (entry_of s f) next (next + 3 - next) (omega arith) (omega (arith, room_entry))
                   ∙ ap (λ (q : List ℕ). sets q next (entry_of s f)) far.bytes
                   ∙ sets_then o 0 next (entries_of f s) (entry_of s f) (omega (arith, far.next_is)) ∙ ap (sets o 0) (sym more);
             })
@@ -130,7 +124,8 @@ module _ (n : ℕ) (s : Sheet) (o : List ℕ) (many size : ℕ) (many_is : many 
       → record { outcome = accepted (size ∷ []); buffer = put_mid (3 * many) (size - 3 * many) o' u } ≡ into (short_of n s) o
   put_done h o' u eo eu =
       ap₂ (λ (r : ℕ) (q : List ℕ). record { outcome = accepted (r ∷ []); buffer = q }) size_is
-      (stored o' u (many ∷ n ∷ []) (3 * many) (size - 3 * many) eu (omega arith) (omega (arith, same))
+      (ap (put_mid (3 * many) (size - 3 * many) o') eu
+      ∙ part_stored o' (many ∷ n ∷ []) (3 * many) (size - 3 * many) (omega arith) (omega (arith, same))
       ∙ ap (λ (q : List ℕ). sets q (3 * many) (many ∷ n ∷ [])) eo
       ∙ sets_then o 0 (3 * many) (entries_of n s) (many ∷ n ∷ []) (omega (arith, many_is, length_entries s n)) ∙ ap (sets o 0) whole
       ∙ sets_front o (short_of n s) (put_room h))

@@ -44,13 +44,10 @@ pub(crate) fn code_fault(book: Book<'_>, form: &[u8]) -> Option<usize>
     ensures { result ≡ fault_at (code_fault (book_of book.entry.bytes.now) form.now) }
 {
     let (entries, _) = form.as_chunks::<ENTRY>();
-    for &[f, code, _] in entries {
-        let field = usize::from(f);
-        if book.bytes[book.list + field] <= code {
-            return Some(field);
-        }
-    }
-    None
+    entries
+        .iter()
+        .find(|&&[f, code, _]| book.codes(usize::from(f)) <= code)
+        .map(|&[f, _, _]| usize::from(f))
 }
 
 // The sheet that a short form says.

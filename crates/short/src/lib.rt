@@ -3,8 +3,7 @@
 
 ghost use Rattle.std.specs.Prelude.{◌≡◌, []};
 ghost use Rattle.calls.specs.Short.{loaded_short, stored_short, shortened, lengthened};
-ghost use Rattle.sheet.specs.Shown.{held_by, shown_nothing, left, read_result, result_of};
-ghost use Rattle.short.specs.Shown.{shown_form, reply_of};
+ghost use Rattle.sheet.specs.Shown.{held_by, shown_nothing, shown_form, left, read_result, result_of, reply_of};
 
 use book::{Book, PLACES};
 use sheet::{Handed, Reason, Sheet};
@@ -64,9 +63,8 @@ pub fn store(sheet: Sheet, book: &[u8], out: &mut [u8]) -> Handed<usize>
 pub fn shorten(book: &[u8], form: &[u8], out: &mut [u8]) -> Result<usize, Reason>
     ensures { reply_of result out.new ≡ shortened book.now form.now out.old }
 {
-    let loaded = sheet::load(book, form);
-    loaded.answer?;
-    entries::put(&loaded.sheet, form.len(), out)
+    let sheet = sheet::read(book, form)?;
+    entries::put(&sheet, form.len(), out)
 }
 
 // Moves a short form to the old one. A form that loads ends in its number of fields.
@@ -75,13 +73,5 @@ pub fn lengthen(book: &[u8], form: &[u8], out: &mut [u8]) -> Result<usize, Reaso
 {
     let sheet = read(book, form)?;
     let fields = usize::from(form[form.len() - 1]);
-    if sheet.any_photographed(fields) {
-        return Err(Reason::Photographed);
-    }
-    if out.len() < fields {
-        return Err(Reason::Room);
-    }
-    // (a) As many bytes as the book has fields: the sheet has more places, and a caller may lend more.
-    out[..fields].copy_from_slice(&sheet.answers[..fields]);
-    Ok(fields)
+    sheet.hand_out_answers(fields, out)
 }

@@ -1,4 +1,4 @@
-use mathlib.Core.Path.{◌≡◌}
+use mathlib.Core.Path.{◌≡◌, ◌∙◌}
 use mathlib.Core.Bool.{false}
 use native.Mathlib.Omega.{arith}
 use borrow.Author.Rules.{rules}
@@ -21,6 +21,6 @@ loop-field-preserved c =
     elim c.if-code.branch [
       | then-code w ↦
           wrote_entry _ _ _ c.requires long _ _ _ c.loop-field.invariant (omega arith) w.if-code.true _ _ w.copy_from_slice.ensures.after
-          (flag_is (get_or c.args.sheet.now.photographed c.loop-field.field false)) _ _ w.out-is w.next-is
+          (w.from-photographed.ensures ∙ flag_is (get_or c.args.sheet.now.photographed c.loop-field.field false)) _ _ w.out-is w.next-is
       | else-code w ↦ wrote_skip _ _ _ c.requires long _ _ _ c.loop-field.invariant (omega arith) w.if-code.false _ _ w.out-is w.next-is
     ]

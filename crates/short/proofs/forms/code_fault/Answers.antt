@@ -1,24 +1,26 @@
+-- `code_fault` meets its contract: the first entry whose code is unknown. Assumes nothing.
+use Rattle.std.proofs.Common.{ap, sym, subst, ◌∙◌, ◌<◌, [], List, ℕ, Bor, rules, tests}
+use lib.ListN.{get_or}
 use native.Mathlib.Omega.{arith}
-use Rattle.sheet.proofs.Openings.{fields_at, fields_end}
-use Rattle.short.proofs.ReadTurns.{rest_next, rest_field, fault_here, fault_on, fault_last}
+use Rattle.std.proofs.lemmas.List.{get_or_default}
+use Rattle.std.proofs.lemmas.Iterator.{first_from_find, YieldsList-from_slice}
+use Rattle.std.proofs.lemmas.Iterator.Adapters.{serves_from_places}
+use Rattle.short.proofs.ReadTurns.{Known, Unknown, entry_field, fault_found}
 use Rattle.short.proofs.forms.code_fault.Goals as goal
 
-pub bounds-book-book : goal.bounds-book-book
-bounds-book-book c =
+pub find-requires-clause-callable : goal.find-requires-clause-callable
+find-requires-clause-callable c =
     let t = c.as_chunks.ensures in
-    omega (arith, fields_end _ _ _ (fields_at c.args.book.viewed), c.from-field.ensures, rest_field _ _ t.front t.front_len _ c.loop-f-test.true _ c.loop-f.invariant.0)
-
-pub returns-then-book-field : goal.returns-then-book-field
-returns-then-book-field c =
-    let t = c.as_chunks.ensures in
-    fault_here _ _ t.front t.front_len c.args.book _ c.loop-f.invariant.1 c.loop-f-test.true c.loop-f.invariant.0 _ c.from-field.ensures c.if-book-field.true
-
-pub loop-f-preserved : goal.loop-f-preserved
-loop-f-preserved c =
-    let t = c.as_chunks.ensures in (
-      rest_next _ _ t.front t.front_len _ c.loop-f-test.true _ c.loop-f.invariant.0,
-      fault_on _ _ t.front t.front_len c.args.book _ c.loop-f.invariant.1 c.loop-f-test.true c.loop-f.invariant.0 _ c.from-field.ensures c.if-book-field.false,
-    )
+    serves_from_places (YieldsList-from_slice c.as_chunks.result.0.now cc) (λ x q k. search rules)
+    (λ x k l e y d.
+    let h : get_or y.now.now 0 0 < c.args.book.fields =
+    subst (λ (z : List ℕ). get_or z 0 0 < c.args.book.fields) (get_or_default c.as_chunks.result.0.now k [] x.now l ∙ sym e ∙ ap (λ (b : Bor (List ℕ)). b.now) (sym d))
+    (entry_field _ _ t.front t.front_len c.args.book c.requires k l) in
+    (search rules, search rules, grind arith))
 
 pub returns : goal.returns
-returns c = let t = c.as_chunks.ensures in fault_last _ _ t.front t.front_len c.args.book _ c.loop-f.invariant.1 (omega arith)
+returns c =
+    let t = c.as_chunks.ensures in
+    let r = first_from_find _ _ c.find.result (Unknown c.args.book) (Known c.args.book) c.find.ensures.ran (YieldsList-from_slice c.as_chunks.result.0.now cc)
+    (λ x q k. search (rules, tests)) (λ x q k. (search rules, search (rules, tests))) in
+    search (rules, tests) ∙ fault_found _ _ t.front t.front_len c.args.book c.requires (λ (x : Bor (List ℕ)). x.now) c.find.result r

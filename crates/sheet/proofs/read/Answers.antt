@@ -1,8 +1,8 @@
--- `read_stored` meets its contract: each way through its tests. Assumes nothing.
+-- `read` meets its contract: each way through its tests. Assumes nothing.
 use Rattle.std.proofs.lemmas.Result.{err_from_is_err_and}
 use Rattle.book.proofs.Checks.{opens_bad}
 use Rattle.sheet.proofs.LoadCases.{loaded_book, loaded_19, loaded_sheet, loaded_14, loaded_done}
-use Rattle.sheet.proofs.read_stored.Goals as goal
+use Rattle.sheet.proofs.read.Goals as goal
 
 pub returns-in_err-book : goal.returns-in_err-book
 returns-in_err-book c = let p = err_from_is_err_and c.from_residual.result c.from_residual.ensures.1 in
