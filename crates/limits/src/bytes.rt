@@ -1,10 +1,11 @@
 // Books of a chosen shape, laid out byte by byte.
 ghost use Rattle.std.specs.Prelude.{◌≡◌, ◌≤◌, take};
+ghost use Rattle.limits.specs.declared.bytes.TheConstants.{BYTES};
 
-use book::trailer;
+use book::{LENGTH_LIMIT, trailer};
 
-// One more than a book may have.
-pub(crate) const BYTES: usize = 32769;
+// One byte more than is read as a book.
+pub(crate) const BYTES: usize = LENGTH_LIMIT + 1;
 
 // A book's version, its fields, each of so many codes, and its tables on field 0, with so many rows of code 0 each.
 #[derive(Clone, Copy)]
@@ -28,24 +29,29 @@ impl Shape {
 }
 
 // The first n bytes, or all where there are fewer.
+// (d) Twins, this function and the next: Rust has no one function for both kinds of reference. A buffer and a number: a caller has the number
+// at hand, since it prints it, and a range would be made of it for this call alone.
 pub(crate) fn first(bytes: &[u8], n: usize) -> &[u8]
     ensures { result.now ≡ take n bytes.now }
 {
-    if n < bytes.len() { &bytes[..n] } else { bytes }
+    &bytes[..n.min(bytes.len())]
 }
 
 // The same, lent for writing.
 pub(crate) fn first_mut(bytes: &mut [u8], n: usize) -> &mut [u8] {
+    // (d) Its length stands apart: within the index, the bytes would be lent twice.
     let n = n.min(bytes.len());
     &mut bytes[..n]
 }
 
 // Bytes written one behind another, as far as there is room.
+// (a) They stand first in an array, since there is no heap.
+// (d) Beside the `Page` of `report`, whose functions ask for room in clauses: these put functions drop what has none, and nothing is asked.
 #[derive(Drop)]
 pub(crate) struct Written {
     buffer: [u8; BYTES],
     len: usize,
-    ghost within: { len ≤ 32769 },
+    ghost within: { len ≤ BYTES },
 }
 
 impl Written {
@@ -62,7 +68,7 @@ impl Written {
             book.put_many(0, shape.rows);
         }
         let list = book.len as u16;
-        book.put_many(shape.codes, shape.fields as u16);
+        book.put_many(shape.codes, u16::from(shape.fields));
         for byte in trailer(list, shape.fields, shape.tables, shape.version) {
             book.put(byte);
         }

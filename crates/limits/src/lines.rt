@@ -79,6 +79,7 @@ impl From<usize> for Line {
 }
 
 // A line: the name of what is tried, the number tried, and the answer.
+// (d) Runtime, name and number apart, here, in `show` and in `try_book`: a type of the three would be made for one call, and taken apart to print.
 pub(crate) fn say<T, E: Refuses + Copy>(
     rt: &HostRuntime,
     name: &str,

@@ -4,7 +4,7 @@
 mod bytes;
 mod lines;
 
-use book::{CODES, FIELDS_OF_VERSION_1, PLACES, TABLE_LIMIT};
+use book::{CODES, FIELDS_OF_VERSION_1, PLACES, ROW_LIMIT, TABLE_LIMIT};
 use bytes::{BYTES, Shape, Written, first, first_mut};
 use lines::{Line, say, show};
 use report::{PAIR_BYTES, TEXT_LIMIT};
@@ -26,7 +26,7 @@ fn try_books(rt: &HostRuntime) -> io::Result<()> {
             version,
             ..Shape::LEAST
         };
-        try_book(rt, "version", version as usize, shape)?;
+        try_book(rt, "version", usize::from(version), shape)?;
     }
     for (name, version, most) in [
         ("version 1, fields", 1, FIELDS_OF_VERSION_1),
@@ -60,13 +60,13 @@ fn try_tables(rt: &HostRuntime) -> io::Result<()> {
         };
         try_book(rt, "tables", tables, shape)?;
     }
-    for rows in [4096, 4097] {
+    for rows in [ROW_LIMIT, ROW_LIMIT + 1] {
         let shape = Shape {
             tables: 1,
-            rows,
+            rows: rows as u16,
             ..Shape::LEAST
         };
-        try_book(rt, "rows", rows as usize, shape)?;
+        try_book(rt, "rows", rows, shape)?;
     }
     for length in [BYTES - 1, BYTES] {
         let zeros = [0; BYTES];
@@ -141,7 +141,12 @@ fn try_fresh(rt: &HostRuntime) -> io::Result<()> {
         });
         let mut reading = [0; PLACES];
         let suggested = fresh.nearest(book.bytes(), &mut reading);
-        say(rt, "fields of two codes", fields as usize, suggested.answer)?;
+        say(
+            rt,
+            "fields of two codes",
+            usize::from(fields),
+            suggested.answer,
+        )?;
     }
     Ok(())
 }

@@ -1,7 +1,7 @@
--- Copying the text to the buffer where it fits, and reading it there. Assumes nothing.
+-- Handing the text out, and reading it in the buffer where it fits. Assumes nothing.
 use mathlib.Core.Path.{◌≡◌, sym, ap, ◌∙◌}
 use mathlib.Core.List.{List, ◌++◌}
-use Prim.Native.Nat.{ℕ, ◌≤◌, ◌<◌}
+use Prim.Native.Nat.{ℕ, ◌≤◌}
 use native.Mathlib.Omega.{arith}
 use lib.ListN.{length, get_or, take, drop, length-append}
 use lib.Seq.{take_at}
@@ -9,20 +9,18 @@ use lib.Dec.{ltb}
 use Rattle.std.specs.Prelude.{Result, Ok, Err}
 use Rattle.format.specs.Writing.{Reply, declined, into}
 use Rattle.format.proofs.Picks.{pick_second}
-use Rattle.format.proofs.Replies.{into_short, into_whole}
+use Rattle.format.proofs.Replies.{into_whole}
+use Rattle.book.specs.Lent.{HandedOut}
+use Rattle.book.specs.declared.lent.NoRoom.{NoRoom}
+use Rattle.book.proofs.HandingOut.{handed_into}
 use Rattle.report.specs.Text.{report_text}
 use Rattle.report.specs.Report.{shown, ReportSuffices}
-use Rattle.report.specs.declared.NoRoom.{NoRoom}
 use Rattle.report.proofs.Sizes.{text_fits}
 
-module _ (text o : List ℕ) where
-  -- it does not fit
-  pub too_short : (e : NoRoom) → length o < length text → shown (Err e) o ≡ into text o
-  too_short e l = sym (into_short text o l)
-
-  -- it fits, and is copied to the front
-  pub copied : length text ≤ length o → shown (Ok (length text)) (text ++ drop (length text) o) ≡ into text o
-  copied l = sym (into_whole text o l)
+-- handed out
+pub text_handed : (text o o' : List ℕ) (r : Result ℕ NoRoom) → HandedOut text o o' r → shown r o' ≡ into text o
+text_handed text o o' (Ok n) h = handed_into text o o' (Ok n) h
+text_handed text o o' (Err e) h = handed_into text o o' (Err e) h
 
 -- a text that was written stands at the start of the buffer: what a caller that reads it there needs
 pub written_counts : (text o o' : List ℕ) (r : Result ℕ NoRoom) (n : ℕ) → r ≡ Ok n → shown r o' ≡ into text o

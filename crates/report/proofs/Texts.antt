@@ -11,17 +11,17 @@ use Rattle.format.specs.Reading.{Outcome, refused, accepted, Verdict, pass, fail
 use Rattle.format.proofs.Refusals.{reading_pass}
 use Rattle.consistency.specs.Consistency.{places, Sheet}
 use Rattle.calls.specs.Calls as calls
-use Rattle.calls.specs.Calls.{fault_of, loaded}
+use Rattle.calls.specs.Calls.{fresh_sheet, turned, done, fault_of, loaded}
 use Rattle.calls.proofs.Stored.{load_accepted}
 use Rattle.book.specs.Numbers as numbers
 use Rattle.book.specs.declared.refusals.Refused.{Refused}
 use Rattle.book.specs.declared.Counts.{Counts}
 use Rattle.book.proofs.Injective as reader
 use Rattle.sheet.specs.Numbers.{number_of, place_of}
-use Rattle.sheet.specs.Shown.{held_by, shown, shown_nothing, result_of}
+use Rattle.sheet.specs.Shown.{held_by}
+use Rattle.sheet.specs.declared.Sheet as declared
 use Rattle.sheet.specs.declared.reasons.Reason.{Reason}
 use Rattle.sheet.specs.declared.reasons.Reason.TheVariants.{Book}
-use Rattle.sheet.specs.declared.handed.Handed.{Handed}
 use Rattle.sheet.proofs.Injective.{number_some}
 use Rattle.sheet.proofs.LoadCases.{loaded_book}
 use Rattle.report.specs.Text.{sheet_text, accepted_text, refused_text, report_text}
@@ -54,49 +54,47 @@ module _ (bytes form : List ℕ) where
       (ap (λ (r : calls.Result). r.outcome)
       (loaded_book bytes form (numbers.number_of e.kind) e.place (outcome_refused (verdict bytes) (book_counts (book_of bytes)) 4 (numbers.number_of e.kind) e.place n h)))
 
-  -- what loading answered
-  module _ (r : Handed (Unit {0})) (h : result_of shown_nothing r [] ≡ loaded bytes form) where
-    pub told_sheet : (reason : Reason) → r.answer ≡ Err reason → Told bytes form (Err reason)
-    told_sheet reason e =
-        load_refused (number_of reason) (place_of reason) (number_some reason)
-        (sym (ap (shown shown_nothing) e) ∙ ap (λ (x : calls.Result). x.outcome) h)
+  -- what reading the form answered: a refusal
+  pub told_sheet : (reason : Reason) → turned 0 fresh_sheet [] (number_of reason) (place_of reason) ≡ loaded bytes form → Told bytes form (Err reason)
+  told_sheet reason e = load_refused (number_of reason) (place_of reason) (number_some reason) (ap (λ (x : calls.Result). x.outcome) e)
 
-    -- ---- accepted
+  -- ---- accepted
 
-    module _ (e' : r.answer ≡ Ok tt) (counts : Counts) (counted : accepted (counts.fields ∷ counts.tables ∷ counts.rows ∷ counts.different ∷ []) ≡ reading bytes) where
-      -- the sheet handed back
-      abbrev s : Sheet
-      s = held_by r.sheet
+  module _ (read : declared.Sheet) (h : done [] (held_by read) [] ≡ loaded bytes form)
+      (counts : Counts) (counted : accepted (counts.fields ∷ counts.tables ∷ counts.rows ∷ counts.different ∷ []) ≡ reading bytes) where
+    -- the sheet that the form says
+    abbrev s : Sheet
+    s = held_by read
 
-      -- the load accepts
-      done_is : accepted [] ≡ (loaded bytes form).outcome
-      done_is = sym (ap (shown shown_nothing) e') ∙ ap (λ (x : calls.Result). x.outcome) h
+    -- the load accepts
+    done_is : accepted [] ≡ (loaded bytes form).outcome
+    done_is = ap (λ (x : calls.Result). x.outcome) h
 
-      accepts : (loaded bytes form).outcome.number ≡ 0
-      accepts = ap (λ (x : Outcome). x.number) (sym done_is)
+    accepts : (loaded bytes form).outcome.number ≡ 0
+    accepts = ap (λ (x : Outcome). x.number) (sym done_is)
 
-      -- the sheet is the one loaded
-      held : s ≡ (loaded bytes form).sheet
-      held = ap (λ (x : calls.Result). x.sheet) h
+    -- the sheet is the one loaded
+    held : s ≡ (loaded bytes form).sheet
+    held = ap (λ (x : calls.Result). x.sheet) h
 
-      -- what the lists start from
-      held_stands : Stands bytes s counts.fields
-      held_stands =
-          let k = load_accepted bytes form accepts in
-          record {
-            passes = k.passes;
-            no_fault =
-                subst (λ (x : Sheet). places ≤ fault_of (book_of bytes) x) (sym (held ∙ ap (λ (r : calls.Result). r.sheet) k.result)) k.no_fault;
-            fields_are = ap (λ (x : Outcome). get_or x.counts 0 0) (counted ∙ sym (reading_pass bytes (sym k.passes)));
-          }
+    -- what the lists start from
+    held_stands : Stands bytes s counts.fields
+    held_stands =
+        let k = load_accepted bytes form accepts in
+        record {
+          passes = k.passes;
+          no_fault =
+              subst (λ (x : Sheet). places ≤ fault_of (book_of bytes) x) (sym (held ∙ ap (λ (r : calls.Result). r.sheet) k.result)) k.no_fault;
+          fields_are = ap (λ (x : Outcome). get_or x.counts 0 0) (counted ∙ sym (reading_pass bytes (sym k.passes)));
+        }
 
-      -- the book's line, then the sheet's text
-      accepted_is : report_text bytes form ≡ book_text counts ++ sheet_text s (book_of bytes)
-      unfolding report_text accepted_text
-      accepted_is = rw (← done_is, ← counted, ← held)
+    -- the book's line, then the sheet's text
+    accepted_is : report_text bytes form ≡ book_text counts ++ sheet_text s (book_of bytes)
+    unfolding report_text accepted_text
+    accepted_is = rw (← done_is, ← counted, ← held)
 
-      pub told_both : Told bytes form (Ok (counts, r.sheet))
-      told_both = (held_stands, accepted_is)
+    pub told_both : Told bytes form (Ok (counts, read))
+    told_both = (held_stands, accepted_is)
 
 -- ---- room
 

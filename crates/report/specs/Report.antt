@@ -8,8 +8,8 @@ use Rattle.format.specs.Writing.{Reply, declined, into}
 use Rattle.consistency.specs.Consistency.{places, Subdomain, Sheet, IsLargest}
 use Rattle.consistency.specs.Counts.{answered, Line, lines, total}
 use Rattle.consistency.specs.Order.{InOrder}
+use Rattle.book.specs.declared.lent.NoRoom.{NoRoom}
 use Rattle.report.specs.Text.{open_lines, report_text}
-use Rattle.report.specs.declared.NoRoom.{NoRoom}
 
 -- "Each open: unanswered field and standing code, by field then code": whatever S is the largest, its codes and no others
 pub record ShowsOpen (b : Book) (s : Sheet) (ls : List Line) : Type 0 where

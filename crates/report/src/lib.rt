@@ -10,7 +10,7 @@ ghost use Rattle.report.specs.Report.{shown};
 ghost use Rattle.report.specs.Writes.{HasRoom};
 ghost use Rattle.report.specs.Held.{Stands, Told};
 
-use book::{CODES, Counts, PLACES, Refuses};
+use book::{CODES, Counts, PLACES};
 use sheet::{Alternatives, NONE_RELAXED, Reason, Sheet};
 
 mod lists;
@@ -19,38 +19,22 @@ mod parts;
 
 use page::Page;
 
+// Why a text is not written: fewer bytes are lent than it has.
+pub use book::NoRoom;
+
 // No text is longer: the lines of the book and of the sheet, and a line for each code.
 pub const TEXT_LIMIT: usize = 21 + 21 + 11 * (PLACES * CODES);
 
 // As many alternatives as a book has codes, two bytes each.
 pub const PAIR_BYTES: usize = 2 * (PLACES * CODES);
 
-// A buffer with fewer bytes than the text has.
-#[derive(Clone, Copy)]
-pub struct NoRoom;
-
-impl Refuses for NoRoom {
-    ghost number_of = { λ _. 18 };
-
-    ghost place_of = { λ _. 0 };
-
-    fn number(self) -> u64 {
-        18
-    }
-
-    fn place(self) -> usize {
-        0
-    }
-}
-
 // What is counted in the book, and the sheet: both pass, or the first refusal says why not.
 fn accept(book: &[u8], form: &[u8]) -> Result<(Counts, Sheet), Reason>
     ensures { Told book.now form.now result }
 {
     let counts = book::read(book)?;
-    let loaded = sheet::load(book, form);
-    loaded.answer?;
-    Ok((counts, loaded.sheet))
+    let held = sheet::read(book, form)?;
+    Ok((counts, held))
 }
 
 // The sheet's line, the lines of alternatives and the open lines, of a book and a sheet that pass.
@@ -94,10 +78,5 @@ pub fn report(book: &[u8], form: &[u8], out: &mut [u8]) -> Result<usize, NoRoom>
 {
     let mut page = Page::new();
     put_text(&mut page, book, form);
-    let text = page.text();
-    if out.len() < text.len() {
-        return Err(NoRoom);
-    }
-    out[..text.len()].copy_from_slice(text);
-    Ok(text.len())
+    book::hand_out(page.text(), out)
 }

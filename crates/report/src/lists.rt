@@ -15,7 +15,7 @@ impl Page {
         ensures { self.new ≡ self.old ++ lines_text word.now (pair_lines pairs.now) }
     {
         for &[field, code] in pairs {
-            self.put_line(word, &[field as usize, code as usize]);
+            self.put_line(word, &[usize::from(field), usize::from(code)]);
         }
     }
 

@@ -13,6 +13,7 @@ const SPACE: u8 = b' ';
 const NEWLINE: u8 = b'\n';
 
 // As many bytes as the longest text has, and how many of them are written.
+// (a) They stand first in an array, with their number beside it, since there is no heap.
 #[derive(Drop)]
 pub(crate) struct Page {
     bytes: [u8; TEXT_LIMIT],

@@ -19,11 +19,10 @@ use Rattle.listing.specs.declared.refusals.WriteRefusal.{WriteRefusal}
 use Rattle.joining.specs.Answers.{joined_by}
 use Rattle.joining.specs.Numbers as join
 use Rattle.joining.specs.declared.refusals.JoinRefusal.{JoinRefusal}
-use Rattle.short.specs.Shown.{reply_of}
 use Rattle.report.specs.Report as report
-use Rattle.report.specs.declared.NoRoom.{NoRoom}
+use Rattle.book.specs.declared.lent.NoRoom.{NoRoom}
 use Rattle.sheet.specs.Numbers.{number_of, place_of}
-use Rattle.sheet.specs.Shown.{Counts, shown, shown_nothing, result_of}
+use Rattle.sheet.specs.Shown.{Counts, shown, shown_nothing, result_of, reply_of}
 use Rattle.sheet.specs.declared.reasons.Reason.{Reason}
 use Rattle.sheet.specs.declared.handed.Handed.{Handed}
 use Rattle.sheet.proofs.Injective.{number_some}

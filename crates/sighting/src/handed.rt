@@ -9,6 +9,7 @@ use book::{Counts, Refuses};
 use sheet::{Alternatives, Handed, Suggestion};
 
 // What an accepted call counts, in the cells that are lent for its outcome. The first is the place, and 0.
+// (a) Numbers, also for none and for some: the C interface has neither options nor structs of its own.
 pub(crate) trait Cells<const N: usize> {
     ghost counts: { Self → List ℕ };
 
@@ -87,6 +88,7 @@ impl Cells<5> for Counts {
 }
 
 // Returns an answer's number, 0 where it is accepted, and writes its place and its counts.
+// (a) A number and cells and no `Result`, since C has none.
 pub(crate) fn tell<T: Cells<N>, E: Refuses + Copy, const N: usize>(
     answer: Result<T, E>,
     outcome: &mut [u64; N],

@@ -1,7 +1,9 @@
 // The library for other languages: each call of the crates below, exported with numbers, slices and arrays alone.
 // A sheet is an array of a byte for each answer and then one for each photograph. A call that changes it writes it whole where it is accepted,
-// and no byte of it where it is refused; one that hands it back as given only reads it, so that it may be shared. A call returns its outcome's number, 0 where it is accepted, and writes the place and the
-// counts into the cells lent for them. A field, a code or a table is any number: one that the book lacks has its refusal.
+// and no byte of it where it is refused; one that hands it back as given only reads it, so that it may be shared. A call returns its outcome's
+// number, 0 where it is accepted, and writes the place and the counts into the cells lent for them. A field, a code or a table is any number:
+// one that the book lacks has its refusal.
+// (a) The exports are alike but for the call that each makes: C has no generics, and each name is one of the interface.
 #![tactic(auto)]
 
 ghost use Rattle.std.specs.Prelude.{◌≡◌, ◌≢◌, ◌↔◌, []};

@@ -21,10 +21,11 @@ pub(crate) fn held(bytes: [u8; SHEET_BYTES]) -> Sheet
 }
 
 // Writes the bytes that hold a sheet.
+// (a) Into the bytes that C lends: its interface has a sheet so, and there is no heap.
 pub(crate) fn put(sheet: Sheet, bytes: &mut [u8; SHEET_BYTES])
     ensures { Holds bytes.new (held_by sheet) }
 {
-    let photographs: [u8; PLACES] = from_fn(|p| sheet.photographed[p] as u8);
+    let photographs: [u8; PLACES] = from_fn(|p| u8::from(sheet.photographed[p]));
     let (answers, flags) = bytes.split_at_mut(PLACES);
     answers.copy_from_slice(&sheet.answers);
     flags.copy_from_slice(&photographs);

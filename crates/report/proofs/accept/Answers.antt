@@ -11,10 +11,10 @@ returns-in_err-counts c =
     let p = err_from_is_err_and c.from_residual.result c.from_residual.ensures.1 in
     subst (Told c.args.book.now c.args.form.now) (sym (p.1 ∙ ap Err p.2)) (told_book _ _ c.in_err-counts.field-0.0 c.in_err-counts.ensures.answer)
 
-pub returns-in_err-loaded : goal.returns-in_err-loaded
-returns-in_err-loaded c =
-    let p = err_from_is_err_and c.from_residual-in_err-loaded.result c.from_residual-in_err-loaded.ensures.1 in
-    subst (Told c.args.book.now c.args.form.now) (sym (p.1 ∙ ap Err p.2)) (told_sheet _ _ c.load-loaded.result c.load-loaded.ensures _ c.in_err-loaded.was)
+pub returns-in_err-held : goal.returns-in_err-held
+returns-in_err-held c =
+    let p = err_from_is_err_and c.from_residual-in_err-held.result c.from_residual-in_err-held.ensures.1 in
+    subst (Told c.args.book.now c.args.form.now) (sym (p.1 ∙ ap Err p.2)) (told_sheet _ _ _ c.in_err-held.ensures)
 
 pub returns : goal.returns
-returns c = told_both _ _ c.load-loaded.result c.load-loaded.ensures c.in_ok-loaded.was c.in_ok-counts.counts c.in_ok-counts.ensures.answer
+returns c = told_both _ _ _ c.in_ok-held.ensures c.in_ok-counts.counts c.in_ok-counts.ensures.answer

@@ -3,7 +3,7 @@ use mathlib.Core.Path.{ap, ◌∙◌}
 use Rattle.consistency.specs.Consistency.{Sheet}
 use Rattle.calls.specs.Short.{stored_short}
 use Rattle.calls.proofs.Kept.{stored_short_keeps}
-use Rattle.short.specs.Shown.{shown_form}
+use Rattle.sheet.specs.Shown.{shown_form}
 use Rattle.sighting.specs.Exported.{sheet_in}
 use Rattle.sighting.proofs.Answers.{told_kept}
 use Rattle.sighting.proofs.sighting_store_short.Goals as goal

@@ -6,7 +6,7 @@ use borrow.Author.Rules.{rules}
 use lib.Dec.{eqb}
 use lib.ListN.{get_or}
 use Rattle.consistency.specs.Consistency.{places, sheet_with}
-use Rattle.sighting.proofs.SheetBytes.{from_fn_table}
+use Rattle.sheet.proofs.Fronts.{from_fn_table}
 use Rattle.sighting.proofs.sheets.held.Goals as goal
 
 pub returns : goal.returns

@@ -10,7 +10,8 @@ use Rattle.consistency.specs.Counting.{tabulate}
 use Rattle.consistency.proofs.Elements.{answer_at}
 use Rattle.sheet.specs.Shown.{held_by}
 use Rattle.sighting.specs.Exported.{sheet_in}
-use Rattle.sighting.proofs.SheetBytes.{table_is, from_fn_table, bytes_hold}
+use Rattle.sheet.proofs.Fronts.{table_is, from_fn_table}
+use Rattle.sighting.proofs.SheetBytes.{bytes_hold}
 use Rattle.sighting.proofs.sheets.put.Goals as goal
 
 pub returns : goal.returns
