@@ -1,4 +1,4 @@
--- Handing the text out, and reading it in the buffer where it fits. Assumes nothing.
+-- A text that was written, read where it stands in the buffer, and a buffer with room for any. Assumes nothing.
 use mathlib.Core.Path.{◌≡◌, sym, ap, ◌∙◌}
 use mathlib.Core.List.{List, ◌++◌}
 use Prim.Native.Nat.{ℕ, ◌≤◌}
@@ -6,21 +6,14 @@ use native.Mathlib.Omega.{arith}
 use lib.ListN.{length, get_or, take, drop, length-append}
 use lib.Seq.{take_at}
 use lib.Dec.{ltb}
-use Rattle.std.specs.Prelude.{Result, Ok, Err}
+use Rattle.std.specs.Prelude.{Result, Ok}
 use Rattle.format.specs.Writing.{Reply, declined, into}
 use Rattle.format.proofs.Picks.{pick_second}
 use Rattle.format.proofs.Replies.{into_whole}
-use Rattle.book.specs.Lent.{HandedOut}
 use Rattle.book.specs.declared.lent.NoRoom.{NoRoom}
-use Rattle.book.proofs.HandingOut.{handed_into}
 use Rattle.report.specs.Text.{report_text}
 use Rattle.report.specs.Report.{shown, ReportSuffices}
 use Rattle.report.proofs.Sizes.{text_fits}
-
--- handed out
-pub text_handed : (text o o' : List ℕ) (r : Result ℕ NoRoom) → HandedOut text o o' r → shown r o' ≡ into text o
-text_handed text o o' (Ok n) h = handed_into text o o' (Ok n) h
-text_handed text o o' (Err e) h = handed_into text o o' (Err e) h
 
 -- a text that was written stands at the start of the buffer: what a caller that reads it there needs
 pub written_counts : (text o o' : List ℕ) (r : Result ℕ NoRoom) (n : ℕ) → r ≡ Ok n → shown r o' ≡ into text o

@@ -1,13 +1,13 @@
 -- What the printed lines say: the open lines are exactly the unanswered fields' codes in the largest arc-consistent subdomain, each once, by
 -- field then code, and the total is the number of alt lines. How long a text can be, and what report leaves. Assumes nothing.
-use Rattle.std.specs.Prelude.{ℕ, ◌+◌, ◌*◌, ◌≤◌, ◌<◌, ◌≡◌, ◌↔◌, not, List, [], ◌∷◌, length, T, Result, Ok, Err}
+use Rattle.std.specs.Prelude.{ℕ, ◌+◌, ◌*◌, ◌≤◌, ◌<◌, ◌≡◌, ◌↔◌, not, List, length, T, Result}
 use Rattle.format.specs.Basics.{In}
 use Rattle.format.specs.Format.{Book, code_limit}
-use Rattle.format.specs.Reading.{accepted}
-use Rattle.format.specs.Writing.{Reply, declined, into}
+use Rattle.format.specs.Writing.{Reply, into}
 use Rattle.consistency.specs.Consistency.{places, Subdomain, Sheet, IsLargest}
 use Rattle.consistency.specs.Counts.{answered, Line, lines, total}
 use Rattle.consistency.specs.Order.{InOrder}
+use Rattle.book.specs.Lent.{handed}
 use Rattle.book.specs.declared.lent.NoRoom.{NoRoom}
 use Rattle.report.specs.Text.{open_lines, report_text}
 
@@ -33,10 +33,9 @@ text_limit = 21 + 21 + 11 * (places * code_limit)
 abbrev pub TextFits : Type 0
 TextFits = (bytes form : List ℕ) → length (report_text bytes form) ≤ text_limit
 
--- the answer of report, with the buffer's contents
+-- the answer of report, with the buffer's contents: the text is handed out
 abbrev pub shown : Result ℕ NoRoom → List ℕ → Reply
-shown (Ok n) o = record { outcome = accepted (n ∷ []); buffer = o }
-shown (Err e) o = declined o 18 0
+shown = handed
 
 -- where text_limit bytes are lent, 18 does not happen
 abbrev pub ReportSuffices : Type 0
