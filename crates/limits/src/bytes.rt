@@ -2,7 +2,7 @@
 ghost use Rattle.std.specs.Prelude.{◌≡◌, ◌≤◌, take};
 ghost use Rattle.limits.specs.declared.bytes.TheConstants.{BYTES};
 
-use book::{LENGTH_LIMIT, trailer};
+use book::{CODES, LENGTH_LIMIT, PLACES, trailer};
 
 // One byte more than is read as a book.
 pub(crate) const BYTES: usize = LENGTH_LIMIT + 1;
@@ -26,6 +26,23 @@ impl Shape {
         tables: 0,
         rows: 0,
     };
+
+    // The most fields and the most codes, and no table.
+    pub(crate) const WIDEST: Shape = Shape {
+        version: 2,
+        fields: PLACES as u8,
+        codes: CODES as u8,
+        ..Shape::LEAST
+    };
+}
+
+// Tables on as many sets of four fields: on 0, on 1 and so on, each with these three others. Each has so many rows, which differ where they
+// are at most 1,024.
+#[derive(Clone, Copy)]
+pub(crate) struct Sets {
+    pub(crate) tables: u8,
+    pub(crate) others: [u8; 3],
+    pub(crate) rows: u16,
 }
 
 // The first n bytes, or all where there are fewer.
@@ -55,23 +72,38 @@ pub(crate) struct Written {
 }
 
 impl Written {
-    // A book of this shape.
-    pub(crate) fn new(shape: Shape) -> Written {
-        let mut book = Written {
+    fn empty() -> Written {
+        Written {
             buffer: [0; BYTES],
             len: 0,
-        };
+        }
+    }
+
+    // A book of this shape.
+    pub(crate) fn new(shape: Shape) -> Written {
+        let mut book = Written::empty();
         for _ in 0..shape.tables {
-            book.put(1);
-            book.put(0);
+            book.put_all(&[1, 0]);
             book.put_pair(shape.rows);
             book.put_many(0, shape.rows);
         }
-        let list = book.len as u16;
-        book.put_many(shape.codes, u16::from(shape.fields));
-        for byte in trailer(list, shape.fields, shape.tables, shape.version) {
-            book.put(byte);
+        book.put_end(shape);
+        book
+    }
+
+    // The widest book with these tables.
+    pub(crate) fn with_sets(sets: Sets) -> Written {
+        let mut book = Written::empty();
+        for field in 0..sets.tables {
+            book.put_all(&[4, field]);
+            book.put_all(&sets.others);
+            book.put_pair(sets.rows);
+            book.put_rows(sets.rows);
         }
+        book.put_end(Shape {
+            tables: sets.tables,
+            ..Shape::WIDEST
+        });
         book
     }
 
@@ -92,10 +124,34 @@ impl Written {
         }
     }
 
-    // A two-byte number, the low byte first.
-    fn put_pair(&mut self, number: u16) {
-        for byte in number.to_le_bytes() {
+    fn put_all(&mut self, bytes: &[u8]) {
+        for &byte in bytes {
             self.put(byte);
         }
+    }
+
+    // A two-byte number, the low byte first.
+    fn put_pair(&mut self, number: u16) {
+        self.put_all(&number.to_le_bytes());
+    }
+
+    // So many rows of four codes.
+    fn put_rows(&mut self, rows: u16) {
+        let codes = CODES as u16;
+        for row in 0..rows {
+            self.put_all(&[0, 0, (row / codes % codes) as u8, (row % codes) as u8]);
+        }
+    }
+
+    // Behind the tables: the field list and the trailer of a book of this shape.
+    fn put_end(&mut self, shape: Shape) {
+        let list = self.len as u16;
+        self.put_many(shape.codes, u16::from(shape.fields));
+        self.put_all(&trailer(
+            list,
+            shape.fields,
+            shape.tables,
+            shape.version,
+        ));
     }
 }

@@ -4,8 +4,8 @@
 mod bytes;
 mod lines;
 
-use book::{CODES, FIELDS_OF_VERSION_1, PLACES, ROW_LIMIT, TABLE_LIMIT};
-use bytes::{BYTES, Shape, Written, first, first_mut};
+use book::{BOOK_LIMIT, CODES, FIELDS_OF_VERSION_1, PLACES, ROW_LIMIT, TABLE_LIMIT};
+use bytes::{BYTES, Sets, Shape, Written, first, first_mut};
 use lines::{Line, say, show};
 use report::{PAIR_BYTES, TEXT_LIMIT};
 use sheet::Sheet;
@@ -151,6 +151,34 @@ fn try_fresh(rt: &HostRuntime) -> io::Result<()> {
     Ok(())
 }
 
+// Joining two books on other sets of fields. The first has 57 tables and 3,648 rows, so that 7 tables and 448 rows are left to the second;
+// with both the joined book is the longest.
+fn try_joined(rt: &HostRuntime) -> io::Result<()> {
+    let first = Written::with_sets(Sets {
+        tables: 57,
+        others: [57, 58, 59],
+        rows: 64,
+    });
+    for (name, tried, tables, rows, lent) in [
+        ("joined, tables", TABLE_LIMIT, 7, 0, BOOK_LIMIT),
+        ("joined, tables", TABLE_LIMIT + 1, 8, 0, BOOK_LIMIT),
+        ("joined, rows", ROW_LIMIT, 1, 448, BOOK_LIMIT),
+        ("joined, rows", ROW_LIMIT + 1, 1, 449, BOOK_LIMIT),
+        ("joined, lent", BOOK_LIMIT, 7, 64, BOOK_LIMIT),
+        ("joined, lent", BOOK_LIMIT - 1, 7, 64, BOOK_LIMIT - 1),
+    ] {
+        let second = Written::with_sets(Sets {
+            tables,
+            others: [56, 58, 59],
+            rows,
+        });
+        let mut out = [0; BOOK_LIMIT];
+        let joined = joining::join(first.bytes(), second.bytes(), first_mut(&mut out, lent));
+        say(rt, name, tried, joined)?;
+    }
+    Ok(())
+}
+
 // Printing the widest book and a sheet that is answered 0 everywhere, with so many bytes lent.
 fn try_text(rt: &HostRuntime, widest: &[u8], form: &[u8]) -> io::Result<()> {
     let mut text = [0; TEXT_LIMIT];
@@ -163,13 +191,7 @@ fn try_text(rt: &HostRuntime, widest: &[u8], form: &[u8]) -> io::Result<()> {
 
 fn main(rt: HostRuntime) -> io::Result<()> {
     let rt = &rt;
-    // The book with the most fields and the most codes.
-    let widest = Written::new(Shape {
-        version: 2,
-        fields: PLACES as u8,
-        codes: CODES as u8,
-        ..Shape::LEAST
-    });
+    let widest = Written::new(Shape::WIDEST);
     let widest = widest.bytes();
     let form = [0; PLACES];
     try_books(rt)?;
@@ -177,5 +199,6 @@ fn main(rt: HostRuntime) -> io::Result<()> {
     try_stored(rt, widest)?;
     try_held(rt, widest, sheet::load(widest, &form).sheet)?;
     try_fresh(rt)?;
+    try_joined(rt)?;
     try_text(rt, widest, &form)
 }
