@@ -147,11 +147,6 @@ impl Written {
     fn put_end(&mut self, shape: Shape) {
         let list = self.len as u16;
         self.put_many(shape.codes, u16::from(shape.fields));
-        self.put_all(&trailer(
-            list,
-            shape.fields,
-            shape.tables,
-            shape.version,
-        ));
+        self.put_all(&trailer(list, shape.fields, shape.tables, shape.version));
     }
 }
