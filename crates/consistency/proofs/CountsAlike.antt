@@ -1,13 +1,11 @@
--- Alike books have the same counts, lines and masks. Assumes nothing.
+-- Alike books have the same counts and lines. Assumes nothing.
 use mathlib.Core.Path.{◌≡◌}
-use mathlib.Core.List.{List}
-use Prim.Native.Nat.{ℕ}
 use Rattle.format.specs.Format.{Book}
 use Rattle.consistency.specs.Consistency.{Sheet}
-use Rattle.consistency.specs.Counts.{total, struck, lines, masks}
+use Rattle.consistency.specs.Counts.{total, struck, lines}
 use Rattle.consistency.specs.Alike.{Alike}
 use Rattle.consistency.proofs.AlikeLaws.{alike_largest}
-use Rattle.consistency.proofs.SameLargest.{same_total, same_struck, same_lines, same_masks}
+use Rattle.consistency.proofs.SameLargest.{same_total, same_struck, same_lines}
 
 -- what the pass counts and lists, on any sheet
 module _ {b d : Book} (p : Alike b d) (s : Sheet) where
@@ -19,8 +17,3 @@ module _ {b d : Book} (p : Alike b d) (s : Sheet) where
 
   pub alike_lines : lines b s ≡ lines d s
   alike_lines = same_lines b d p.same_counts (alike_largest p) s
-
--- what plain filtering writes, under any answers
-module _ {b d : Book} (p : Alike b d) (a : List ℕ) where
-  pub alike_masks : masks b a ≡ masks d a
-  alike_masks = same_masks b d p.same_counts (alike_largest p) a

@@ -1,15 +1,15 @@
--- Books with the same field list and the same largest subdomains have the same counts, lines and masks. Assumes nothing.
+-- Books with the same field list and the same largest subdomains have the same counts and lines. Assumes nothing.
 use mathlib.Core.Path.{◌≡◌, sym, ap₂, fun_ext}
 use mathlib.Core.Bool.{Bool, not, ◌&&◌}
 use mathlib.Core.List.{List, map}
 use Prim.Native.Nat.{ℕ, ◌+◌}
 use lib.ListN.{length, get_or}
 use Rattle.format.specs.Format.{Book}
-use Rattle.consistency.specs.Counting.{all_below, any_below, how_many, those, sum_below, sum_over, join_over, tabulate}
+use Rattle.consistency.specs.Counting.{all_below, any_below, how_many, those, sum_below, sum_over, join_over}
 use Rattle.consistency.specs.Consistency.{Subdomain, Sheet, relax}
 use Rattle.consistency.specs.Largest.{largest}
 use Rattle.consistency.specs.Emptiness.{none_empty}
-use Rattle.consistency.specs.Counts.{outside, in_doubt, total, struck, lines, mask, masks}
+use Rattle.consistency.specs.Counts.{outside, in_doubt, total, struck, lines}
 
 module _ (b d : Book) (counts : d.counts ≡ b.counts) (same : (a : List ℕ) (f c : ℕ) → largest b a f c ≡ largest d a f c) where
   -- what is a function of the field list and of the largest subdomain for each sheet is the same
@@ -40,7 +40,3 @@ module _ (b d : Book) (counts : d.counts ≡ b.counts) (same : (a : List ℕ) (f
       (λ ns L.
       join_over (those (length ns) (in_doubt s))
       (λ f. map (λ (c : ℕ). record { field = f; code = c }) (those (get_or ns f 0) (listed_by ns (L (relax s.answers f)) f))))
-
-  pub same_masks : (a : List ℕ) → masks b a ≡ masks d a
-  unfolding masks
-  same_masks a = by_both (λ ns L. tabulate (λ f. mask (get_or ns f 0) (L a f)) (length ns) 0)

@@ -14,7 +14,6 @@ pub record Met (s os ws : List ℕ) (n i j : ℕ) : Type 0 where
   pub long : length ws ≡ length s
   pub few : n ≤ i
   pub in_words : i ≤ length s
-  pub in_others : j ≤ length os
   pub rest : (k : ℕ) → i ≤ k → get_or ws k 0 ≡ get_or s k 0
   pub passed : (k m : ℕ) → k < j → i ≤ m → m < length s → get_or os k 0 < get_or s m 0
   pub below : (k m : ℕ) → k < n → i ≤ m → m < length s → get_or ws k 0 < get_or s m 0
@@ -59,7 +58,6 @@ module _ (s os ws : List ℕ) (n i j : ℕ) (rs : RisesTo (length s) s) (ro : Ri
         long = v.long;
         few = v.few;
         in_words = v.in_words;
-        in_others = omega arith;
         rest = v.rest;
         passed = more;
         below = v.below;
@@ -125,7 +123,6 @@ module _ (s os ws : List ℕ) (n i j : ℕ) (rs : RisesTo (length s) s) (ro : Ri
           long = length-set ws n (get_or ws i 0) ∙ v.long;
           few = omega (arith, v.few);
           in_words = omega (arith, in_s);
-          in_others = omega arith;
           rest = λ k g. behind_store ws n (get_or ws i 0) k (omega (arith, v.few)) ∙ v.rest k (omega arith);
           passed = on_passed;
           below = on_below;
