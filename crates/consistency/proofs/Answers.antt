@@ -26,11 +26,18 @@ use Rattle.consistency.proofs.Tables.{Supported}
 -- ---- a field with an answer
 
 -- the test says that the answer is not 255
-answered_in : (a : List ℕ) (f : ℕ) → answer a f ≢ 255 → T (answered a f)
+pub answered_in : (a : List ℕ) (f : ℕ) → answer a f ≢ 255 → T (answered a f)
 answered_in a f n = not_T (eqb (answer a f) 255) (λ t. n (eqb→eq (answer a f) 255 t))
 
-answered_out : (a : List ℕ) (f : ℕ) → T (answered a f) → answer a f ≢ 255
+pub answered_out : (a : List ℕ) (f : ℕ) → T (answered a f) → answer a f ≢ 255
 answered_out a f t e = T_not (eqb (answer a f) 255) t (eq→eqb e)
+
+pub unanswered_out : (a : List ℕ) (f : ℕ) → T (not (answered a f)) → answer a f ≡ 255
+unanswered_out a f t = at (ℕ_discrete (answer a f) 255)
+  where
+    at : Dec (answer a f ≡ 255) → answer a f ≡ 255
+    at (yes e) = e
+    at (no n) = absurd (T_not (answered a f) t (answered_in a f n))
 
 -- the fields with a table of their own are the book's answered ones
 answered_are : (b : Book) (a : List ℕ) (f : ℕ) → In f (answered_fields b a) ↔ ((f < length b.counts) × T (answered a f))

@@ -36,12 +36,21 @@ IsFirstBelow p n no_row = (q : ℕ) → q < n → T (p q) → ⊥
 
 module _ (p : ℕ → Bool) (n : ℕ) where
   -- p fails before it
-  where_before : (q : ℕ) → q < first_where p n → T (p q) → ⊥
+  pub where_before : (q : ℕ) → q < first_where p n → T (p q) → ⊥
   where_before q l = false_T (not-true (p q) (bad_before (λ k. not (p k)) 0 n q zero-le l))
 
   -- p holds at it
-  where_holds : first_where p n < n → T (p (first_where p n))
+  pub where_holds : first_where p n < n → T (p (first_where p n))
   where_holds l = true_T (not-false (p (first_where p n)) (bad_fails (λ k. not (p k)) 0 n zero-le l))
+
+  -- so it is the first
+  pub where_is : (r : ℕ) → r < n → T (p r) → ((q : ℕ) → q < r → T (p q) → ⊥) → first_where p n ≡ r
+  where_is r l t h = at (dec_lt (first_where p n) r) (dec_lt r (first_where p n))
+    where
+      at : Dec (first_where p n < r) → Dec (r < first_where p n) → first_where p n ≡ r
+      at (yes m) d = absurd (h (first_where p n) m (where_holds (omega arith)))
+      at (no m) (yes k) = absurd (where_before r k t)
+      at (no m) (no k) = omega arith
 
   -- what the answer says
   pub first_below : IsFirstBelow p n (row_below n (first_where p n))

@@ -8,6 +8,7 @@ pub mod Members
 pub mod Sums
 pub mod CodeCounts
 pub mod EmptyFields
+pub mod Added
 pub mod Lines
 pub mod Marks
 pub mod Limits
@@ -23,6 +24,12 @@ pub mod Elements
 pub mod Answers
 pub mod Chains
 pub mod ChainsExample
+pub mod Settling
+pub mod AtMostOne
+pub mod Plans
+pub mod QuestionLists
+pub mod PlansAlike
+pub mod PlanExamples
 pub mod FirstRows
 pub mod Suiting
 pub mod Choosing

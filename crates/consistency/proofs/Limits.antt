@@ -18,7 +18,7 @@ sum_over_few : (xs : List ℕ) (g : ℕ → ℕ) (k : ℕ) → ((x : ℕ) → g 
 sum_over_few [] g k h = omega arith
 sum_over_few (x ∷ xs) g k h = omega (arith, h x, sum_over_few xs g k h, mul-suc k (length xs))
 
-sum_few : (n : ℕ) (g : ℕ → ℕ) (k : ℕ) → ((i : ℕ) → g i ≤ k) → sum_below n g ≤ k * n
+pub sum_few : (n : ℕ) (g : ℕ → ℕ) (k : ℕ) → ((i : ℕ) → g i ≤ k) → sum_below n g ≤ k * n
 sum_few zero g k h = omega arith
 sum_few (suc n) g k h = omega (arith, h n, sum_few n g k h, mul-suc k n)
 

@@ -13,7 +13,7 @@ use Rattle.consistency.specs.Counts.{outside, in_doubt, total, struck, lines}
 
 module _ (b d : Book) (counts : d.counts ≡ b.counts) (same : (a : List ℕ) (f c : ℕ) → largest b a f c ≡ largest d a f c) where
   -- what is a function of the field list and of the largest subdomain for each sheet is the same
-  by_both : {A : Type 0} (F : List ℕ → (List ℕ → Subdomain) → A) → F b.counts (largest b) ≡ F d.counts (largest d)
+  pub by_both : {A : Type 0} (F : List ℕ → (List ℕ → Subdomain) → A) → F b.counts (largest b) ≡ F d.counts (largest d)
   by_both F = ap₂ F (sym counts) (fun_ext (λ a. fun_ext (λ f. fun_ext (λ c. same a f c))))
 
   -- what is listed, by the field list and the largest subdomain

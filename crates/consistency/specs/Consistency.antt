@@ -94,3 +94,7 @@ pub record IsLargest (b : Book) (a : List ℕ) (S : Subdomain) : Type 0 where
 -- "Lifting field f takes the same definition without f's answer"
 abbrev pub relax : List ℕ → ℕ → List ℕ
 relax a f = set a f 255
+
+-- the answers with code c of field f "added to the sheet" (02, M-110)
+abbrev pub added : List ℕ → ℕ → ℕ → List ℕ
+added a f c = set a f c

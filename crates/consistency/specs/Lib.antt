@@ -11,3 +11,4 @@ pub mod Rows
 pub mod Readings
 pub mod Nearest
 pub mod Joined
+pub mod Plans
