@@ -24,11 +24,13 @@ use Rattle.consistency.specs.Consistency.{places, Sheet, codes, nth, answer, bac
 use Rattle.consistency.specs.Counts.{total}
 use Rattle.consistency.specs.Rows.{has_field}
 use Rattle.consistency.specs.Nearest.{product, reading_limit}
+use Rattle.consistency.specs.Plans.{list_ok}
 use Rattle.consistency.proofs.Booleans.{any_out}
 use Rattle.consistency.proofs.FirstRows.{has_field_lem}
-use Rattle.calls.specs.Calls.{Result, turned, done, beside, fault_of, on_sheet, replaces_backed, any_backed, masks_into, sheet_from, entered, withdrawn, photographed, filtered, alternatives, loaded, stored, row_behind, nearest_reading}
+use Rattle.consistency.proofs.QuestionLists.{list_is}
+use Rattle.calls.specs.Calls.{Result, turned, done, beside, fault_of, on_sheet, replaces_backed, any_backed, masks_into, sheet_from, entered, withdrawn, photographed, filtered, alternatives, loaded, stored, row_behind, nearest_reading, debrief_plan}
 use Rattle.calls.specs.Short.{short_of, is_short, code_fault, sheet_from_short, loaded_short, stored_short, moved, shortened, lengthened}
-use Rattle.calls.specs.Conditions.{Request, to_read, to_fresh, to_enter, to_withdraw, to_photograph, to_clear, to_filter, to_list, to_store, to_load, to_store_short, to_load_short, to_shorten, to_lengthen, to_row, to_nearest, to_show, to_write, to_join, result_of, given_book, sheet_given, lent_to, counts_of, FirstFault, NoFault, NotInTable, ReadsShort, Refusal, enter_14, enter_15, enter_16, enter_22, withdraw_14, withdraw_15, withdraw_17, withdraw_22, photograph_14, photograph_15, photograph_17, filter_14, filter_15, filter_17, filter_18, list_14, list_18, store_14, store_22, store_18, load_19, load_14, store_short_14, store_short_18, load_short_24, load_short_14, shorten_19, shorten_14, shorten_18, lengthen_24, lengthen_14, lengthen_22, lengthen_18, row_14, row_15, row_16, row_21, nearest_14, nearest_23, nearest_18, show_18, join_25, join_26, join_18, WriteRefusal, write_missing, write_left_over, write_too_large, write_unread, write_18, RefusedBy, the_book, the_call, the_second, the_listing, IsRefusal, Condition1}
+use Rattle.calls.specs.Conditions.{Request, to_read, to_fresh, to_enter, to_withdraw, to_photograph, to_clear, to_filter, to_list, to_store, to_load, to_store_short, to_load_short, to_shorten, to_lengthen, to_row, to_nearest, to_plan, to_show, to_write, to_join, result_of, given_book, sheet_given, lent_to, counts_of, FirstFault, NoFault, NotInTable, ReadsShort, Refusal, enter_14, enter_15, enter_16, enter_22, withdraw_14, withdraw_15, withdraw_17, withdraw_22, photograph_14, photograph_15, photograph_17, filter_14, filter_15, filter_17, filter_18, list_14, list_18, store_14, store_22, store_18, load_19, load_14, store_short_14, store_short_18, load_short_24, load_short_14, shorten_19, shorten_14, shorten_18, lengthen_24, lengthen_14, lengthen_22, lengthen_18, row_14, row_15, row_16, row_21, nearest_14, nearest_23, nearest_18, plan_14, plan_15, plan_27, show_18, join_25, join_26, join_18, WriteRefusal, write_missing, write_left_over, write_too_large, write_unread, write_18, RefusedBy, the_book, the_call, the_second, the_listing, IsRefusal, Condition1}
 use Rattle.calls.proofs.Faults.{first_fault, fault_free, backed_known, none_backed}
 use Rattle.calls.proofs.CallLaws.{pick_cases, fault_holds, book_holds, sheet_holds}
 use Rattle.calls.proofs.Held.{other_code}
@@ -246,7 +248,7 @@ lengthen_settled bytes s form o =
     by_call h.passes (lengthen_18 reads (none_photographed n few form h.ok (sym said ∙ t)) (omega (arith, l, front_loaded bytes form z))))))
 
 pub condition1 : Condition1
-unfolding entered withdrawn photographed filtered alternatives stored stored_short row_behind nearest_reading
+unfolding entered withdrawn photographed filtered alternatives stored stored_short row_behind nearest_reading debrief_plan
 condition1 bytes s to_read = read_settled bytes s
 condition1 bytes s to_fresh = done_settled
 condition1 bytes s (to_enter f c) =
@@ -320,6 +322,12 @@ condition1 bytes s (to_nearest o) =
     sheet_settled refl _ (λ p. nearest_14) (λ e w.
     pass_settled e (ltb reading_limit m) (λ t. nearest_23 w (ltb-true reading_limit m t)) (λ t.
     pass_settled e (ltb (length o) n) (λ u. nearest_18 w (ltb-false reading_limit m t) (ltb-true (length o) n u)) (λ u. done_settled)))
+condition1 bytes s (to_plan t qs) =
+    let b : Book = book_of bytes in
+    let n : ℕ = length b.counts in
+    sheet_settled refl _ (λ p. plan_14) (λ e w.
+    fail_settled e (ltb t n) (λ u. plan_15 w (ltb-false t n u)) (λ u.
+    fail_settled e (list_ok b t qs s.answers) (λ v. plan_27 w (ltb-true t n u) (λ m. false_T v ((list_is b t qs s.answers).1 m))) (λ v. done_settled)))
 condition1 bytes s (to_show o) = show_settled bytes s o
 condition1 bytes s (to_write l o) = write_settled bytes s l o
 condition1 bytes s (to_join second o) = join_settled bytes s second o

@@ -11,7 +11,8 @@ use Rattle.consistency.specs.Consistency.{places, Sheet, codes, nth, answer}
 use Rattle.consistency.specs.Counts.{total}
 use Rattle.consistency.specs.Rows.{has_field}
 use Rattle.consistency.specs.Nearest.{product, reading_limit}
-use Rattle.calls.specs.Calls.{Result, turned, fault_of, with_book, fault_then, on_sheet, any_backed, masks_into, filtered, alternatives, stored, row_behind, nearest_reading}
+use Rattle.consistency.specs.Plans.{list_ok}
+use Rattle.calls.specs.Calls.{Result, turned, fault_of, with_book, fault_then, on_sheet, any_backed, masks_into, filtered, alternatives, stored, row_behind, nearest_reading, debrief_plan}
 use Rattle.calls.specs.Short.{stored_short}
 
 module _ (bytes : List ℕ) (s : Sheet) (o : List ℕ) where
@@ -63,3 +64,10 @@ row_keeps bytes s f c i =
     on_sheet_lem bytes s [] 2 _
     (pick_holds K (ltb f (length (book_of bytes).counts))
     (pick_holds K (ltb c (codes (book_of bytes) f)) (pick_holds K (has_field (nth (book_of bytes) i) f) refl refl) refl) refl)
+
+pub plan_keeps : (bytes : List ℕ) (s : Sheet) (t : ℕ) (qs : List ℕ) → (debrief_plan bytes s t qs).sheet ≡ s
+unfolding debrief_plan
+plan_keeps bytes s t qs =
+    let K : Result → Type 0 = Kept bytes s [] in
+    on_sheet_lem bytes s [] 2 _
+    (pick_holds K (ltb t (length (book_of bytes).counts)) (pick_holds K (list_ok (book_of bytes) t qs s.answers) refl refl) refl)

@@ -12,6 +12,8 @@ pub mod Condition3
 pub mod Condition1
 pub mod RowsShown
 pub mod NearestShown
+pub mod PlansShown
+pub mod PlanExamples
 pub mod Buffers
 pub mod Condition2
 pub mod Repeats

@@ -1,5 +1,5 @@
 -- Document 01, "The sheet and its one pass" and "When a call is turned down", and document 02's calls on a sheet: each as a function of its input. Assumes nothing.
-use Rattle.std.specs.Prelude.{ℕ, ◌-◌, ◌*◌, List, [], ◌∷◌, ◌++◌, Bool, true, false, not, ◌&&◌, length, take, drop, set, replicate, ltb, eqb}
+use Rattle.std.specs.Prelude.{ℕ, ◌-◌, ◌*◌, List, [], ◌∷◌, ◌++◌, Bool, true, false, not, ◌&&◌, Option, Some, None, length, take, drop, set, replicate, ltb, eqb}
 use Rattle.format.specs.Basics.{pick, first_bad}
 use Rattle.format.specs.Format.{Book, book_of}
 use Rattle.format.specs.Reading.{Outcome, refused, accepted, Verdict, pass, fail, verdict}
@@ -9,6 +9,7 @@ use Rattle.consistency.specs.Consistency.{places, Sheet, sheet_with, codes, nth,
 use Rattle.consistency.specs.Counts.{total, struck, lines, line_bytes, masks}
 use Rattle.consistency.specs.Rows.{RowFound, at_row, no_row, has_field, first_support}
 use Rattle.consistency.specs.Nearest.{Nearest, none, found, nearest, product, reading_limit}
+use Rattle.consistency.specs.Plans.{least_plan, list_ok}
 
 -- what a call leaves behind: its answer, the sheet handed back, and the contents of the buffer lent (none lent: [])
 pub record Result : Type 0 where
@@ -188,3 +189,18 @@ nearest_reading bytes s o =
     pick (ltb reading_limit (product b.counts)) (turned 3 s o 23 0)
     (pick (ltb (length o) (length b.counts)) (turned 3 s o 18 0)
     (done (nearest_counts (nearest b s)) s (reading_into (nearest b s) o))))
+
+-- what is counted where a number or none is told: whether there is one, and the number. So none is told apart from 0
+abbrev pub number_counts : Option ℕ → List ℕ
+number_counts (Some k) = 1 ∷ k ∷ []
+number_counts None = 0 ∷ 0 ∷ []
+
+-- Document 02, M-110: "Give me the least number of questions, at most three, after which the target field surely has at most one standing code. I may
+-- choose from a list": target t, list qs. "After 14, with 15 for the target: 27, place 0, a list longer than six, a repeat, an answered or missing field,
+-- or the target in it"
+unfoldable pub debrief_plan : List ℕ → Sheet → ℕ → List ℕ → Result
+debrief_plan bytes s t qs =
+    on_sheet 2 bytes s [] (λ b.
+    pick (ltb t (length b.counts))
+    (pick (list_ok b t qs s.answers) (done (number_counts (least_plan b t qs s.answers)) s []) (turned 2 s [] 27 0))
+    (turned 2 s [] 15 0))

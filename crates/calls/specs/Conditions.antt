@@ -16,7 +16,8 @@ use Rattle.consistency.specs.Order.{InOrder}
 use Rattle.consistency.specs.Alike.{Alike}
 use Rattle.consistency.specs.Ties.{FieldIn}
 use Rattle.consistency.specs.Nearest.{product, reading_limit}
-use Rattle.calls.specs.Calls.{Result, fresh_sheet, done, beside, place_ok, sheet_from, entered, withdrawn, photographed, cleared, filtered, alternatives, loaded, stored, row_behind, nearest_reading}
+use Rattle.consistency.specs.Plans.{MayAsk}
+use Rattle.calls.specs.Calls.{Result, fresh_sheet, done, beside, place_ok, sheet_from, entered, withdrawn, photographed, cleared, filtered, alternatives, loaded, stored, row_behind, nearest_reading, debrief_plan}
 use Rattle.calls.specs.Short.{short_of, loaded_short, stored_short, shortened, lengthened}
 use Rattle.calls.specs.Histories.{Call, Answers, given, doubtful, no_answers, answers_after, refusals_from, sheet_of, results, sheet_after}
 
@@ -41,6 +42,7 @@ pub data Request : Type 0 where
   to_lengthen : List ℕ → List ℕ → Request
   to_row : ℕ → ℕ → ℕ → Request
   to_nearest : List ℕ → Request
+  to_plan : ℕ → List ℕ → Request
   to_show : List ℕ → Request
   to_write : List ℕ → List ℕ → Request
   to_join : List ℕ → List ℕ → Request
@@ -62,6 +64,7 @@ result_of bytes s (to_shorten form o) = beside s (shortened bytes form o)
 result_of bytes s (to_lengthen form o) = beside s (lengthened bytes form o)
 result_of bytes s (to_row f c i) = row_behind bytes s f c i
 result_of bytes s (to_nearest o) = nearest_reading bytes s o
+result_of bytes s (to_plan t qs) = debrief_plan bytes s t qs
 result_of bytes s (to_show o) = beside s (showing bytes o)
 result_of bytes s (to_write l o) = beside s (writing l o)
 result_of bytes s (to_join second o) = beside s (joining bytes second o)
@@ -84,6 +87,7 @@ given_book (to_shorten form o) = true
 given_book (to_lengthen form o) = true
 given_book (to_row f c i) = true
 given_book (to_nearest o) = true
+given_book (to_plan t qs) = true
 given_book (to_show o) = true
 given_book (to_write l o) = false
 given_book (to_join second o) = true
@@ -106,6 +110,7 @@ sheet_given s (to_shorten form o) = s
 sheet_given s (to_lengthen form o) = s
 sheet_given s (to_row f c i) = s
 sheet_given s (to_nearest o) = s
+sheet_given s (to_plan t qs) = s
 sheet_given s (to_show o) = s
 sheet_given s (to_write l o) = s
 sheet_given s (to_join second o) = s
@@ -127,6 +132,7 @@ lent_to (to_shorten form o) = o
 lent_to (to_lengthen form o) = o
 lent_to (to_row f c i) = []
 lent_to (to_nearest o) = o
+lent_to (to_plan t qs) = []
 lent_to (to_show o) = o
 lent_to (to_write l o) = o
 lent_to (to_join second o) = o
@@ -149,6 +155,7 @@ counts_of (to_shorten form o) = 1
 counts_of (to_lengthen form o) = 1
 counts_of (to_row f c i) = 2
 counts_of (to_nearest o) = 3
+counts_of (to_plan t qs) = 2
 counts_of (to_show o) = 1
 counts_of (to_write l o) = 1
 counts_of (to_join second o) = 1
@@ -269,6 +276,10 @@ pub data Refusal (b : Book) (s : Sheet) : Request → ℕ → ℕ → Type 0 whe
   nearest_14 : {p : ℕ} {o : List ℕ} → FirstFault b s p → Refusal b s (to_nearest o) 14 p
   nearest_23 : {o : List ℕ} → NoFault b s → reading_limit < product b.counts → Refusal b s (to_nearest o) 23 0
   nearest_18 : {o : List ℕ} → NoFault b s → product b.counts ≤ reading_limit → length o < length b.counts → Refusal b s (to_nearest o) 18 0
+  -- Request M-110: "After 14, with 15 for the target: 27, place 0, a list longer than six, a repeat, an answered or missing field, or the target in it"
+  plan_14 : {t p : ℕ} {qs : List ℕ} → FirstFault b s p → Refusal b s (to_plan t qs) 14 p
+  plan_15 : {t : ℕ} {qs : List ℕ} → NoFault b s → length b.counts ≤ t → Refusal b s (to_plan t qs) 15 0
+  plan_27 : {t : ℕ} {qs : List ℕ} → NoFault b s → t < length b.counts → (MayAsk b t qs s.answers → ⊥) → Refusal b s (to_plan t qs) 27 0
   -- Request M-100: "Showing: 1 to 13, then 18, too few numbers lent"
   show_18 : {o : List ℕ} → length o < length (listing_of b) → Refusal b s (to_show o) 18 0
   -- Request M-109, behind the refusals of both books: "25, place 0: code counts differ. 26, place 0: the result breaks a limit of version 2. Then 18, too

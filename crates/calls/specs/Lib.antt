@@ -7,5 +7,6 @@ pub mod Examples
 pub mod Rows
 pub mod Photographs
 pub mod Nearest
+pub mod Plans
 pub mod ShortForms
 pub mod Joins
