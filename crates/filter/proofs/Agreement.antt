@@ -82,7 +82,7 @@ abbrev pub plain_domain : Book → List ℕ → Subdomain
 plain_domain b a f c = bit (get_or (plain_of b a) f 0) c
 
 -- the number of field f
-plain_number : (b : Book) (a : List ℕ) (f : ℕ) → f < places → get_or (plain_of b a) f 0 ≡ mask code_limit (largest b a f)
+pub plain_number : (b : Book) (a : List ℕ) (f : ℕ) → f < places → get_or (plain_of b a) f 0 ≡ mask code_limit (largest b a f)
 plain_number b a f l =
     tabulate_at (λ g. mask code_limit (largest b a g)) places 0 f 0 l ∙ ap (λ (g : ℕ). mask code_limit (largest b a g)) (zero-add f)
 

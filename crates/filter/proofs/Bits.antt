@@ -90,6 +90,19 @@ low_bits (suc n) (suc k) =
     bit_next (2 ^ suc n - 1) k ∙ ap (λ (z : ℕ). bit z k) (omega (arith, pow-suc 2 n, pow_pos n)) ∙ low_bits n k
     ∙ T-ext (λ t. lt→ltb (suc k) (suc n) (suc-le-suc (ltb→lt k n t))) (λ t. lt→ltb k n (le_of_suc-le-suc (ltb→lt (suc k) (suc n) t)))
 
+-- the other bits below n: `!w` of an n-bit number
+pub bit_others : (n w k : ℕ) → w < 2 ^ n → k < n → bit (2 ^ n - 1 - w) k ≡ not (bit w k)
+bit_others zero w k l m = absurd (not-suc-le-zero m)
+bit_others (suc n) w zero l m = other ((2 ^ suc n - 1 - w) / 1 % 2) (w / 1 % 2) (omega (arith, pow-suc 2 n))
+  where
+    other : (x y : ℕ) → x + y ≡ 1 → eqb x 1 ≡ not (eqb y 1)
+    other x zero e = ap (λ (z : ℕ). eqb z 1) (let d : x ≡ 1 = omega arith in d)
+    other x (suc zero) e = ap (λ (z : ℕ). eqb z 1) (let d : x ≡ 0 = omega arith in d)
+    other x (suc (suc y)) e = absurd (omega arith)
+bit_others (suc n) w (suc k) l m =
+    bit_next (2 ^ suc n - 1 - w) k ∙ ap (λ (z : ℕ). bit z k) (omega (arith, pow-suc 2 n))
+    ∙ bit_others n (w / 2) k (omega (arith, pow-suc 2 n)) (le_of_suc-le-suc m) ∙ ap not (sym (bit_next w k))
+
 -- `1 << i` of a u64
 pub shl_one : (i : ℕ) → i < 64 → 1 * 2 ^ i % 2 ^ 64 ≡ 2 ^ i
 shl_one i l = shl_exact {a = 1} 1 i 64 (lit< tt) (omega arith) ∙ one-mul (2 ^ i)

@@ -117,7 +117,7 @@ module _ (M : List ℕ) where
       one fs w f n q h (v, m, a, o) = (rw a (full_more fs w f v h m), o)
 
 -- bit k of the word
-empty_bit : (M : List ℕ) (n k : ℕ) → k < 64 → bit (empty_cases M n) k ≡ emptied M n k
+pub empty_bit : (M : List ℕ) (n k : ℕ) → k < 64 → bit (empty_cases M n) k ≡ emptied M n k
 unfolding empty_cases
 empty_bit M n k l = mask_bit 64 (emptied M n) k ∙ ap (◌&& emptied M n k) (lt-ltb k 64 l)
 
@@ -130,26 +130,28 @@ any_below_lem m n p l h =
     (λ t. let r = any_out n p t in any_in m p r.0 (le_trans r.1 l) r.2)
 
 module _ (s : List ℕ) (p : Promise s) where
-  -- in case k some field of the book is empty exactly when bit k is set
-  pub case_empty : (cs : List (List ℕ)) (k : ℕ) → k < 64 → k < length cs
-      → bit (empty_cases (marks_of (book_of s) cs) (field_count s)) k ≡ some_empty (book_of s) (largest (book_of s) (get_or cs k []))
+  -- where the marks of case k are the largest subdomain under answers a, some field is empty there exactly when one is in that
+  pub emptied_is : (M : List ℕ) (k : ℕ) (a : List ℕ) → ((f c : ℕ) → domain_of M k f c ≡ largest (book_of s) a f c)
+      → emptied M (field_count s) k ≡ some_empty (book_of s) (largest (book_of s) a)
   unfolding some_empty
-  case_empty cs k few l =
-      empty_bit M (field_count s) k few ∙ ap (λ (n : ℕ). emptied M n k) (sym (counts_count s p.whole))
+  emptied_is M k a e =
+      ap (λ (n : ℕ). emptied M n k) (sym (counts_count s p.whole))
       ∙ any_ext (length (book_of s).counts) (λ f. not (marked M f k)) (λ f. not (any_below (codes (book_of s) f) (S f))) (λ f h. ap not (field f h))
     where
-      M : List ℕ
-      M = marks_of (book_of s) cs
-
       S : Subdomain
-      S = largest (book_of s) (get_or cs k [])
+      S = largest (book_of s) a
 
-      field : (f : ℕ) → f < length (book_of s).counts
-          → marked (marks_of (book_of s) cs) f k ≡ any_below (codes (book_of s) f) (largest (book_of s) (get_or cs k []) f)
-      field f l' =
+      field : (f : ℕ) → f < length (book_of s).counts → marked M f k ≡ any_below (codes (book_of s) f) (largest (book_of s) a f)
+      field f l =
           ap (◌&& any_below code_limit (domain_of M k f)) (lt-ltb f places (omega (arith, counts_count s p.whole, fields_few s p)))
-          ∙ any_ext code_limit (domain_of M k f) (S f) (λ c h. marks_domain s p cs k l f c)
-          ∙ any_below_lem code_limit (codes (book_of s) f) (S f) (codes_few s p f) (λ c t. (largest_is (book_of s) (get_or cs k [])).fits.of_book f c t)
+          ∙ any_ext code_limit (domain_of M k f) (S f) (λ c h. e f c)
+          ∙ any_below_lem code_limit (codes (book_of s) f) (S f) (codes_few s p f) (λ c t. (largest_is (book_of s) a).fits.of_book f c t)
+
+  -- as bit k of the word of a pass
+  pub case_empty : (cs : List (List ℕ)) (k : ℕ) → k < 64 → k < length cs
+      → bit (empty_cases (marks_of (book_of s) cs) (field_count s)) k ≡ some_empty (book_of s) (largest (book_of s) (get_or cs k []))
+  case_empty cs k few l =
+      empty_bit (marks_of (book_of s) cs) (field_count s) k few ∙ emptied_is (marks_of (book_of s) cs) k (get_or cs k []) (marks_domain s p cs k l)
 
   -- in the own case of an answered field without a photograph: with it lifted
   pub relaxed_empty : (h : Sheet) (f : ℕ) → f < field_count s → T (in_doubt h f)

@@ -80,7 +80,7 @@ module _ (s a own : List ℕ) (all : ℕ) (M : List ℕ) (r : ℕ) (N : List ℕ
       ∙ sym (marks_at (book_of s) cs i (subst (λ (n : ℕ). i < n) size l)))
     where
       size : length N ≡ places * code_limit
-      size = y.same_length ∙ x.size
+      size = y.same_length ∙ x.given.size
 
   -- what is counted and what stands are all marks of the cases
   all_marks : standing (book_of s) N + m ≡ length cs * all_codes (book_of s)

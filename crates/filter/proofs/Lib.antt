@@ -5,6 +5,8 @@ pub mod Removals
 pub mod Limits
 pub mod Lists
 pub mod Stores
+pub mod WordsGiven
+pub mod Beginnings
 pub mod Starts
 pub mod StartFields
 pub mod CaseWords
@@ -31,5 +33,8 @@ pub mod Totals
 pub mod Gathers
 pub mod Passes
 pub mod Agreement
+pub mod Asking
 pub mod Emptied
+pub mod Crowds
+pub mod AskedCodes
 pub mod Lookups

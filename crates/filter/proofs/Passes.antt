@@ -1,26 +1,20 @@
 -- A whole pass: what its parts ask of each other, and what it leaves. Assumes nothing.
 use mathlib.Core.Path.{◌≡◌, sym, ap, ◌∙◌, subst}
-use mathlib.Core.Bool.{Bool}
+use mathlib.Core.Logic.{inl}
 use mathlib.Core.List.{List, [], ◌∷◌}
-use Prim.Native.Nat.{ℕ, zero, suc, ◌-◌, ◌*◌, ◌^◌, ◌≤◌, ◌<◌}
-use native.Mathlib.Nat.{le_refl, le_trans, suc-mul, mul-le-mul}
-use native.Mathlib.Decide.{dec_lt}
+use Prim.Native.Nat.{ℕ, ◌-◌, ◌*◌, ◌^◌, ◌≤◌}
+use native.Mathlib.Nat.{mul-le-mul}
 use native.Mathlib.Omega.{arith}
 use lib.ListN.{length}
 use lib.Count.{ones, ones-ones}
 use lib.Dec.{T, ltb, ltb→lt, lt→ltb}
-use borrow.Author.Tests.{lt-ltb, le-ltb}
-use Rattle.format.specs.Basics.{pick}
 use Rattle.format.specs.Format.{code_limit, table_count, book_of}
 use Rattle.format.proofs.Views.{counts_count}
 use Rattle.book.specs.View.{Numbered}
-use Rattle.consistency.specs.Counting.{sum_below, tabulate}
+use Rattle.consistency.specs.Counting.{tabulate}
 use Rattle.consistency.specs.Consistency.{Sheet, places, codes}
-use Rattle.consistency.specs.Largest.{largest}
-use Rattle.consistency.specs.Counts.{bit, mask}
-use Rattle.consistency.proofs.Largest.{largest_is}
-use Rattle.consistency.proofs.CodeCounts.{field_in}
-use Rattle.consistency.proofs.Masks.{mask_ext, mask_none}
+use Rattle.consistency.specs.Counts.{bit}
+use Rattle.consistency.proofs.Limits.{sum_few}
 use Rattle.filter.specs.Words.{domain_of}
 use Rattle.filter.specs.Cases.{cases_of, marks_of, plain_of}
 use Rattle.filter.specs.Revise.{Room}
@@ -30,16 +24,10 @@ use Rattle.filter.proofs.Bits.{low_bits}
 use Rattle.filter.proofs.Limits.{fields_few, codes_few}
 use Rattle.filter.proofs.Totals.{all_codes}
 use Rattle.filter.proofs.CaseWords.{CasesBelow}
-use Rattle.filter.proofs.Lists.{tabulate_ext}
-use Rattle.filter.proofs.StartDomains.{started_of_book}
+use Rattle.filter.proofs.WordsGiven.{given_of_book}
 use Rattle.filter.proofs.Agreement.{marks_domain}
-use Rattle.filter.proofs.Gathers.{mask_of, mask_below}
+use Rattle.filter.proofs.Gathers.{mask_below, plain_numbers}
 use Rattle.filter.proofs.Ends.{marks_ended, count_ended}
-
--- a sum of n numbers, none above m
-sum_le : (n m : ℕ) (g : ℕ → ℕ) → ((k : ℕ) → g k ≤ m) → sum_below n g ≤ n * m
-sum_le zero m g h = omega arith
-sum_le (suc n) m g h = omega (arith, sum_le n m g h, h n, suc-mul n m)
 
 -- ---- what the parts of a pass ask, and what they leave
 
@@ -65,8 +53,7 @@ module _ {s : List ℕ} {list fields tables : ℕ} (q : Numbered s list fields t
 
     all_codes_few : all_codes (book_of s) ≤ places * code_limit
     all_codes_few =
-        le_trans (sum_le (length (book_of s).counts) code_limit (codes (book_of s)) (codes_few s q.promise))
-        (mul-le-mul fields_in (le_refl code_limit))
+        omega (arith, sum_few (length (book_of s).counts) (codes (book_of s)) code_limit (codes_few s q.promise), fields_in)
 
     -- the count has room for all marks
     room : Room (book_of s) M r
@@ -75,9 +62,9 @@ module _ {s : List ℕ} {list fields tables : ℕ} (q : Numbered s list fields t
     pub propagate_given : PropagateGiven s M r d
     propagate_given =
         record {
-          all = λ i l. subst T (sym (queue_bit i)) (lt→ltb i (table_count s) l);
+          supported = λ i l. inl (subst T (sym (queue_bit i)) (lt→ltb i (table_count s) l));
           only = λ i t. ltb→lt i (table_count s) (subst T (queue_bit i) t);
-          marks = record { words = x.size; of_book = started_of_book s a own all M r q.promise x; room = room };
+          marks = record { words = x.given.size; of_book = λ k f c t. given_of_book q.promise x.given k f c t; room = room };
         }
 
     pub ran : {N : List ℕ} {m : ℕ} → Propagated s M N r m → Ran (book_of s) a own all N m
@@ -97,31 +84,8 @@ cases_done {s} h {a} {own} {all} x e =
 
 -- ---- plain filtering
 
-module _ {s : List ℕ} {list fields tables : ℕ} (h : Numbered s list fields tables) (a : List ℕ) {N : List ℕ} (e : N ≡ marks_of (book_of s) (a ∷ [])) where
-  -- each field's number
-  number_is : (f : ℕ) → mask_of N f ≡ mask code_limit (largest (book_of s) a f)
-  number_is f =
-      mask_ext code_limit (domain_of N 0 f) (largest (book_of s) a f)
-      (λ c m. ap (λ (M : List ℕ). domain_of M 0 f c) e ∙ marks_domain s h.promise (a ∷ []) 0 (omega arith) f c)
-
-  -- 0 where the book has no field
-  none_there : (f : ℕ) → fields ≤ f → mask code_limit (largest (book_of s) a f) ≡ 0
-  none_there f l =
-      mask_none code_limit (largest (book_of s) a f)
-      (λ c t.
-      omega (
-        arith,
-        field_in (book_of s) f c ((largest_is (book_of s) a).fits.of_book f c t),
-        counts_count s h.promise.whole,
-        h.fields_is,
-      ))
-
-  number_below : (f : ℕ) → f < places → mask_below N fields f ≡ mask code_limit (largest (book_of s) a f)
-  number_below f l = at (dec_lt f fields)
-    where
-      at : Dec (f < fields) → mask_below N fields f ≡ mask code_limit (largest (book_of s) a f)
-      at (yes m) = ap (λ (t : Bool). pick t (mask_of N f) 0) (lt-ltb f fields m) ∙ number_is f
-      at (no n) = ap (λ (t : Bool). pick t (mask_of N f) 0) (le-ltb f fields (omega arith)) ∙ sym (none_there f (omega arith))
-
-  pub one_case_done : {n : List ℕ} → n ≡ tabulate (mask_below N fields) places 0 → n ≡ plain_of (book_of s) a
-  one_case_done d = d ∙ tabulate_ext (mask_below N fields) (λ f. mask code_limit (largest (book_of s) a f)) places number_below
+-- the marks of one case, gathered
+pub one_case_done : {s : List ℕ} {list fields tables : ℕ} → Numbered s list fields tables → (a : List ℕ) {N n : List ℕ}
+    → N ≡ marks_of (book_of s) (a ∷ []) → n ≡ tabulate (mask_below N 0 fields) places 0 → n ≡ plain_of (book_of s) a
+one_case_done {s} h a {N} e =
+    plain_numbers h a N 0 (λ f c. ap (λ (M : List ℕ). domain_of M 0 f c) e ∙ marks_domain s h.promise (a ∷ []) 0 (omega arith) f c)

@@ -90,7 +90,7 @@ supported_same N L t e h j l k c u =
     }
 
 -- word f of W has table i, for each of its fields f
-watched : {s W : List ℕ} → Promise s → Watches s W → (i j : ℕ) → i < table_count s → j < length (nth (book_of s) i).fields
+pub watched : {s W : List ℕ} → Promise s → Watches s W → (i j : ℕ) → i < table_count s → j < length (nth (book_of s) i).fields
     → T (bit (get_or W (field_of (nth (book_of s) i) j) 0) i)
 watched {s} {W} p w i j il jl =
     let view : nth (book_of s) i ≡ table_at s (place s i) = table_view s (record { fields = []; rows = [] }) i il in

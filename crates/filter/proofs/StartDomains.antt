@@ -2,28 +2,26 @@
 use mathlib.Core.Path.{◌≡◌, refl, sym, ap, ◌∙◌, subst}
 use mathlib.Core.Bool.{Bool, true, false, ◌&&◌, ◌||◌}
 use mathlib.Core.List.{List, []}
-use Prim.Native.Nat.{ℕ, ◌≤◌, ◌<◌}
-use native.Mathlib.Nat.{le_trans}
+use Prim.Native.Nat.{ℕ, ◌<◌}
 use native.Mathlib.Decide.{dec_lt}
 use native.Mathlib.Omega.{arith}
 use borrow.Author.Tests.{lt-ltb, le-ltb}
-use lib.ListN.{length, get_or, get_or-eq_default}
+use lib.ListN.{length, get_or}
 use lib.Dec.{T, eqb, ltb, ltb→lt}
 use Rattle.format.specs.Basics.{pick}
-use Rattle.format.specs.Format.{code_limit, book_of}
+use Rattle.format.specs.Format.{book_of}
 use Rattle.format.specs.Promise.{Promise}
 use Rattle.format.proofs.Views.{counts_count}
-use Rattle.format.proofs.Booleans.{false_T}
-use Rattle.consistency.specs.Consistency.{places, codes, answer, OfBook, WithinAnswers, HoldsAll}
+use Rattle.format.proofs.Booleans.{and_right}
+use Rattle.consistency.specs.Consistency.{places, codes, answer, WithinAnswers, HoldsAll}
 use Rattle.consistency.specs.Largest.{has, start, allowed}
 use Rattle.consistency.specs.Counts.{bit}
 use Rattle.consistency.proofs.Rounds.{start_at, start_within, start_holds_all}
 use Rattle.consistency.proofs.CodeCounts.{field_in}
-use Rattle.consistency.proofs.Masks.{zero_bit}
-use Rattle.filter.specs.Words.{word_at, domain_of}
+use Rattle.filter.specs.Words.{domain_of}
 use Rattle.filter.specs.Start.{CasesAre, start_word, Started}
-use Rattle.filter.proofs.Words.{domain_bit}
-use Rattle.filter.proofs.Limits.{fields_few, codes_few}
+use Rattle.filter.proofs.WordsGiven.{given_domain}
+use Rattle.filter.proofs.Limits.{fields_few}
 use Rattle.filter.proofs.Starts.{or-true, word_within}
 use Rattle.filter.proofs.CaseWords.{all_bit, own_within}
 
@@ -32,43 +30,18 @@ module _ (s a own : List ℕ) (all : ℕ) (M : List ℕ) (r : ℕ) (p : Promise 
   code_place : (f c : ℕ) → c < codes (book_of s) f → f < places
   code_place f c l = omega (arith, field_in (book_of s) f c l, counts_count s p.whole, fields_few s p)
 
-  -- its word is its start
-  word_started : (f c : ℕ) → c < codes (book_of s) f → word_at M f c ≡ start_word (answer a f) c all (get_or own f 0)
-  word_started f c l =
-      x.words f c (code_place f c l) (le_trans l (codes_few s p f))
-      ∙ ap (λ (t : Bool). pick t (start_word (answer a f) c all (get_or own f 0)) 0) (lt-ltb c (codes (book_of s) f) l)
-
-  -- a code that the book lacks has no word
-  word_lacking : (f c : ℕ) → c < code_limit → codes (book_of s) f ≤ c → Dec (f < places) → word_at M f c ≡ 0
-  word_lacking f c l h (yes m) =
-      x.words f c m l ∙ ap (λ (t : Bool). pick t (start_word (answer a f) c all (get_or own f 0)) 0) (le-ltb c (codes (book_of s) f) h)
-  word_lacking f c l h (no n) = get_or-eq_default M 0 (omega (arith, x.size))
-
-  -- and no mark, in any case
-  domain_lacking : (k f c : ℕ) → codes (book_of s) f ≤ c → domain_of M k f c ≡ false
-  domain_lacking k f c h = at (dec_lt c code_limit)
-    where
-      at : Dec (c < code_limit) → domain_of M k f c ≡ false
-      at (yes l) = domain_bit M k f c l ∙ ap (λ (w : ℕ). bit w k) (word_lacking f c l h (dec_lt f places)) ∙ zero_bit k
-      at (no n) = ap (◌&& bit (word_at M f c) k) (le-ltb c code_limit (omega arith))
-
-  -- the marks are codes of the book
-  pub started_of_book : (k : ℕ) → OfBook (book_of s) (domain_of M k)
-  started_of_book k f c t = at (dec_lt c (codes (book_of s) f))
-    where
-      at : Dec (c < codes (book_of s) f) → c < codes (book_of s) f
-      at (yes l) = l
-      at (no n) = absurd (false_T (domain_lacking k f c (omega arith)) t)
+  -- a code's start
+  abbrev word_of : ℕ → ℕ → ℕ
+  word_of f c = start_word (answer a f) c all (get_or own f 0)
 
   module _ (cs : List (List ℕ)) (y : CasesAre a own all cs) where
     -- no mark stands outside the cases
     pub started_cases : (k f c : ℕ) → T (domain_of M k f c) → k < length cs
     started_cases k f c t =
-        let l : c < codes (book_of s) f = started_of_book k f c t in
-        let e : domain_of M k f c ≡ bit (start_word (answer a f) c all (get_or own f 0)) k =
-        domain_bit M k f c (le_trans l (codes_few s p f)) ∙ ap (λ (w : ℕ). bit w k) (word_started f c l) in
         ltb→lt k (length cs)
-        (subst T (all_bit y k) (word_within (answer a f) c all (get_or own f 0) (own_within y f) k (subst T e t)))
+        (subst T (all_bit y k)
+        (word_within (answer a f) c all (get_or own f 0) (own_within y f) k
+        (and_right (ltb c (codes (book_of s) f)) (bit (word_of f c) k) (subst T (given_domain p x.given k f c) t))))
 
     -- a start's bit: the answers of that case allow the code
     start_bit : (k f c : ℕ) → k < length cs → f < places → bit (start_word (answer a f) c all (get_or own f 0)) k ≡ allowed (get_or cs k []) f c
@@ -91,14 +64,14 @@ module _ (s a own : List ℕ) (all : ℕ) (M : List ℕ) (r : ℕ) (p : Promise 
     module _ (k : ℕ) (kl : k < length cs) where
       -- the marks of case k are the book's codes that its answers allow
       pub started_domain : (f c : ℕ) → domain_of M k f c ≡ has (start (book_of s) (get_or cs k [])) f c
-      started_domain f c = at (dec_lt c (codes (book_of s) f)) ∙ sym (start_at (book_of s) (get_or cs k []) f c)
+      started_domain f c = given_domain p x.given k f c ∙ at (dec_lt c (codes (book_of s) f)) ∙ sym (start_at (book_of s) (get_or cs k []) f c)
         where
-          at : Dec (c < codes (book_of s) f) → domain_of M k f c ≡ (ltb c (codes (book_of s) f) && allowed (get_or cs k []) f c)
-          at (yes l) =
-              domain_bit M k f c (le_trans l (codes_few s p f)) ∙ ap (λ (w : ℕ). bit w k) (word_started f c l)
-              ∙ start_bit k f c kl (code_place f c l) ∙ ap (◌&& allowed (get_or cs k []) f c) (sym (lt-ltb c (codes (book_of s) f) l))
+          at : Dec (c < codes (book_of s) f)
+              → (ltb c (codes (book_of s) f) && bit (word_of f c) k) ≡ (ltb c (codes (book_of s) f) && allowed (get_or cs k []) f c)
+          at (yes l) = ap (ltb c (codes (book_of s) f) &&◌) (start_bit k f c kl (code_place f c l))
           at (no n) =
-              domain_lacking k f c (omega arith) ∙ ap (◌&& allowed (get_or cs k []) f c) (sym (le-ltb c (codes (book_of s) f) (omega arith)))
+              let e = le-ltb c (codes (book_of s) f) (omega arith) in
+              ap (◌&& bit (word_of f c) k) e ∙ sym (ap (◌&& allowed (get_or cs k []) f c) e)
 
       -- every subdomain that fits is inside, and no code that the answers forbid
       pub started_holds_all : HoldsAll (book_of s) (get_or cs k []) (domain_of M k)

@@ -1,31 +1,24 @@
 -- The start of the marks, field by field, and the whole of it. Assumes nothing.
 use mathlib.Core.Path.{◌≡◌, sym, ap, ◌∙◌, subst}
-use mathlib.Core.Bool.{Bool}
 use mathlib.Core.List.{List}
 use Prim.Native.Nat.{ℕ, ◌+◌, ◌*◌, ◌≤◌, ◌<◌}
 use native.Mathlib.Nat.{le_trans, mul-add, mul-zero}
 use native.Mathlib.Numerals.{add-one}
-use native.Mathlib.Decide.{dec_lt}
 use native.Mathlib.Omega.{arith}
-use borrow.Author.Count.{below_more}
-use borrow.Author.Tests.{lt-ltb, le-ltb}
-use lib.ListN.{length, get_or, replicate, length-replicate}
+use lib.ListN.{length, get_or, replicate}
 use lib.Count.{ones}
-use lib.Dec.{ltb}
-use Rattle.format.specs.Basics.{pick}
 use Rattle.format.specs.Format.{Book, code_limit, field_count, book_of}
 use Rattle.format.proofs.Views.{counts_count}
 use Rattle.consistency.specs.Counting.{how_many, sum_below}
 use Rattle.consistency.specs.Consistency.{places, codes, answer}
 use Rattle.consistency.specs.Counts.{bit}
-use Rattle.consistency.proofs.CodeCounts.{field_in}
-use Rattle.filter.specs.Words.{word_at, standing}
+use Rattle.filter.specs.Words.{standing}
 use Rattle.book.specs.View.{Numbered}
 use Rattle.filter.specs.Start.{start_word, FieldStarted, Started}
 use Rattle.consistency.proofs.Sums.{sum_ext}
 use Rattle.consistency.proofs.Elements.{answer_at}
-use Rattle.filter.proofs.Lists.{zeros}
 use Rattle.filter.proofs.Limits.{fields_few, codes_few}
+use Rattle.filter.proofs.WordsGiven.{GivenBelow, below_none, below_before, below_next, below_all}
 use Rattle.filter.proofs.Starts.{cases_at}
 
 -- the number of marks of field f that stand, over the cases
@@ -35,24 +28,14 @@ standing_of b N f = sum_below (codes b f) (cases_at N f)
 -- the fields below m are started, the others' words are 0
 pub record StartedBelow (b : Book) (a own : List ℕ) (all : ℕ) (N : List ℕ) (m r : ℕ) : Type 0 where
   pub sheet : length a ≡ places
-  pub size : length N ≡ places * code_limit
-  pub words : (f c : ℕ) → f < m → c < codes b f → word_at N f c ≡ start_word (answer a f) c all (get_or own f 0)
-  pub rest : (f c : ℕ) → c < code_limit → (f < m → c < codes b f → ⊥) → word_at N f c ≡ 0
+  pub given : GivenBelow b N m (λ f c. start_word (answer a f) c all (get_or own f 0))
   pub counts : r + sum_below m (standing_of b N) ≡ ones all * sum_below m (codes b)
   pub few : r ≤ 64 * code_limit * m
 
 -- no field yet
 pub started_none : {b : Book} {a own : List ℕ} {all : ℕ} {N : List ℕ} → length a ≡ places → N ≡ replicate (places * code_limit) 0
     → StartedBelow b a own all N 0 0
-started_none {b} {a} {own} {all} {N} l e =
-    record {
-      sheet = l;
-      size = ap length e ∙ length-replicate {A = ℕ} (places * code_limit) 0;
-      words = λ f c l. absurd (omega arith);
-      rest = λ f c l n. ap (λ (M : List ℕ). word_at M f c) e ∙ zeros (places * code_limit) (f * code_limit + c);
-      counts = sym (mul-zero (ones all));
-      few = omega arith;
-    }
+started_none {all = all} l e = record { sheet = l; given = below_none e; counts = sym (mul-zero (ones all)); few = omega arith }
 
 module _ {s : List ℕ} {list fields tables : ℕ} (q : Numbered s list fields tables) where
   -- all fields have places on the sheet
@@ -74,13 +57,8 @@ module _ {s : List ℕ} {list fields tables : ℕ} (q : Numbered s list fields t
       k_few = subst (λ (z : ℕ). z ≤ code_limit) (sym k_codes) (codes_few s q.promise f)
 
       module _ {a own N P : List ℕ} {all t u : ℕ} (y : StartedBelow (book_of s) a own all N f t) (x : FieldStarted N P f k (get_or a f 0) all (get_or own f 0) t u) where
-        same : (g c : ℕ) → g < f → c < codes (book_of s) g → word_at P g c ≡ word_at N g c
-        same g c gl cl = x.rest g c (le_trans cl (codes_few s q.promise g)) (λ (e : g ≡ f) m. omega arith)
-
-        here : (c : ℕ) → c < codes (book_of s) f → word_at P f c ≡ start_word (answer a f) c all (get_or own f 0)
-        here c cl =
-            x.words c (subst (λ (z : ℕ). c < z) (sym k_codes) cl)
-            ∙ ap (λ (z : ℕ). start_word z c all (get_or own f 0)) (answer_at a f (omega (arith, field_place, y.sheet)))
+        same : (c : ℕ) → start_word (get_or a f 0) c all (get_or own f 0) ≡ start_word (answer a f) c all (get_or own f 0)
+        same c = ap (λ (z : ℕ). start_word z c all (get_or own f 0)) (answer_at a f (omega (arith, field_place, y.sheet)))
 
         -- the marks of f that stand are as many as its cases and codes, but those counted now
         field_counts : u + standing_of (book_of s) P f ≡ t + ones all * codes (book_of s) f
@@ -91,7 +69,7 @@ module _ {s : List ℕ} {list fields tables : ℕ} (q : Numbered s list fields t
             sum_ext f (standing_of (book_of s) P) (standing_of (book_of s) N)
             (λ g gl.
             sum_ext (codes (book_of s) g) (cases_at P g) (cases_at N g)
-            (λ c cl. ap (λ (z : ℕ). how_many 64 (bit z)) (same g c gl cl)))
+            (λ c cl. ap (λ (z : ℕ). how_many 64 (bit z)) (below_before (codes_few s q.promise) k_codes y.given x.given same g c gl cl)))
 
         sums : (S S' F n K k : ℕ) → t + S ≡ n * K → S' ≡ S → u + F ≡ t + n * k → u + (S' + F) ≡ n * (K + k)
         sums S S' F n K k h i j = omega (arith, mul-add n K k)
@@ -100,13 +78,7 @@ module _ {s : List ℕ} {list fields tables : ℕ} (q : Numbered s list fields t
         started_more =
             record {
               sheet = y.sheet;
-              size = x.same_length ∙ y.size;
-              words = λ g c gl cl.
-                  below_more (λ (g : ℕ). (c : ℕ) → c < codes (book_of s) g → word_at P g c ≡ start_word (answer a g) c all (get_or own g 0)) f
-                  (λ g gl c cl. same g c gl cl ∙ y.words g c gl cl) here g gl c cl;
-              rest = λ g c cl n.
-                  x.rest g c cl (λ e m. n (omega arith) (subst (λ (z : ℕ). c < z) (k_codes ∙ ap (codes (book_of s)) (sym e)) m))
-                  ∙ y.rest g c cl (λ gl m. n (omega arith) m);
+              given = below_next (codes_few s q.promise) k_codes y.given x.given same;
               counts =
                   subst (λ (z : ℕ). u + sum_below z (standing_of (book_of s) P) ≡ ones all * sum_below z (codes (book_of s))) (sym (add-one f))
                   (sums (sum_below f (standing_of (book_of s) N)) (sum_below f (standing_of (book_of s) P)) (standing_of (book_of s) P f) (ones all)
@@ -117,20 +89,10 @@ module _ {s : List ℕ} {list fields tables : ℕ} (q : Numbered s list fields t
   -- the whole start
   pub started : {a own N : List ℕ} {all f r : ℕ} → StartedBelow (book_of s) a own all N f r → f ≡ fields → Started (book_of s) a own all N r
   unfolding standing
-  started {a} {own} {N} {all} {f} {r} y e =
+  started {N = N} {all = all} {f = f} {r = r} y e =
       let fe : f ≡ length (book_of s).counts = e ∙ q.fields_is ∙ sym (counts_count s q.promise.whole) in
       record {
-        size = y.size;
-        words = λ g c gl cl. at g c cl fe (dec_lt c (codes (book_of s) g));
+        given = below_all y.given fe;
         counts = subst (λ (z : ℕ). r + sum_below z (standing_of (book_of s) N) ≡ ones all * sum_below z (codes (book_of s))) fe y.counts;
         few = omega (arith, y.few, e, q.fields_is, fields_few s q.promise);
       }
-    where
-      at : (g c : ℕ) → c < code_limit → f ≡ length (book_of s).counts → Dec (c < codes (book_of s) g)
-          → word_at N g c ≡ pick (ltb c (codes (book_of s) g)) (start_word (answer a g) c all (get_or own g 0)) 0
-      at g c cl fe (yes m) =
-          y.words g c (subst (λ (z : ℕ). g < z) (sym fe) (field_in (book_of s) g c m)) m
-          ∙ ap (λ (z : Bool). pick z (start_word (answer a g) c all (get_or own g 0)) 0) (sym (lt-ltb c (codes (book_of s) g) m))
-      at g c cl fe (no n) =
-          y.rest g c cl (λ gl m. n m)
-          ∙ ap (λ (z : Bool). pick z (start_word (answer a g) c all (get_or own g 0)) 0) (sym (le-ltb c (codes (book_of s) g) (omega arith)))

@@ -6,8 +6,7 @@ use Prim.Native.Nat.{ℕ, ◌+◌, ◌*◌, ◌^◌, ◌≤◌, ◌<◌}
 use native.Mathlib.Nat.{le_trans, mul-add}
 use native.Mathlib.Numerals.{add-one}
 use native.Mathlib.Omega.{arith}
-use borrow.Author.Count.{below_more}
-use lib.ListN.{length, set, length-set}
+use lib.ListN.{length, set}
 use lib.Bits.{bit_xor, xor_lt}
 use lib.Count.{ones, ones-le}
 use lib.Dec.{eqb}
@@ -20,7 +19,8 @@ use Rattle.filter.specs.Words.{word_at}
 use Rattle.filter.specs.Start.{start_word, FieldStarted}
 use Rattle.filter.proofs.Bits.{Within, ones_many, many_without}
 use Rattle.consistency.proofs.Sums.{sum_ext}
-use Rattle.filter.proofs.Stores.{word_in, stored_here, stored_elsewhere}
+use Rattle.filter.proofs.Stores.{word_in}
+use Rattle.filter.proofs.WordsGiven.{given_here, given_before, given_more}
 
 -- ---- one word
 
@@ -61,8 +61,8 @@ module _ {M N : List ℕ} {f k x all own s t c : ℕ} (size : length M ≡ place
   code_in = le_trans l kl
 
   -- the word's place
-  pub start_in : f * code_limit + c < places * code_limit
-  start_in = word_in f c fl code_in
+  start_in : f * code_limit + c < length M
+  start_in = omega (arith, size, word_in f c fl code_in)
 
   module _ {w : ℕ} (e : w ≡ start_word x c all own) where
     -- the word fits
@@ -80,17 +80,12 @@ module _ {M N : List ℕ} {f k x all own s t c : ℕ} (size : length M ≡ place
     abbrev P : List ℕ
     P = set N (f * code_limit + c) w
 
-    here : word_at P f c ≡ w
-    here = stored_here N f c w (omega (arith, y.same_length, size, start_in))
-
-    below : (i : ℕ) → i < c → word_at P f i ≡ word_at N f i
-    below i il = stored_elsewhere N f c w f i code_in (omega (arith, code_in)) (λ z. let d : i ≡ c = z.1 in omega arith)
-
     below_counts : sum_below c (cases_at P f) ≡ sum_below c (cases_at N f)
-    below_counts = sum_ext c (cases_at P f) (cases_at N f) (λ i il. ap (λ (z : ℕ). how_many 64 (bit z)) (below i il))
+    below_counts =
+        sum_ext c (cases_at P f) (cases_at N f) (λ i il. ap (λ (z : ℕ). how_many 64 (bit z)) (given_before y.given code_in start_in e i il))
 
     here_counts : ones (bit_xor all w) + cases_at P f c ≡ ones all
-    here_counts = ap (λ (z : ℕ). ones (bit_xor all w) + how_many 64 (bit z)) here ∙ w_count
+    here_counts = ap (λ (z : ℕ). ones (bit_xor all w) + how_many 64 (bit z)) (given_here y.given code_in start_in e) ∙ w_count
 
     sums : (S S' o m n : ℕ) → t + S ≡ s + n * c → S' ≡ S → o + m ≡ n → (t + o) + (S' + m) ≡ s + n * (c + 1)
     sums S S' o m n h i j = omega (arith, mul-add n c 1)
@@ -98,11 +93,7 @@ module _ {M N : List ℕ} {f k x all own s t c : ℕ} (size : length M ≡ place
     pub field_more : FieldStarted M P f (c + 1) x all own s (t + ones (bit_xor all w))
     field_more =
         record {
-          same_length = length-set N (f * code_limit + c) w ∙ y.same_length;
-          words = below_more (λ (i : ℕ). word_at P f i ≡ start_word x i all own) c (λ i il. below i il ∙ y.words i il) (here ∙ e);
-          rest = λ g i il n.
-              stored_elsewhere N f c w g i code_in il (λ z. let z1 : i ≡ c = z.1 in n z.0 (omega arith))
-              ∙ y.rest g i il (λ z m. n z (omega arith));
+          given = given_more y.given code_in start_in e;
           counts =
               subst (λ (z : ℕ). (t + ones (bit_xor all w)) + sum_below z (cases_at P f) ≡ s + ones all * (c + 1)) (sym (add-one c))
               (sums (sum_below c (cases_at N f)) (sum_below c (cases_at P f)) (ones (bit_xor all w)) (cases_at P f c) (ones all) y.counts below_counts here_counts);

@@ -34,7 +34,7 @@ sum_front zero g = omega arith
 sum_front (suc n) g = omega (arith, sum_front n g)
 
 -- a test that only numbers below n pass
-many_below : (m n : ℕ) (p : ℕ → Bool) → n ≤ m → ((k : ℕ) → T (p k) → k < n) → how_many m p ≡ how_many n p
+pub many_below : (m n : ℕ) (p : ℕ → Bool) → n ≤ m → ((k : ℕ) → T (p k) → k < n) → how_many m p ≡ how_many n p
 many_below zero n p l h = ap (λ (x : ℕ). how_many x p) (let e : 0 ≡ n = omega arith in e)
 many_below (suc m) n p l h = go (eq-or-lt_of_le l) (λ k. many_below m n p k h)
   where

@@ -7,3 +7,4 @@ pub mod Asks
 pub mod Queue
 pub mod Summaries
 pub mod Rows
+pub mod Asked

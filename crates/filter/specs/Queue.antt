@@ -2,11 +2,11 @@
 use Rattle.std.specs.Prelude.{ℕ, ◌+◌, ◌<◌, ◌≡◌, ◌⊎◌, List, length, get_or, T}
 use Rattle.format.specs.Format.{table_count, book_of}
 use Rattle.format.specs.Promise.{place, field_at}
-use Rattle.consistency.specs.Consistency.{Inside, WithinAnswers, HoldsAll}
+use Rattle.consistency.specs.Consistency.{Inside, WithinAnswers, HoldsAll, nth}
 use Rattle.consistency.specs.Largest.{largest}
 use Rattle.consistency.specs.Counts.{bit}
 use Rattle.filter.specs.Words.{domain_of, standing}
-use Rattle.filter.specs.Revise.{Watches}
+use Rattle.filter.specs.Revise.{Watches, TableSupported}
 use Rattle.filter.specs.Asks.{Marks}
 
 -- ---- the tables' places and fields
@@ -29,9 +29,9 @@ pub record Surveyed (s W P : List ℕ) : Type 0 where
 
 -- ---- the queue of tables, one bit each
 
--- each table of the book is in the queue d, and nothing else; the marks have room in the count n
+-- each table of the book that is not in the queue d supports all marks, and nothing else is in it; the marks have room in the count n
 pub record PropagateGiven (s M : List ℕ) (n d : ℕ) : Type 0 where
-  pub all : (i : ℕ) → i < table_count s → T (bit d i)
+  pub supported : (i : ℕ) → i < table_count s → T (bit d i) ⊎ TableSupported M (nth (book_of s) i)
   pub only : (i : ℕ) → T (bit d i) → i < table_count s
   pub marks : Marks s M n
 

@@ -1,12 +1,12 @@
 -- The marks that a pass starts from, in all cases: what the answers of each case allow. Assumes nothing.
-use Rattle.std.specs.Prelude.{ℕ, ◌+◌, ◌-◌, ◌*◌, ◌^◌, ◌≤◌, ◌<◌, ◌≡◌, ◌||◌, List, [], ◌∷◌, map, length, get_or, T, eqb, ltb}
+use Rattle.std.specs.Prelude.{ℕ, ◌+◌, ◌-◌, ◌*◌, ◌^◌, ◌≤◌, ◌<◌, ◌≡◌, ◌||◌, List, [], ◌∷◌, map, length, get_or, T, eqb}
 use Rattle.std.specs.Int.Count.{ones}
 use Rattle.format.specs.Basics.{pick}
 use Rattle.format.specs.Format.{Book, code_limit}
 use Rattle.consistency.specs.Counting.{how_many, those, sum_below}
 use Rattle.consistency.specs.Consistency.{Sheet, places, codes, answer, relax}
 use Rattle.consistency.specs.Counts.{bit, in_doubt}
-use Rattle.filter.specs.Words.{word_at, standing}
+use Rattle.filter.specs.Words.{word_at, FieldWords, BookWords, standing}
 use Rattle.filter.specs.Cases.{marks_of, outside_over}
 
 -- ---- the cases
@@ -31,17 +31,13 @@ start_word x c all own = pick (eqb x 255 || eqb c x) all own
 
 -- the words of the codes below k of field f, and the count of the marks forbidden there: "those forbidden by an answer included"
 pub record FieldStarted (M N : List ℕ) (f k x all own s t : ℕ) : Type 0 where
-  pub same_length : length N ≡ length M
-  pub words : (c : ℕ) → c < k → word_at N f c ≡ start_word x c all own
-  pub rest : (g d : ℕ) → d < code_limit → (g ≡ f → d < k → ⊥) → word_at N g d ≡ word_at M g d
+  pub given : FieldWords M N f k (λ c. start_word x c all own)
   pub counts : t + sum_below k (λ c. how_many 64 (bit (word_at N f c))) ≡ s + ones all * k
   pub few : t ≤ s + 64 * k
 
--- Each word is its start; those that the book lacks are 0. What is counted and what stands are all marks of the cases
+-- Each word is its start. What is counted and what stands are all marks of the cases
 pub record Started (b : Book) (a own : List ℕ) (all : ℕ) (N : List ℕ) (r : ℕ) : Type 0 where
-  pub size : length N ≡ places * code_limit
-  pub words : (f c : ℕ) → f < places → c < code_limit
-      → word_at N f c ≡ pick (ltb c (codes b f)) (start_word (answer a f) c all (get_or own f 0)) 0
+  pub given : BookWords b N (λ f c. start_word (answer a f) c all (get_or own f 0))
   pub counts : r + standing b N ≡ ones all * sum_below (length b.counts) (codes b)
   pub few : r ≤ 64 * (places * code_limit)
 

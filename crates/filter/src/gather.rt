@@ -1,5 +1,5 @@
 // The marks of one case as numbers, one a field.
-ghost use Rattle.std.specs.Prelude.{◌≡◌, ltb};
+ghost use Rattle.std.specs.Prelude.{◌≡◌, ◌<◌, ltb};
 ghost use Rattle.format.specs.Basics.{pick};
 ghost use Rattle.format.specs.Format.{code_limit};
 ghost use Rattle.consistency.specs.Counting.{tabulate};
@@ -24,14 +24,15 @@ pub fn standing_codes(marks: &[u64; WORDS], k: u64, f: usize, n: usize) -> u32
     number
 }
 
-// The marks of case 0, a number for each field; 0 for places that the book lacks.
-pub(crate) fn gather(book: Book, marks: &[u64; WORDS]) -> [u32; PLACES]
-    ensures { result ≡ tabulate (λ f. pick (ltb f book.entry.fields) (mask code_limit (domain_of marks.now 0 f)) 0) places 0 }
+// The marks of case k, a number for each field; 0 for places that the book lacks.
+pub(crate) fn gather(book: Book, marks: &[u64; WORDS], k: u64) -> [u32; PLACES]
+    requires { k < 64 }
+    ensures { result ≡ tabulate (λ f. pick (ltb f book.entry.fields) (mask code_limit (domain_of marks.now k f)) 0) places 0 }
 {
     // (a) There is no heap: an array has a number for each place of any book, and this one's fields are the first.
     let mut numbers = [0u32; PLACES];
     for (f, number) in numbers[..book.fields].iter_mut().enumerate() {
-        *number = standing_codes(marks, 0, f, CODES);
+        *number = standing_codes(marks, k, f, CODES);
     }
     numbers
 }

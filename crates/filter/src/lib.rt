@@ -7,15 +7,15 @@ ghost use Rattle.format.specs.Format.{book_of};
 ghost use Rattle.consistency.specs.Consistency.{sheet_with};
 ghost use Rattle.consistency.specs.Counts.{struck};
 ghost use Rattle.filter.specs.Cases.{cases_of, marks_of, plain_of};
-ghost use Rattle.filter.specs.Summaries.{empty_cases};
 
 use book::{Book, CODES, PLACES};
 use cases::Cases;
 use gather::gather;
 use pass::run;
 use start::own_cases;
-use summary::marked_cases;
 
+mod asked;
+mod begin;
 mod cases;
 mod column;
 mod fields;
@@ -30,17 +30,17 @@ mod summary;
 mod support;
 mod survey;
 
+pub use asked::{Asked, Position};
 pub use gather::standing_codes;
 pub use lookup::supporting_row;
 pub use start::in_doubt;
+pub use summary::empty_cases;
+pub use survey::Survey;
 
 // A word of marks for each place and code.
 // (d) One list of words, and no array of arrays: the definitions name a word by field and code so (`f * code_limit + c`), and clearing, lending
 // and comparing marks takes them as one list.
 pub const WORDS: usize = PLACES * CODES;
-
-// Every bit of a word of cases.
-const EVERY_CASE: u64 = u64::MAX;
 
 // The table asked for has no column for the field, as it is with a table that the book lacks.
 #[derive(Clone, Copy, PartialEq, Eq)]
@@ -70,13 +70,5 @@ pub fn plain<'a>(book: Book<'a>, answers: &[u8; PLACES]) -> [u32; PLACES]
 {
     let mut marks = [0u64; WORDS];
     run(book, answers, &Cases::one(), &mut marks);
-    gather(book, &marks)
-}
-
-// The cases in which some field of the book is empty, as a word: bit k for case k.
-pub fn empty_cases(marks: &[u64; WORDS], fields: usize) -> u64
-    ensures { result ≡ empty_cases marks.now fields }
-{
-    let full = (0..fields).fold(EVERY_CASE, |full, f| full & marked_cases(marks, f));
-    EVERY_CASE ^ full
+    gather(book, &marks, 0)
 }

@@ -21,24 +21,22 @@ pub(crate) struct Pass {
     pub(crate) queue: u64,
 }
 
-// Of the cases looked for, those in which no row of the table supports the code in the column. It stops early where no code
-// needs a row any more.
-fn unsupported(column: Column, marks: &[u64; WORDS], need: Need) -> [u64; CODES]
-    ensures { Unsupported marks.now (table_at column.entry.table.bytes.now column.entry.table.at) column.entry.j need.cases result }
+// Looks for rows: the cases in which some row of the table supports the code in the column are taken out. It stops early where no code needs a
+// row any more. (b) The need is lent: handed in and back, its words were copied three times for each column.
+fn find_rows(column: Column, marks: &[u64; WORDS], need: &mut Need)
+    ensures { Unsupported marks.now (table_at column.entry.table.bytes.now column.entry.table.at) column.entry.j need.old.cases need.new.cases }
 {
     let Column { table, j } = column;
-    let mut left = need;
     let mut from = 0;
     // (d) A `while`, since there is nothing to walk over: each turn goes on behind the row that it has found.
-    while left.waiting != 0 {
-        let Some(found) = support(column, marks, &left.cases, from) else {
-            return left.cases;
+    while need.waiting != 0 {
+        let Some(found) = support(column, marks, &need.cases, from) else {
+            return;
         };
         let c = usize::from(table.row(found.row)[j]);
-        left.supported(c, found.cases);
+        need.supported(c, found.cases);
         from = found.row + 1;
     }
-    left.cases
 }
 
 // Strikes the cases `left` of the codes of a field, and counts them.
@@ -65,9 +63,9 @@ fn revise(column: Column, marks: &mut [u64; WORDS], field: Field, s: u32) -> u32
     requires marks { Marks column.table.bytes.now marks.old s }
     ensures { Revised (book_of column.entry.table.bytes.now) marks.old marks.new (table_at column.entry.table.bytes.now column.entry.table.at) column.entry.j field.number s result }
 {
-    let need = Need::looking(marks, field);
-    let left = unsupported(column, marks, need);
-    strike(marks, &left, field, s)
+    let mut need = Need::looking(marks, field);
+    find_rows(column, marks, &mut need);
+    strike(marks, &need.cases, field, s)
 }
 
 // Revises the columns of a table one after another. The other tables with a field that lost a mark join the queue; the table itself need

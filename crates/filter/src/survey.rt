@@ -6,8 +6,8 @@ use book::{Book, PLACES, TABLE_LIMIT, Table};
 // The tables' places, and for each field the word of the tables that have it.
 // (d) Places and no `Table`s: with the book and a table's number its place gives the rest of its view.
 #[derive(Clone, Copy)]
-pub(crate) struct Survey<'a> {
-    pub(crate) book: Book<'a>,
+pub struct Survey<'a> {
+    pub book: Book<'a>,
     pub(crate) watch: [u64; PLACES],
     pub(crate) places: [usize; TABLE_LIMIT],
     pub(crate) ghost surveyed: { Surveyed book.bytes.now watch places },
@@ -27,7 +27,7 @@ impl<'a> Survey<'a> {
     ghost use Rattle.std.specs.Prelude.{◌≡◌, ◌<◌};
 
     // The places and fields of all tables of a book.
-    pub(crate) fn of(book: Book<'a>) -> Survey<'a>
+    pub fn of(book: Book<'a>) -> Survey<'a>
         ensures { result.book ≡ book.entry }
     {
         let mut watch = [0u64; PLACES];

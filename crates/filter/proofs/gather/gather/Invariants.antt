@@ -9,4 +9,4 @@ use Rattle.filter.proofs.Gathers.{mask_below}
 use Rattle.filter.proofs.gather.gather.Given as goal
 
 abbrev pub invariant-loop-f : goal.invariant-loop-f
-invariant-loop-f l = Filled (mask_below l.marks l.book.fields) places (put_mid 0 l.book.fields (replicate {A = ℕ} places 0) l.number-items) l.f
+invariant-loop-f l = Filled (mask_below l.marks l.k l.book.fields) places (put_mid 0 l.book.fields (replicate {A = ℕ} places 0) l.number-items) l.f

@@ -5,4 +5,4 @@ use Rattle.filter.proofs.revise.revise.Goals as goal
 pub returns : goal.returns
 returns c =
     revised c.args.column.table.stands c.args.column.within c.requires.field c.requires.codes c.args.field.few c.requires.marks c.looking-need.ensures
-    c.unsupported-left.ensures c.strike.ensures
+    c.find_rows.ensures c.strike.ensures
