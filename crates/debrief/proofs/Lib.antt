@@ -1,0 +1,2 @@
+mod Lists
+mod Turns
