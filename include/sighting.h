@@ -51,6 +51,7 @@
  *       24  the bytes are no short stored sheet of this book                     0
  *       25  the fields of the two books differ in their numbers of codes         0
  *       26  the joined book would break a limit of version 2                     0
+ *       27  the list of questions is none that may be asked                      0
  *
  * 1 to 13 have their place in the book that is refused. sighting_join is lent two, and neither number nor place tells which of them it
  * refuses: it is the first where sighting_read refuses that, by the same number and place, and else the second.
@@ -67,6 +68,8 @@
  * that is neither 0 nor 1. All of it comes before 14, whichever stands first in the bytes.
  * 25 looks for a field that has another number of codes in the second book, and for another number of fields.
  * 26 looks for more than 64 tables or more than 4,096 rows in the joined book; of two accepted books it can break no other limit.
+ * 27 looks for more than six questions, and for one that stands in the list before, that the book has no field for, that has an answer, or
+ * that is the target.
  * The first refusal in the order that a function's comment gives is the one returned.
  */
 #ifndef SIGHTING_H
@@ -204,6 +207,20 @@ uint64_t sighting_row(const uint8_t *sheet, const uint8_t *book, size_t book_len
  * Refusals: 1 to 13, 14, 23, 18 where out_len is below the number of fields, also where there is no reading to write.
  */
 uint64_t sighting_nearest(const uint8_t *sheet, const uint8_t *book, size_t book_len, uint8_t *out, size_t out_len, uint64_t *outcome);
+
+/*
+ * The debrief plan: the least number of questions, at most three, after which field `target` surely has at most one standing code
+ * (standing as sighting_filtered tells it for SIGHTING_NO_ANSWER). A question is one of the fields in `questions`, a byte each and at most
+ * six, chosen when the answers to those before it are known. The observer may answer with any code of that field that stands and, once it
+ * is entered, leaves no field of the book without a standing code; where there is no such code, that branch counts as settled. So k
+ * questions suffice where the target has at most one standing code, and also where k is above 0 and the list has a question with this: to
+ * whatever the observer may answer, k - 1 questions suffice behind it. The target may have an answer, and then needs no question; the list
+ * may be empty, and its order plays no part. Any number may be passed as target: one that is no field of the book is refused by 15.
+ *   outcome[3]  place, found (1, or 0 where three questions do not suffice), questions (the least number, 0 to 3; 0 where none was found)
+ * Refusals: 1 to 13, 14, 15, 27.
+ */
+uint64_t sighting_plan(const uint8_t *sheet, const uint8_t *book, size_t book_len, size_t target, const uint8_t *questions,
+                       size_t questions_len, uint64_t *outcome);
 
 /*
  * Loads a stored sheet, one byte for each field; none is photographed. What the sheet held before plays no part; a refused load makes it

@@ -8,10 +8,11 @@ use Rattle.std.specs.Prelude.{Option, Some, None, Result, Ok, Err}
 use Rattle.format.specs.Reading.{Outcome}
 use Rattle.book.specs.declared.refusals.Refusal.TheVariants as book
 use Rattle.book.specs.declared.refusals.Refusal.{Refusal}
+use Rattle.calls.specs.Calls.{number_counts}
 use Rattle.sheet.specs.Numbers.{number_of, place_of}
-use Rattle.sheet.specs.Shown.{Counts, shown, shown_listing, shown_row, shown_reading, counts_of_row, counts_of_reading}
+use Rattle.sheet.specs.Shown.{Counts, shown, shown_listing, shown_number, shown_reading, counts_of_reading}
 use Rattle.sheet.specs.declared.reasons.Reason.{Reason}
-use Rattle.sheet.specs.declared.reasons.Reason.TheVariants.{Book, Fault, Field, Code, NoAnswer, Room, Length, Table, Photographed, Readings, Form}
+use Rattle.sheet.specs.declared.reasons.Reason.TheVariants.{Book, Fault, Field, Code, NoAnswer, Room, Length, Table, Photographed, Readings, Form, Questions}
 use Rattle.sheet.specs.declared.handed.Alternatives.{Alternatives}
 use Rattle.sheet.specs.declared.handed.Suggestion.{Suggestion}
 
@@ -19,14 +20,14 @@ use Rattle.sheet.specs.declared.handed.Suggestion.{Suggestion}
 of_book : Refusal → ℕ → Reason
 of_book kind place = Book (record { kind = kind; place = place })
 
--- the reason of a number from 1 to 19 and from 21 to 24, with this place
+-- the reason of a number from 1 to 19, from 21 to 24, and of 27, with this place
 reason_of : ℕ → ℕ → Reason
 reason_of n place =
     get_or
     (Length ∷ of_book book.Length place ∷ of_book book.Closing place ∷ of_book book.Version place ∷ of_book book.FieldCount place
     ∷ of_book book.TableCount place ∷ of_book book.ListPlace place ∷ of_book book.CodeCount place ∷ of_book book.Short place
     ∷ of_book book.Arity place ∷ of_book book.FieldNumber place ∷ of_book book.Code place ∷ of_book book.RowCount place
-    ∷ of_book book.LeftOver place ∷ Fault place ∷ Field ∷ Code ∷ NoAnswer ∷ Room ∷ Length ∷ Length ∷ Table ∷ Photographed ∷ Readings ∷ Form ∷ [])
+    ∷ of_book book.LeftOver place ∷ Fault place ∷ Field ∷ Code ∷ NoAnswer ∷ Room ∷ Length ∷ Length ∷ Table ∷ Photographed ∷ Readings ∷ Form ∷ Length ∷ Length ∷ Questions ∷ [])
     n Length
 
 -- the book's kinds, by their numbers
@@ -60,6 +61,7 @@ numbered Table = (omega arith, refl)
 numbered Photographed = (omega arith, refl)
 numbered Readings = (omega arith, refl)
 numbered Form = (omega arith, refl)
+numbered Questions = (omega arith, refl)
 
 -- no refusal is shown as accepted
 pub number_some : (r : Reason) → 1 ≤ number_of r
@@ -95,15 +97,15 @@ pub shown_listing_injective : (x y : Result Alternatives Reason) → shown shown
 shown_listing_injective =
     shown_injective shown_listing (λ x y e. ap₂ (λ (t n : ℕ). record { total = t; struck = n }) (at 0 e) (at 1 e))
 
--- the answers of row
-row_tells : (x y : Option ℕ) → counts_of_row x ≡ counts_of_row y → x ≡ y
-row_tells (Some n) (Some n') e = ap Some (at 1 e)
-row_tells (Some n) None e = let d : ◌≡◌ {A = ℕ} 1 0 = at 0 e in absurd (omega arith)
-row_tells None (Some n) e = let d : ◌≡◌ {A = ℕ} 0 1 = at 0 e in absurd (omega arith)
-row_tells None None e = refl
+-- the answers of row and plan
+number_tells : (x y : Option ℕ) → number_counts x ≡ number_counts y → x ≡ y
+number_tells (Some n) (Some n') e = ap Some (at 1 e)
+number_tells (Some n) None e = let d : ◌≡◌ {A = ℕ} 1 0 = at 0 e in absurd (omega arith)
+number_tells None (Some n) e = let d : ◌≡◌ {A = ℕ} 0 1 = at 0 e in absurd (omega arith)
+number_tells None None e = refl
 
-pub shown_row_injective : (x y : Result (Option ℕ) Reason) → shown shown_row x ≡ shown shown_row y → x ≡ y
-shown_row_injective = shown_injective shown_row row_tells
+pub shown_number_injective : (x y : Result (Option ℕ) Reason) → shown shown_number x ≡ shown shown_number y → x ≡ y
+shown_number_injective = shown_injective shown_number number_tells
 
 -- the answers of nearest
 reading_tells : (x y : Option Suggestion) → counts_of_reading x ≡ counts_of_reading y → x ≡ y

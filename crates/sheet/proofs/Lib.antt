@@ -16,6 +16,7 @@ pub mod ListCases
 pub mod RowCases
 pub mod LoadCases
 pub mod NearestCases
+pub mod PlanCases
 pub mod Chunks
 pub mod Replays
 pub mod Replayed

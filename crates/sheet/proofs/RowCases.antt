@@ -10,27 +10,26 @@ use Rattle.format.specs.Reading.{pass, fail}
 use Rattle.book.specs.declared.view.Book.{Book}
 use Rattle.consistency.specs.Consistency.{Sheet, nth}
 use Rattle.consistency.specs.Rows.{RowFound, at_row, no_row, has_field, first_support}
-use Rattle.calls.specs.Calls.{turned, done, row_counts, row_behind}
+use Rattle.calls.specs.Calls.{turned, done, row_counts, number_counts, row_behind}
 use Rattle.filter.specs.declared.NoColumn.{NoColumn}
 use Rattle.filter.specs.Rows.{supporting, no_column, supporting_row}
-use Rattle.sheet.specs.Shown.{counts_of_row}
 use Rattle.sheet.specs.Opened.{code_test, opening}
 use Rattle.sheet.proofs.Openings.{on_ready, on_turned, IsOpen}
 use Rattle.sheet.proofs.Tests.{code_stop, code_go}
 use Rattle.sheet.proofs.CallCases.{of_bytes}
 
 -- a row's number and none are counted alike
-counted : (x : RowFound) → counts_of_row (supporting x) ≡ row_counts x
+counted : (x : RowFound) → number_counts (supporting x) ≡ row_counts x
 counted (at_row r) = refl
 counted no_row = refl
 
 module _ (s : Sheet) where
   -- a row, or none
   handed : (t : Bool) (x : RowFound) (r : Option ℕ) → Ok r ≡ pick t (Ok (supporting x)) (Err no_column)
-      → done (counts_of_row r) s [] ≡ pick t (done (row_counts x) s []) (turned 2 s [] 21 0)
+      → done (number_counts r) s [] ≡ pick t (done (row_counts x) s []) (turned 2 s [] 21 0)
   handed true x r e =
       let d : r ≡ supporting x = cc in
-      ap (λ (y : Option ℕ). done (counts_of_row y) s []) d ∙ ap (λ (counts : List ℕ). done counts s []) (counted x)
+      ap (λ (y : Option ℕ). done (number_counts y) s []) d ∙ ap (λ (counts : List ℕ). done counts s []) (counted x)
   handed false x r e = cc
 
   -- 21
@@ -62,7 +61,7 @@ module _ (bytes : List ℕ) (s : Sheet) (f c i : ℕ) where
           ∙ code_go (book_of bytes) f c (of_bytes o (λ b. code_test b f c) e) (turned 2 s []) _)
 
       -- a row, or none
-      pub row_behind_done : (x : Option ℕ) → Ok x ≡ supporting_row (book_of book.bytes.now) s.answers f c i → done (counts_of_row x) s [] ≡ row_behind bytes s f c i
+      pub row_behind_done : (x : Option ℕ) → Ok x ≡ supporting_row (book_of book.bytes.now) s.answers f c i → done (number_counts x) s [] ≡ row_behind bytes s f c i
       unfolding row_behind supporting_row
       row_behind_done x q =
           on_ready 2 bytes s [] _ o.passes _

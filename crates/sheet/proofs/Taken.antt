@@ -1,6 +1,6 @@
 -- The first elements of a list: a test of some of them, how many are answers, and the table of a list's values. Assumes nothing.
 use mathlib.Core.Path.{◌≡◌, refl, sym, ap, ap₂, ◌∙◌}
-use mathlib.Core.Bool.{Bool, true, false, beq, not, ◌||◌}
+use mathlib.Core.Bool.{Bool, true, false, beq, not}
 use mathlib.Core.List.{List, [], ◌∷◌, ◌++◌}
 use Prim.Native.Nat.{ℕ, zero, suc, ◌+◌, ◌≤◌}
 use native.Mathlib.Nat.{add-zero, zero-add}
@@ -8,9 +8,7 @@ use native.Mathlib.Numerals.{add-one}
 use native.Mathlib.Omega.{arith}
 use lib.Dec.{eqb}
 use lib.ListN.{length, get_or, take, drop, replicate}
-use lib.Seq.{take-suc}
 use Rattle.std.specs.List.{list_any, count_by}
-use Rattle.std.proofs.lemmas.List.Folds.{list_any-append}
 use Rattle.std.proofs.lemmas.List.Sums.{count_by_more_yes, count_by_more_no}
 use Rattle.format.specs.Basics.{pick}
 use Rattle.format.specs.Format.{book_of}
@@ -19,22 +17,21 @@ use Rattle.book.proofs.FieldList.{list_long, list_few}
 use Rattle.consistency.specs.Counting.{any_below, how_many, tabulate}
 use Rattle.consistency.specs.Consistency.{places, codes}
 use Rattle.consistency.specs.Counts.{answered}
+use Rattle.consistency.proofs.Booleans.{any_ext}
+use Rattle.consistency.proofs.Elements.{any_first}
 use Rattle.sheet.specs.Opened.{code_counts}
 
 next : (i k : ℕ) → suc i + k ≡ i + suc k
 next i k = omega arith
 
-itself : (x : Bool) → beq x true || false ≡ x
+itself : (x : Bool) → beq x true ≡ x
 itself true = refl
 itself false = refl
 
 -- some of the first n elements is true
 pub any_taken : (ps : List Bool) (n : ℕ) → n ≤ length ps → list_any (λ y. beq y true) (take n ps) ≡ any_below n (λ p. get_or ps p false)
-any_taken ps zero h = refl
-any_taken ps (suc n) h =
-    ap (list_any (λ y. beq y true)) (take-suc ps n false (omega arith))
-    ∙ list_any-append (λ y. beq y true) (take n ps) (get_or ps n false ∷ [])
-    ∙ ap₂ (λ (x y : Bool). x || y) (any_taken ps n (omega arith)) (itself (get_or ps n false))
+any_taken ps n h =
+    any_first (λ y. beq y true) ps false n h ∙ any_ext n (λ p. beq (get_or ps p false) true) (λ p. get_or ps p false) (λ p l. itself (get_or ps p false))
 
 -- so many of the first n elements are answers
 pub count_taken : (a : List ℕ) (n : ℕ) → n ≤ length a → count_by (λ x. not (eqb x 255)) (take n a) ≡ how_many n (answered a)

@@ -2,7 +2,7 @@
 use Rattle.std.specs.Prelude.{ℕ}
 use Rattle.book.specs.Numbers as book
 use Rattle.sheet.specs.declared.reasons.Reason.{Reason}
-use Rattle.sheet.specs.declared.reasons.Reason.TheVariants.{Book, Fault, Field, Code, NoAnswer, Room, Length, Table, Photographed, Readings, Form}
+use Rattle.sheet.specs.declared.reasons.Reason.TheVariants.{Book, Fault, Field, Code, NoAnswer, Room, Length, Table, Photographed, Readings, Form, Questions}
 
 -- the papers' number of each reason
 abbrev pub number_of : Reason → ℕ
@@ -17,6 +17,7 @@ number_of Table = 21
 number_of Photographed = 22
 number_of Readings = 23
 number_of Form = 24
+number_of Questions = 27
 
 -- the place of the book's refusal, or the first place at fault; the others speak of none
 abbrev pub place_of : Reason → ℕ

@@ -31,13 +31,9 @@ shown_nothing = record { many = 0; of = λ x. [] }
 abbrev pub shown_listing : Counts Alternatives
 shown_listing = record { many = 2; of = λ x. x.total ∷ x.struck ∷ [] }
 
--- row: 1 and the row's number, or 0 and 0 for none
-abbrev pub counts_of_row : Option ℕ → List ℕ
-counts_of_row (Some number) = 1 ∷ number ∷ []
-counts_of_row None = 0 ∷ 0 ∷ []
-
-abbrev pub shown_row : Counts (Option ℕ)
-shown_row = record { many = 2; of = counts_of_row }
+-- row: 1 and the row's number, or 0 and 0 for none; plan: the same with its number of questions
+abbrev pub shown_number : Counts (Option ℕ)
+shown_number = record { many = 2; of = calls.number_counts }
 
 -- nearest: 1, the number of differing fields and the bytes written; or 0, 0 and 0 for none
 abbrev pub counts_of_reading : Option Suggestion → List ℕ

@@ -1,13 +1,13 @@
-// The sheet and its calls. Document 01, "The sheet and its one pass" and "When a call is turned down"; document 02, M-104 to M-107.
+// The sheet and its calls. Document 01, "The sheet and its one pass" and "When a call is turned down"; document 02, M-104 to M-107 and M-110.
 #![tactic(auto)]
 
 ghost use Rattle.std.specs.Prelude.{◌≡◌, false, [], ℕ, ◌≤◌, get_or};
 ghost use Rattle.consistency.specs.Counting.{any_below, how_many};
 ghost use Rattle.consistency.specs.Consistency.{places, backed};
 ghost use Rattle.consistency.specs.Counts.{answered};
-ghost use Rattle.calls.specs.Calls.{fresh_sheet, replaces_backed, entered, withdrawn, photographed, cleared, filtered, alternatives, stored, loaded, row_behind, nearest_reading};
+ghost use Rattle.calls.specs.Calls.{fresh_sheet, replaces_backed, entered, withdrawn, photographed, cleared, filtered, alternatives, stored, loaded, row_behind, nearest_reading, debrief_plan};
 ghost use Rattle.calls.specs.Histories.{calls_in, sheet_after};
-ghost use Rattle.sheet.specs.Shown.{held_by, shown_nothing, shown_listing, shown_row, shown_reading, left, read_result, result_of, reply_of, first_answers};
+ghost use Rattle.sheet.specs.Shown.{held_by, shown_nothing, shown_listing, shown_number, shown_reading, left, read_result, result_of, reply_of, first_answers};
 ghost use Rattle.sheet.specs.Replayed.{Replayed};
 
 use book::{Book, NO_ANSWER, PLACES};
@@ -127,7 +127,7 @@ impl Sheet {
 
     // The row behind a code: the first row of a table that has the code in the field's column and only standing codes beside it, or none.
     pub fn row(self, book: &[u8], field: usize, code: usize, table: usize) -> Handed<Option<usize>>
-        ensures { result_of shown_row result [] ≡ row_behind book.now (held_by self) field code table }
+        ensures { result_of shown_number result [] ≡ row_behind book.now (held_by self) field code table }
     {
         Handed {
             answer: self.find_row(book, field, code, table),
@@ -141,6 +141,17 @@ impl Sheet {
     {
         Handed {
             answer: self.write_nearest(book, out),
+            sheet: self,
+        }
+    }
+
+    // The debrief plan: the least number of questions of the list after which the target surely has at most one standing code; none where
+    // three do not do.
+    pub fn plan(self, book: &[u8], target: usize, questions: &[u8]) -> Handed<Option<usize>>
+        ensures { result_of shown_number result [] ≡ debrief_plan book.now (held_by self) target questions.now }
+    {
+        Handed {
+            answer: self.find_plan(book, target, questions),
             sheet: self,
         }
     }
@@ -263,7 +274,7 @@ impl Sheet {
         code: usize,
         table: usize,
     ) -> Result<Option<usize>, Reason>
-        ensures { left shown_row result (held_by self.now) [] ≡ row_behind bytes.now (held_by self.now) field code table }
+        ensures { left shown_number result (held_by self.now) [] ≡ row_behind bytes.now (held_by self.now) field code table }
     {
         let book = self.open(bytes)?;
         has_code(book, field, code)?;
@@ -289,6 +300,21 @@ impl Sheet {
             differing: found.differing,
             written: book.fields,
         }))
+    }
+
+    fn find_plan(
+        &self,
+        bytes: &[u8],
+        target: usize,
+        questions: &[u8],
+    ) -> Result<Option<usize>, Reason>
+        ensures { left shown_number result (held_by self.now) [] ≡ debrief_plan bytes.now (held_by self.now) target questions.now }
+    {
+        let book = self.open(bytes)?;
+        if book.fields <= target {
+            return Err(Reason::Field);
+        }
+        Ok(debrief::plan(book, &self.answers, target, questions)?)
     }
 
     fn write_stored(&self, bytes: &[u8], out: &mut [u8]) -> Result<(), Reason>

@@ -48,7 +48,7 @@ fn code_counts(book: Book<'_>) -> [u8; PLACES]
 }
 
 // 15, no such field; 16, no such code.
-// (d) 15 is tested here and in `has_answer`: a function for one test, with its promise, is longer than the two.
+// (d) 15 is tested here, in `has_answer` and for `plan`: a function for one test, with its promise, is longer than the three.
 pub(crate) fn has_code(book: Book<'_>, field: usize, code: usize) -> Result<(), Reason>
     ensures verdict { verdict_of result ≡ code_test (book_of book.entry.bytes.now) field code }
     ensures field { OnOk result (field < places) }

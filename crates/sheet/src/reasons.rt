@@ -1,12 +1,13 @@
 // Why a call on a sheet is turned down: the papers' number of each reason, and the place that it speaks of.
 ghost use Rattle.std.specs.Prelude.{◌≡◌};
 ghost use Rattle.sheet.specs.Numbers.{number_of, place_of};
-ghost use Rattle.sheet.specs.declared.reasons.Reason.TheVariants.{Book, Room, Table};
+ghost use Rattle.sheet.specs.declared.reasons.Reason.TheVariants.{Book, Room, Table, Questions};
 
 use book::{NoRoom, Refused, Refuses};
+use debrief::BadList;
 use filter::NoColumn;
 
-// The reader's refusal of the book, 14 with the first place at fault, 15 to 19, or 21 to 24.
+// The reader's refusal of the book, 14 with the first place at fault, 15 to 19, 21 to 24, or 27.
 #[derive(Clone, Copy, PartialEq, Eq)]
 pub enum Reason {
     Book(Refused),
@@ -20,6 +21,7 @@ pub enum Reason {
     Photographed,
     Readings,
     Form,
+    Questions,
 }
 
 impl From<Refused> for Reason {
@@ -48,6 +50,15 @@ impl From<NoColumn> for Reason {
     }
 }
 
+// 27: no such list of questions may be asked.
+impl From<BadList> for Reason {
+    ghost from_gives = { λ _ reason. reason ≡ Questions };
+
+    fn from(_none: BadList) -> Self {
+        Self::Questions
+    }
+}
+
 impl Refuses for Reason {
     ghost number_of = { number_of };
 
@@ -66,6 +77,7 @@ impl Refuses for Reason {
             Reason::Photographed => 22,
             Reason::Readings => 23,
             Reason::Form => 24,
+            Reason::Questions => 27,
         }
     }
 

@@ -1,6 +1,6 @@
 // What a call answers and the sheet that it hands back, put where the caller lent room for them.
 ghost use Rattle.std.specs.Prelude.{◌≡◌, ◌-◌, ◌<◌, List, [], ◌∷◌, ℕ};
-ghost use Rattle.sheet.specs.Shown.{shown_nothing, shown_listing, shown_row, shown_reading, result_of};
+ghost use Rattle.sheet.specs.Shown.{shown_nothing, shown_listing, shown_number, shown_reading, result_of};
 ghost use Rattle.sighting.specs.Exported.{Tells, Changes, Makes};
 ghost use Rattle.sighting.specs.Told.{told, handed_by};
 
@@ -43,13 +43,13 @@ impl Cells<3> for Alternatives {
     }
 }
 
-// Whether there is a row, and its number.
+// Whether there is a row, and its number; or whether there is a plan, and its number of questions.
 impl Cells<3> for Option<usize> {
-    ghost counts = { shown_row.of };
+    ghost counts = { shown_number.of };
 
     fn cells(self) -> [u64; 3] {
         match self {
-            Some(row) => [0, 1, row as u64],
+            Some(number) => [0, 1, number as u64],
             None => [0, 0, 0],
         }
     }

@@ -12,7 +12,7 @@ ghost use Rattle.format.specs.Reading.{reading};
 ghost use Rattle.format.specs.Writing.{into, showing, writing};
 ghost use Rattle.format.specs.WriteAndShow.{HasListing};
 ghost use Rattle.format.specs.Joining as model;
-ghost use Rattle.calls.specs.Calls.{fresh_sheet, cleared, entered, withdrawn, photographed, filtered, alternatives, loaded, stored, row_behind, nearest_reading};
+ghost use Rattle.calls.specs.Calls.{fresh_sheet, cleared, entered, withdrawn, photographed, filtered, alternatives, loaded, stored, row_behind, nearest_reading, debrief_plan};
 ghost use Rattle.calls.specs.Short.{loaded_short, stored_short, shortened, lengthened};
 ghost use Rattle.calls.specs.Histories.{sheet_after, calls_in};
 ghost use Rattle.report.specs.Text.{report_text};
@@ -172,6 +172,21 @@ pub extern "C" fn sighting_nearest(
 {
     let given = held(*sheet);
     tell(given.nearest(book, out).answer, outcome)
+}
+
+// The least number of questions of a list that settle a target. Cells: place, found, questions.
+#[unsafe(no_mangle)]
+pub extern "C" fn sighting_plan(
+    sheet: &[u8; SHEET_BYTES],
+    book: &[u8],
+    target: usize,
+    questions: &[u8],
+    outcome: &mut [u64; 3],
+) -> u64
+    ensures { Exports result outcome.new sheet.now [] (debrief_plan book.now (sheet_in sheet.now) target questions.now) }
+{
+    let given = held(*sheet);
+    tell(given.plan(book, target, questions).answer, outcome)
 }
 
 // Reads the stored form of a sheet; a refusal leaves a fresh one. Cells: place.
