@@ -11,6 +11,7 @@ pub(crate) enum Line {
     Listed(Alternatives),
     Row(Option<usize>),
     Reading(Option<Suggestion>),
+    Questions(Option<usize>),
     Written(usize),
     Refused { number: u64, place: usize },
     TooShort,
@@ -35,6 +36,8 @@ impl fmt::Display for Line {
             Line::Reading(Some(Suggestion { differing, written })) => {
                 write!(f, "reading {differing} {written}")
             }
+            Line::Questions(None) => write!(f, "no plan"),
+            Line::Questions(Some(number)) => write!(f, "questions {number}"),
             Line::Written(size) => write!(f, "written {size}"),
             Line::Refused { number, place } => write!(f, "refused {number} {place}"),
             Line::TooShort => write!(f, "too short"),

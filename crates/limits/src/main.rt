@@ -151,6 +151,21 @@ fn try_fresh(rt: &HostRuntime) -> io::Result<()> {
     Ok(())
 }
 
+// A plan for the last of eight fields of two codes, without a table: so many of the others may be asked, and none tells of it.
+fn try_plans(rt: &HostRuntime) -> io::Result<()> {
+    let book = Written::new(Shape {
+        fields: 8,
+        codes: 2,
+        ..Shape::LEAST
+    });
+    let others = [0, 1, 2, 3, 4, 5, 6];
+    for listed in [6, 7] {
+        let plan = Sheet::fresh().plan(book.bytes(), 7, first(&others, listed));
+        say(rt, "questions", listed, plan.answer.map(Line::Questions))?;
+    }
+    Ok(())
+}
+
 // Joining two books on other sets of fields. The first has 57 tables and 3,648 rows, so that 7 tables and 448 rows are left to the second;
 // with both the joined book is the longest.
 fn try_joined(rt: &HostRuntime) -> io::Result<()> {
@@ -199,6 +214,7 @@ fn main(rt: HostRuntime) -> io::Result<()> {
     try_stored(rt, widest)?;
     try_held(rt, widest, sheet::load(widest, &form).sheet)?;
     try_fresh(rt)?;
+    try_plans(rt)?;
     try_joined(rt)?;
     try_text(rt, widest, &form)
 }
