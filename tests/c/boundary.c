@@ -32,6 +32,9 @@ static const uint8_t each_pair_differs[] = {2, 0, 1, 2, 0, 0, 1, 1, 0, 2, 0, 2, 
 /* A book of E1's fields: fields 1 and 2 with three rows, then field 0 with two. Last come the numbers of codes and the trailer. */
 static const uint8_t other_block[] = {2, 1, 2, 3, 0, 2, 2, 1, 1, 2, 1, 1, 0, 2, 0, 1, 0, 2, 3, 3, 17, 0, 3, 2, 2, 0xE5};
 
+/* A list of questions: the only open field of the sheets above. */
+static const uint8_t open_field[] = {2};
+
 static int differences = 0;
 
 static void expect(const char *what, uint64_t expected, uint64_t got) {
@@ -65,6 +68,9 @@ static void wide_numbers(void) {
     expect("row of table 256", 21, sighting_row(sheet, book, sizeof book, 2, 1, 256, found));
     expect("row of table 2^32", 21, sighting_row(sheet, book, sizeof book, 2, 1, (size_t)1 << 32, found));
     expect("row of SIZE_MAX alone", 15, sighting_row(sheet, book, sizeof book, SIZE_MAX, SIZE_MAX, SIZE_MAX, found));
+    expect("plan for field 256", 15, sighting_plan(sheet, book, sizeof book, 256, open_field, 1, found));
+    expect("plan for field 2^32", 15, sighting_plan(sheet, book, sizeof book, (size_t)1 << 32, open_field, 1, found));
+    expect("plan for field SIZE_MAX", 15, sighting_plan(sheet, book, sizeof book, SIZE_MAX, open_field, 1, found));
     expect_sheet("the sheet stays", answered, sheet);
 }
 
@@ -80,6 +86,8 @@ static void read_only_sheet(void) {
     expect("the row", 1, found[2]);
     expect("nearest", 0, sighting_nearest(answered, book, sizeof book, stored, sizeof stored, reading));
     expect("the last code of the reading", 1, stored[2]);
+    expect("plan", 0, sighting_plan(answered, book, sizeof book, 0, open_field, 1, found));
+    expect("no question for an answered field", 1, found[1]);
     expect("store", 0, sighting_store(answered, book, sizeof book, stored, sizeof stored, place));
     expect("stored form", 0, (uint64_t)(memcmp(stored, form, sizeof form) != 0));
     expect("store in the short form", 0, sighting_store_short(answered, book, sizeof book, stored, sizeof stored, written));
@@ -330,6 +338,64 @@ static void refused_nearest(void) {
     expect("differing by a refusal", 0, cells[2]);
     expect("written by a refusal", 0, cells[3]);
     expect("the byte lent", 7, out[0]);
+}
+
+/* Asks a sheet of a book of three fields for a plan. All three cells are written, and none beside them. */
+static void ask_plan(const char *what, const uint8_t *sheet, const uint8_t *bytes, size_t length, size_t target,
+                     const uint8_t *questions, size_t questions_len, uint64_t number, uint64_t found, uint64_t least) {
+    uint64_t cells[5] = {7, 7, 7, 7, 7};
+    expect(what, number, sighting_plan(sheet, bytes, length, target, questions, questions_len, cells + 1));
+    expect("its place", 0, cells[1]);
+    expect("whether there is a plan", found, cells[2]);
+    expect("its questions", least, cells[3]);
+    expect("the cell before", 7, cells[0]);
+    expect("the cell behind", 7, cells[4]);
+}
+
+/* No question, one, two and none, by E1 and by E4: there whatever is answered to field 0 leaves a field empty, so that one is enough. */
+static void plan_outcome(void) {
+    static const uint8_t questions[] = {0, 1, 2, 1};
+    uint8_t fresh[SIGHTING_SHEET_BYTES], given[SIGHTING_SHEET_BYTES];
+    sighting_fresh(fresh);
+    memcpy(given, fresh, sizeof given);
+    ask_plan("field 0 by field 2", fresh, book, sizeof book, 0, questions + 2, 1, 0, 1, 1);
+    ask_plan("field 0 by field 1", fresh, book, sizeof book, 0, questions + 1, 1, 0, 0, 0);
+    ask_plan("field 0 by fields 1 and 2", fresh, book, sizeof book, 0, questions + 1, 2, 0, 1, 1);
+    ask_plan("field 2 by fields 0 and 1", fresh, book, sizeof book, 2, questions, 2, 0, 1, 2);
+    ask_plan("field 2 by fields 1 and 0", fresh, book, sizeof book, 2, (const uint8_t[]){1, 0}, 2, 0, 1, 2);
+    ask_plan("field 0 by no list", fresh, book, sizeof book, 0, questions, 0, 0, 0, 0);
+    expect_sheet("the sheet stays byte for byte", given, fresh);
+    ask_plan("an answered field", answered, book, sizeof book, 0, open_field, 1, 0, 1, 0);
+    ask_plan("an answered field by no list", answered, book, sizeof book, 1, open_field, 0, 0, 1, 0);
+    ask_plan("a field with one code left", answered, book, sizeof book, 2, open_field, 0, 0, 1, 0);
+    contradictory(given, 1, 0);
+    ask_plan("a field without a code", given, book, sizeof book, 2, open_field, 0, 0, 1, 0);
+    ask_plan("no code to answer", fresh, each_pair_differs, sizeof each_pair_differs, 1, questions, 1, 0, 1, 1);
+    ask_plan("none by no list", fresh, each_pair_differs, sizeof each_pair_differs, 1, questions, 0, 0, 0, 0);
+}
+
+/* 27 for each list that may not be asked, behind 15 for the target, 14 and the book's own. */
+static void refused_plans(void) {
+    static const uint8_t many[] = {1, 2, 1, 2, 1, 2, 1};
+    uint8_t sheet[SIGHTING_SHEET_BYTES];
+    uint64_t cells[3] = {7, 7, 7};
+    sighting_fresh(sheet);
+    ask_plan("seven questions", sheet, book, sizeof book, 0, many, 7, 27, 0, 0);
+    ask_plan("a question that comes again", sheet, book, sizeof book, 0, many, 3, 27, 0, 0);
+    ask_plan("two questions", sheet, book, sizeof book, 0, many, 2, 0, 1, 1);
+    ask_plan("a question behind the fields", sheet, book, sizeof book, 0, (const uint8_t[]){2, 3}, 2, 27, 0, 0);
+    ask_plan("question 255", sheet, book, sizeof book, 0, (const uint8_t[]){255}, 1, 27, 0, 0);
+    ask_plan("an answered question", answered, book, sizeof book, 2, (const uint8_t[]){1}, 1, 27, 0, 0);
+    ask_plan("the target itself", sheet, book, sizeof book, 1, many, 1, 27, 0, 0);
+    ask_plan("no such target", sheet, book, sizeof book, 3, many, 2, 15, 0, 0);
+    ask_plan("no such target by seven questions", sheet, book, sizeof book, 3, many, 7, 15, 0, 0);
+    sheet[59] = 0;
+    expect("a sheet at fault", 14, sighting_plan(sheet, book, sizeof book, 3, many, 7, cells));
+    expect("place of 14", 59, cells[0]);
+    expect("a plan by no book", 2, sighting_plan(sheet, book, sizeof book - 1, 3, many, 7, cells));
+    expect("place of 2", 33, cells[0]);
+    expect("found by a refusal", 0, cells[1]);
+    expect("questions of a refusal", 0, cells[2]);
 }
 
 /*
@@ -658,6 +724,40 @@ static void sixty_fields(void) {
     expect("withdraw it again", 17, sighting_withdraw(sheet, bytes, length, 59, place));
 }
 
+/*
+ * 60 fields, and one table on the last four: field 59 has a code for each three codes of the three before it. So it takes three questions,
+ * which may stand last in a list of six; two are not enough, and seven are refused.
+ */
+static void most_questions(void) {
+    static const uint8_t questions[] = {53, 54, 55, 56, 57, 58, 52}, head[] = {4, 56, 57, 58, 59, 8, 0};
+    uint8_t bytes[7 + 4 * 8 + 66], sheet[SIGHTING_SHEET_BYTES];
+    uint64_t cells[3] = {7, 7, 7};
+    size_t length = sizeof head + 4 * 8;
+    memcpy(bytes, head, sizeof head);
+    for (size_t row = 0; row < 8; row++) {
+        const size_t codes[] = {row / 4, row / 2 % 2, row % 2, row};
+        for (size_t i = 0; i < 4; i++) bytes[sizeof head + 4 * row + i] = (uint8_t)codes[i];
+    }
+    sixty(bytes + length);
+    memset(bytes + length, 2, 59);
+    bytes[length + 60] = (uint8_t)length;
+    bytes[length + 63] = 1;
+    length += 66;
+    sighting_fresh(sheet);
+    expect("six questions", 0, sighting_plan(sheet, bytes, length, 59, questions, 6, cells));
+    expect("they are enough", 1, cells[1]);
+    expect("three of them", 3, cells[2]);
+    expect("seven questions", 27, sighting_plan(sheet, bytes, length, 59, questions, 7, cells));
+    expect("place of 27", 0, cells[0]);
+    expect("five questions", 0, sighting_plan(sheet, bytes, length, 59, questions, 5, cells));
+    expect("they are not enough", 0, cells[1]);
+    expect("field 60", 15, sighting_plan(sheet, bytes, length, 60, questions, 6, cells));
+    sheet[57] = 1;
+    expect("two questions", 0, sighting_plan(sheet, bytes, length, 59, (const uint8_t[]){58, 56}, 2, cells));
+    expect("both of them", 2, cells[2]);
+    expect("question 57", 27, sighting_plan(sheet, bytes, length, 59, (const uint8_t[]){58, 57}, 2, cells));
+}
+
 /* All fields photographed one after the other: what is struck is less by a case each time, and in the end there is no line. */
 static void sixty_photographs(void) {
     uint8_t bytes[66], sheet[SIGHTING_SHEET_BYTES], given[SIGHTING_SHEET_BYTES];
@@ -945,6 +1045,8 @@ int main(void) {
     last_row();
     nearest_outcome();
     refused_nearest();
+    plan_outcome();
+    refused_plans();
     short_sheets();
     short_bytes_of_photographs();
     refused_short_sheets();
@@ -952,6 +1054,7 @@ int main(void) {
     short_by_no_book();
     report_outcome();
     most_readings();
+    most_questions();
     sixty_fields();
     sixty_photographs();
     sixty_places();

@@ -1,12 +1,14 @@
 /*
  * Prints the alternatives of example E1, the row that keeps the open code, what a photograph of field 0 leaves in doubt, the nearest full
- * reading to answers that contradict each other, and the sheet in the short stored form.
+ * reading to answers that contradict each other, the sheet in the short stored form, and how many questions settle a field of a cleared
+ * sheet.
  */
 #include <sighting.h>
 #include <stdio.h>
 
 static const uint8_t book[] = {2, 0, 2, 4, 0, 0, 0, 0, 1, 1, 2, 0, 1, 2, 1, 2, 4, 0, 0, 0,
                                1, 1, 1, 2, 2, 2, 2, 3, 3, 0x1A, 0, 3, 2, 1, 0xE5};
+static const uint8_t questions[] = {0, 1};
 
 int main(void) {
     uint8_t sheet[SIGHTING_SHEET_BYTES], pairs[SIGHTING_PAIRS_BYTES], codes[SIGHTING_STORED_BYTES], stored[SIGHTING_SHORT_BYTES];
@@ -29,5 +31,8 @@ int main(void) {
     printf("stored in %d bytes:", (int)written[1]);
     for (size_t i = 0; i < written[1]; i++) printf(" %d", stored[i]);
     printf("\n");
+    sighting_clear(sheet);
+    if (sighting_plan(sheet, book, sizeof book, 2, questions, sizeof questions, found) != 0) return 1;
+    if (found[1] == 1) printf("field 2 by fields 0 and 1: %d questions\n", (int)found[2]);
     return 0;
 }

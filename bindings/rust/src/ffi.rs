@@ -41,6 +41,15 @@ extern "C" {
         out_len: usize,
         outcome: *mut u64,
     ) -> u64;
+    pub fn sighting_plan(
+        sheet: *const u8,
+        book: *const u8,
+        book_len: usize,
+        target: usize,
+        questions: *const u8,
+        questions_len: usize,
+        outcome: *mut u64,
+    ) -> u64;
     pub fn sighting_load(
         sheet: *mut u8,
         book: *const u8,

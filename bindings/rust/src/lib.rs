@@ -3,7 +3,7 @@
 //! A book is a slice of bytes, checked in every call; a [`Sheet`] holds the answers, and which of them a photograph backs. Nothing is
 //! taken from the heap: results go to buffers that the caller lends; [`PAIRS_BYTES`], [`NUMBERS`], [`STORED_BYTES`], [`SHORT_BYTES`],
 //! [`REPORT_BYTES`], [`LISTING_NUMBERS`] and [`BOOK_BYTES`] suffice for every book, sheet and listing. A refused call changes neither
-//! the sheet nor a buffer. Any number may be passed as a field, a code or a table: one that is none is refused.
+//! the sheet nor a buffer. Any number may be passed as a field, a code, a table or a target: one that is none is refused.
 //!
 //! The book below has three fields, of 2, 3 and 3 codes, and two tables. With field 0 answered by 0 and field 1 by 1, code 1 of
 //! field 2 stands, and each answer has an alternative beside itself.
@@ -81,6 +81,31 @@
 //!     2, 2, 2, 27, 0, 3, 3, 1, 0xE5, // two codes each
 //! ];
 //! assert_eq!(Sheet::fresh().nearest(&each_pair_differs, &mut reading)?, None); // though every code stands
+//! # Ok(())
+//! # }
+//! ```
+//!
+//! After landing the next question is chosen, and the observer answers. The debrief plan tells how many questions it takes at most until a
+//! field surely has at most one standing code:
+//!
+//! ```
+//! use sighting::Sheet;
+//!
+//! # fn main() -> Result<(), sighting::Refusal> {
+//! # let book = [
+//! #     2, 0, 2, 4, 0, 0, 0, 0, 1, 1, 2, 0, 1, 2, 1, 2, 4, 0, 0, 0, 1, 1, 1, 2, 2, 2, 2, 3, 3, 0x1A, 0, 3, 2, 1, 0xE5,
+//! # ];
+//! let mut sheet = Sheet::fresh();
+//! assert_eq!(sheet.plan(&book, 0, &[2])?, Some(1)); // by the same book: each code of field 2 goes with one of field 0
+//! assert_eq!(sheet.plan(&book, 0, &[1])?, None); // code 1 of field 1 goes with both
+//! assert_eq!(sheet.plan(&book, 2, &[0, 1])?, Some(2)); // field 2 takes both others
+//!
+//! sheet.enter(&book, 0, 0)?;
+//! assert_eq!(sheet.plan(&book, 2, &[1])?, Some(1)); // one of them is answered now
+//! assert_eq!(sheet.plan(&book, 0, &[])?, Some(0)); // and has one standing code
+//!
+//! let answered = sheet.plan(&book, 2, &[0, 1]).unwrap_err();
+//! assert_eq!(answered.to_string(), "refused 27 at 0: the list of questions is none that may be asked");
 //! # Ok(())
 //! # }
 //! ```
@@ -510,6 +535,29 @@ impl Sheet {
         };
         let [place, found, differing, written] = cells;
         answer(number, place, (found == 1).then_some(Nearest { differing, written }))
+    }
+
+    /// The debrief plan: the least number of questions, 0 to 3, after which the target surely has at most one standing code; or `None`
+    /// where three do not suffice. A question is one of these fields, at most six, chosen when the answers to those before it are known.
+    /// The observer may answer with any code of the field that stands and, once it is entered, leaves no field of the book without a
+    /// standing code; where there is no such code, that branch counts as settled. The target may have an answer, and then needs no
+    /// question; the list may be empty. Refusals: 1 to 13, 14, 15 for the target, and 27 for more than six questions, one that comes
+    /// again, the target among them, or one that is no field of the book or has an answer.
+    pub fn plan(&self, book: &[u8], target: usize, questions: &[u8]) -> Result<Option<u64>, Refusal> {
+        let mut cells = [0; 3];
+        let number = unsafe {
+            ffi::sighting_plan(
+                self.0.as_ptr(),
+                book.as_ptr(),
+                book.len(),
+                target,
+                questions.as_ptr(),
+                questions.len(),
+                cells.as_mut_ptr(),
+            )
+        };
+        let [place, found, least] = cells;
+        answer(number, place, (found == 1).then_some(least))
     }
 
     /// Loads a stored sheet, one byte for each field of the book; none is photographed. Refusals: 1 to 13, 19, 14.

@@ -26,6 +26,7 @@ const NO_STORED_SHEET: Refusal = Refusal { number: 19, place: 0 };
 const NO_SHORT_SHEET: Refusal = Refusal { number: 24, place: 0 };
 const OTHER_CODES: Refusal = Refusal { number: 25, place: 0 };
 const TOO_MUCH: Refusal = Refusal { number: 26, place: 0 };
+const NO_LIST: Refusal = Refusal { number: 27, place: 0 };
 
 /// E1's sheet: field 0 answered by 0 and field 1 by 1.
 fn answered() -> Sheet {
@@ -58,6 +59,7 @@ fn numbers_that_no_byte_holds_are_refused() {
         assert_eq!(sheet.row(&BOOK, above, 0, 0), Err(NO_FIELD), "field {above}");
         assert_eq!(sheet.row(&BOOK, 0, above, 0), Err(NO_CODE), "code {above}");
         assert_eq!(sheet.row(&BOOK, 0, 0, above), Err(NO_TABLE), "table {above}");
+        assert_eq!(sheet.plan(&BOOK, above, &[2]), Err(NO_FIELD), "target {above}");
         assert_eq!(sheet, answered());
     }
 }
@@ -70,6 +72,7 @@ fn several_readers_share_a_sheet() {
         assert_eq!(sheet.filtered(&BOOK, Some(0), &mut numbers), Ok(()));
         assert_eq!(sheet.row(&BOOK, 2, 1, 0), Ok(Some(1)));
         assert_eq!(sheet.nearest(&BOOK, &mut form), Ok(Some(Nearest { differing: 0, written: 3 })));
+        assert_eq!(sheet.plan(&BOOK, 0, &[2]), Ok(Some(0)));
         assert_eq!(sheet.store(&BOOK, &mut form), Ok(()));
         assert_eq!((numbers[0], &form[..3]), (0b11, &[0, 1, NO_ANSWER][..]));
         assert_eq!((sheet.store_short(&BOOK, &mut form), &form[..8]), (Ok(8), &[0, 0, 0, 1, 1, 0, 2, 3][..]));
@@ -219,6 +222,48 @@ fn too_many_readings() {
     assert_eq!(out, [31, 30, 0, 1, 7]);
     assert_eq!(sheet.nearest(&book(3), &mut out), Err(TOO_MANY_READINGS));
     assert_eq!((sheet.nearest(&book(3), &mut []), out), (Err(TOO_MANY_READINGS), [31, 30, 0, 1, 7]));
+}
+
+/// Zero questions are a number and not none; none is no refusal.
+#[test]
+fn a_number_of_questions_or_none() {
+    let fresh = Sheet::fresh();
+    assert_eq!((fresh.plan(&BOOK, 0, &[2]), fresh.plan(&BOOK, 0, &[1])), (Ok(Some(1)), Ok(None)));
+    assert_eq!((fresh.plan(&BOOK, 2, &[0, 1]), fresh.plan(&BOOK, 2, &[1, 0])), (Ok(Some(2)), Ok(Some(2))));
+    assert_eq!((fresh.plan(&BOOK, 0, &[]), answered().plan(&BOOK, 0, &[])), (Ok(None), Ok(Some(0))));
+    assert_eq!((answered().plan(&BOOK, 2, &[]), photographed().plan(&BOOK, 1, &[2])), (Ok(Some(0)), Ok(Some(0))));
+}
+
+/// Each pair of three fields of two codes differs, so that each code stands and leaves a field empty: no answer can be given.
+#[test]
+fn a_question_without_an_answer_settles() {
+    let pair = |f, g| [2, f, g, 2, 0, 0, 1, 1, 0];
+    let book = [&pair(0, 1)[..], &pair(0, 2), &pair(1, 2), &[2, 2, 2, 27, 0, 3, 3, 1, 0xE5]].concat();
+    let plan = |questions: &[u8]| Sheet::fresh().plan(&book, 1, questions);
+    assert_eq!((plan(&[0]), plan(&[2]), plan(&[2, 0]), plan(&[])), (Ok(Some(1)), Ok(Some(1)), Ok(Some(1)), Ok(None)));
+}
+
+/// The refusals of a list, and each before the next one in the call's order.
+#[test]
+fn lists_that_may_not_be_asked() {
+    let fresh = Sheet::fresh();
+    for questions in [&[1, 2, 1][..], &[2, 2], &[3], &[2, 255], &[0], &[2, 0], &[1, 2, 1, 2, 1, 2, 1], &[7; 300]] {
+        assert_eq!(fresh.plan(&BOOK, 0, questions), Err(NO_LIST), "{questions:?}");
+        assert_eq!(fresh.plan(&BOOK, 3, questions), Err(NO_FIELD), "{questions:?}");
+        assert_eq!(faulty().plan(&BOOK, 3, questions), Err(Refusal { number: 14, place: 0 }), "{questions:?}");
+        assert_eq!(faulty().plan(&BOOK[..34], 3, questions), Err(Refusal { number: 2, place: 33 }), "{questions:?}");
+    }
+    assert_eq!((answered().plan(&BOOK, 2, &[1]), answered().plan(&BOOK, 0, &[1])), (Err(NO_LIST), Err(NO_LIST)));
+}
+
+/// Six questions of seven fields of two codes, of which the last three tell the target's eight. The order plays no part.
+#[test]
+fn the_longest_list_of_questions() {
+    let rows: Vec<u8> = (0..8).flat_map(|row| [row / 4, row / 2 % 2, row % 2, row]).collect();
+    let book = [&[4, 4, 5, 6, 7, 8, 0][..], &rows, &[2, 2, 2, 2, 2, 2, 2, 8, 39, 0, 8, 1, 1, 0xE5]].concat();
+    let plan = |questions: &[u8]| Sheet::fresh().plan(&book, 7, questions);
+    assert_eq!((plan(&[1, 2, 3, 4, 5, 6]), plan(&[6, 3, 4, 2, 5, 1])), (Ok(Some(3)), Ok(Some(3))));
+    assert_eq!((plan(&[1, 2, 3, 4, 5]), plan(&[0, 1, 2, 3, 4, 5, 6])), (Ok(None), Err(NO_LIST)));
 }
 
 #[test]

@@ -82,7 +82,7 @@ fn flawed(r: &mut Random, book: &Book, sheet: &Sheet) -> Pointed {
 }
 
 /// No number below the count: the next ones, the ends of a byte, the largest, or one that is equal to this number in its low bits.
-fn beyond(r: &mut Random, number: usize, count: usize) -> usize {
+pub fn beyond(r: &mut Random, number: usize, count: usize) -> usize {
     let low = [8, 16, 16, 32, 32, 63].map(|bit| number + (1 << bit));
     match r.from(0, 9) {
         0..=1 => count,

@@ -16,6 +16,7 @@ pub enum Call {
     Alternatives,
     Row { field: usize, code: usize, table: usize },
     Nearest,
+    Plan { target: usize, questions: Vec<u8> },
     Load { form: Vec<u8> },
     Store,
     LoadShort { form: Vec<u8> },
@@ -31,7 +32,7 @@ pub enum Call {
 
 /// The calls that are given a sheet with answers.
 pub const OF_A_SHEET: &[&str] =
-    &["enter", "withdraw", "photograph", "filtered", "alternatives", "row", "nearest", "store", "store_short"];
+    &["enter", "withdraw", "photograph", "filtered", "alternatives", "row", "nearest", "plan", "store", "store_short"];
 
 /// Those of them that hand it back changed, or as it was given.
 pub const CHANGING: &[&str] = &["enter", "withdraw", "photograph"];
@@ -40,7 +41,7 @@ pub const CHANGING: &[&str] = &["enter", "withdraw", "photograph"];
 pub const MAKING: &[&str] = &["fresh", "clear", "load", "load_short", "replay"];
 
 /// The calls that are given a field.
-pub const OF_A_FIELD: &[&str] = &["enter", "withdraw", "photograph", "filtered", "row"];
+pub const OF_A_FIELD: &[&str] = &["enter", "withdraw", "photograph", "filtered", "row", "plan"];
 
 /// The calls that are given a code of it.
 pub const OF_A_CODE: &[&str] = &["enter", "row"];
@@ -55,6 +56,7 @@ pub const TELLING: &[&str] = &[
     "alternatives",
     "row",
     "nearest",
+    "plan",
     "load",
     "store",
     "load_short",
@@ -108,6 +110,7 @@ impl Call {
             Call::Alternatives => "alternatives",
             Call::Row { .. } => "row",
             Call::Nearest => "nearest",
+            Call::Plan { .. } => "plan",
             Call::Load { .. } => "load",
             Call::Store => "store",
             Call::LoadShort { .. } => "load_short",
@@ -128,7 +131,7 @@ impl Call {
             Call::Fresh | Call::Clear => 0,
             Call::Read => 5,
             Call::Nearest => 4,
-            Call::Alternatives | Call::Row { .. } | Call::Replay { .. } => 3,
+            Call::Alternatives | Call::Row { .. } | Call::Plan { .. } | Call::Replay { .. } => 3,
             Call::StoreShort | Call::Shorten { .. } | Call::Lengthen { .. } => 2,
             Call::Join { .. } | Call::Report { .. } | Call::Show | Call::Write { .. } => 2,
             _ => 1,
@@ -142,6 +145,7 @@ impl Call {
             Call::Shorten { form } | Call::Lengthen { form } => form,
             Call::Join { second: Some(second) } => second,
             Call::Replay { calls } => calls,
+            Call::Plan { questions, .. } => questions,
             _ => &[],
         }
     }
@@ -161,7 +165,8 @@ impl Call {
             | Call::Withdraw { field }
             | Call::Photograph { field }
             | Call::Filtered { relaxed: field }
-            | Call::Row { field, .. } => Some(field),
+            | Call::Row { field, .. }
+            | Call::Plan { target: field, .. } => Some(field),
             _ => None,
         }
     }

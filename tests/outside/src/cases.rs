@@ -1,4 +1,4 @@
-//! Seeded cases for the calls: a book, a sheet, and one call of each kind, but two to enter a code and two for a row.
+//! Seeded cases for the calls: a book, a sheet, and one call of each kind, but two to enter a code, two for a row and two for a plan.
 
 use crate::asking;
 use crate::book::{field_limit, Book, Table};
@@ -11,6 +11,7 @@ use crate::listings;
 use crate::near;
 use crate::pairs::{self, Pair};
 use crate::photographs;
+use crate::questions;
 use crate::random::{self, Random};
 use crate::repeats;
 use crate::seconds::some_second;
@@ -46,12 +47,16 @@ const NEAR: u64 = 16;
 /// One case of so many is made for joining two books. Half a turn later than the first, none of them is made for a reading.
 const PAIRED: u64 = 18;
 
+/// Of as many cases one is made for the debrief plan: the odd one three before the next turn, so that none of them is made for a reading.
+const PLANNED: u64 = PAIRED;
+
 pub fn case(seed: u64, index: u64) -> Case {
     let mut r = random(seed, index);
     let pair = (index % PAIRED == PAIRED / 2).then(|| pairs::pair(&mut r));
     let (book, sheet) = match &pair {
         Some(pair) => first_of(&mut r, pair),
-        None if index.is_multiple_of(NEAR) => near(&mut r),
+        None if index.is_multiple_of(NEAR) => made_for(&mut r, near::book, near::sheet),
+        None if index % PLANNED == PLANNED - 3 => made_for(&mut r, questions::book, questions::sheet),
         None => drawn(&mut r),
     };
     let BookCase { model, bytes, boundary, faults } = book;
@@ -66,6 +71,7 @@ pub fn case(seed: u64, index: u64) -> Case {
         Call::Lengthen { form: forms::some_form(&mut r, &model) },
     ]);
     calls.push(Call::Join { second: pair.map_or_else(|| some_second(&mut r, &model), |pair| pair.second) });
+    calls.extend(questions::plans(&mut r, &model, &sheet));
     Case { book: bytes, sheet, calls, boundary, faults, listing }
 }
 
@@ -91,9 +97,9 @@ fn first_of(r: &mut Random, pair: &Pair) -> (BookCase, Sheet) {
 }
 
 /// Few of these books and sheets are damaged.
-fn near(r: &mut Random) -> (BookCase, Sheet) {
-    let model = near::book(r);
-    let mut sheet = near::sheet(r, &model);
+fn made_for(r: &mut Random, book: fn(&mut Random) -> Book, sheet: fn(&mut Random, &Book) -> Sheet) -> (BookCase, Sheet) {
+    let model = book(r);
+    let mut sheet = sheet(r, &model);
     if r.one_in(12) {
         spoil(r, &model, &mut sheet);
     }

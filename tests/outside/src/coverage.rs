@@ -15,6 +15,7 @@ use crate::listings::{reason, ways, REASONS};
 use crate::made::{self, of_list, Made, Shape};
 use crate::nearest_shapes::{self, Asked as ReadingAsked};
 use crate::photograph_shapes;
+use crate::plan_shapes::{self, Asked as PlanAsked};
 use crate::reader::Reader;
 use crate::resend_shapes;
 use crate::row_shapes::{self, Asked as RowAsked};
@@ -33,14 +34,14 @@ pub struct Coverage {
     accepted: BTreeMap<&'static str, u64>,
     /// What the cases had beside that, by its name.
     had: BTreeMap<String, u64>,
-    /// What the calls that list had to list, the lengths lent for it, what the calls that count had to count, what the calls for a row
-    /// or a reading had to find, what the calls that join had to join, and what each call had of M-103, M-105, M-107 and M-108, by call
-    /// and name.
+    /// What the calls that list had to list, the lengths lent for it, what the calls that count had to count, what the calls for a row, a
+    /// reading or a plan had to find, what the calls that join had to join, and what each call had of M-103, M-105, M-107 and M-108, by
+    /// call and name.
     by_call: BTreeMap<(&'static str, &'static str), u64>,
 }
 
 /// The refusals that each call has beside 1 to 13; `true` for a place behind the book's fields.
-const BESIDE: [(&str, &[Kind]); 18] = [
+const BESIDE: [(&str, &[Kind]); 19] = [
     ("read", &[]),
     ("enter", &[(14, false), (14, true), (15, false), (16, false), (22, false)]),
     ("withdraw", &[(14, false), (14, true), (15, false), (17, false), (22, false)]),
@@ -49,6 +50,7 @@ const BESIDE: [(&str, &[Kind]); 18] = [
     ("alternatives", &[(14, false), (14, true), (18, false)]),
     ("row", &[(14, false), (14, true), (15, false), (16, false), (21, false)]),
     ("nearest", &[(14, false), (14, true), (23, false), (18, false)]),
+    ("plan", &[(14, false), (14, true), (15, false), (27, false)]),
     ("load", &[(14, false), (19, false)]),
     ("store", &[(14, false), (14, true), (22, false), (18, false)]),
     ("load_short", &[(24, false), (14, false)]),
@@ -74,7 +76,7 @@ const WITHOUT_BOOK: (&str, &[Kind]) = ("write", &[(20, false), (18, false)]);
 /// What the refusals of a second book are noted by: they are 1 to 13 too.
 const SECOND: &str = "join, of the second book";
 
-/// At how many different places a refusal has to be reached: 1 and 15 to 26 have place 0 alone.
+/// At how many different places a refusal has to be reached: 1 and 15 to 27 have place 0 alone.
 fn places_asked(number: u64) -> usize {
     match number {
         2..=11 | 13 | 14 => 3,
@@ -109,7 +111,7 @@ const LENGTHS: [Length; 5] = [
     ("the wider list's", |lent, asked| lent == asked.wider),
 ];
 
-/// How often each of them has to be lent in a run of 45,000 cases.
+/// How often each of them has to be lent in a run of 47,500 cases.
 const LENGTHS_ASKED: u64 = 200;
 
 /// The sheet whose alternatives the call lists; none where it is refused.
@@ -157,6 +159,7 @@ impl Coverage {
             self.note_book(case, reading, book);
             self.note_rows(case, book, trials);
             self.note_readings(case, book, trials);
+            self.note_plans(case, book, trials);
         }
         self.note_joins(case, reading, trials);
         trials.iter().for_each(|trial| self.note_trial(reading, trial));
@@ -193,6 +196,14 @@ impl Coverage {
     /// Notes what the calls for the nearest full reading had to find, by an accepted book.
     fn note_readings(&mut self, case: &Case, book: &Book, trials: &[Trial]) {
         for asked in of_each_call(trials).filter_map(|of_call| ReadingAsked::by(book, &case.sheet, of_call)) {
+            asked.shapes().for_each(|shape| self.count(asked.call, shape));
+        }
+    }
+
+    /// Notes what the calls for a plan had to find, by an accepted book.
+    fn note_plans(&mut self, case: &Case, book: &Book, trials: &[Trial]) {
+        let at = plan_shapes::position(book, &case.sheet);
+        for asked in trials.iter().filter_map(|trial| PlanAsked::by(&case.sheet, &at, trial)) {
             asked.shapes().for_each(|shape| self.count(asked.call, shape));
         }
     }
@@ -270,6 +281,7 @@ impl Coverage {
         complete &= print_had("rows", row_shapes::all().map(|(name, least)| self.had_by("row", name, least)));
         complete &= print_had("joined books", joining_shapes::all().map(|(name, least)| self.had_by("join", name, least)));
         complete &= print_had("readings", nearest_shapes::all().map(|(name, least)| self.had_by("nearest", name, least)));
+        complete &= print_had("plans", plan_shapes::all().map(|(name, least)| self.had_by("plan", name, least)));
         for (call, _) in &kinds {
             complete &= self.print_made("versions, fields and places", versions::SHAPES, call);
         }

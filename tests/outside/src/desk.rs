@@ -7,6 +7,7 @@ use crate::filter::{alternatives, largest, relaxed, Alternatives, Filter, Subdom
 use crate::joining::Joining;
 use crate::listing::{self, Listing};
 use crate::nearest::{self, is_too_large};
+use crate::plan::{self, Planned, Position};
 use crate::reader::Reader;
 use crate::row::{self, Pointed};
 use crate::sheet::{Sheet, FRESH, NO_ANSWER, PLACES};
@@ -29,6 +30,7 @@ pub struct Desk {
     pub alternatives: fn(&Book, &Sheet, Filter) -> Alternatives,
     pub row: row::Search,
     pub nearest: nearest::Search,
+    pub plan: plan::Search,
     pub load: fn(&Book, &[u8]) -> Result<Sheet, Refusal>,
     pub load_short: short::Load,
     pub store_short: short::Store,
@@ -55,6 +57,7 @@ impl Default for Desk {
             alternatives,
             row: row::first_row,
             nearest: nearest::nearest,
+            plan: plan::least,
             load,
             load_short: short::load,
             store_short: short::store,
@@ -297,6 +300,15 @@ impl Desk {
         Answer { asked: book.map_or(0, |book| book.counts.len()), ..writing(found, given) }
     }
 
+    /// Whether there is a plan, and its number of questions: 1 to 13, 14, 15 for the target, 27.
+    fn plan(&self, reading: &Reading, sheet: &Sheet, planned: Planned) -> Result<Vec<u64>, Refusal> {
+        let book = opened(reading, sheet)?;
+        refuse_if(planned.target >= book.counts.len(), 15)?;
+        refuse_if(planned.is_refused(book, sheet), 27)?;
+        let at = Position::of(book, &sheet.answers, self.largest);
+        Ok(plan::told((self.plan)(&at, planned).map(|questions| questions as u64)))
+    }
+
     /// The sheet that a stored one makes: 1 to 13, 19, 14.
     pub fn loaded(&self, reading: &Reading, form: &[u8]) -> Result<Sheet, Refusal> {
         (self.load)(accepted(reading)?, form)
@@ -330,6 +342,9 @@ impl Desk {
             Call::Alternatives => writing(self.listed(reading, held), *sheet),
             Call::Row { field, code, table } => counting(self.row(reading, held, Pointed { field, code, table }), *sheet),
             Call::Nearest => self.nearest(reading, held, *sheet),
+            Call::Plan { target, questions } => {
+                counting(self.plan(reading, held, Planned { target, questions: &questions }), *sheet)
+            }
             Call::Filtered { relaxed } => {
                 writing(self.filtered(reading, held, relaxed).map(|numbers| (Vec::new(), numbers)), *sheet)
             }

@@ -46,6 +46,31 @@ pub const E1_READINGS: [ReadingAsked; 11] = [
     (&[1, 0, 1], &[2], Some((2, [0, 1, 1]))),
 ];
 
+/// What a plan on E1 is for: answers, target and list; and found and questions, or the refusal's number.
+pub type PlanAsked = (&'static [u8], usize, &'static [u8], Result<[u64; 2], u64>);
+
+/// Field 2 tells field 0, and fields 0 and 1 together tell field 2.
+pub const E1_PLANS: [PlanAsked; 18] = [
+    (&[], 0, &[2], Ok([1, 1])),
+    (&[], 0, &[1], Ok([0, 0])),
+    (&[], 2, &[0, 1], Ok([1, 2])),
+    (&[], 2, &[1, 0], Ok([1, 2])),
+    (&[], 0, &[1, 2], Ok([1, 1])),
+    (&[], 0, &[], Ok([0, 0])),
+    (&[0], 2, &[1], Ok([1, 1])),
+    (&[1], 0, &[1, 2], Ok([1, 0])),
+    (&[NONE, NONE, 2], 0, &[], Ok([1, 0])),
+    (&[1, 0], 2, &[], Ok([1, 0])),
+    (&[], 3, &[2, 2], Err(15)),
+    (&[], 0, &[2, 1, 2], Err(27)),
+    (&[], 0, &[0], Err(27)),
+    (&[], 0, &[1, 3], Err(27)),
+    (&[], 0, &[255], Err(27)),
+    (&[0, 1], 2, &[1], Err(27)),
+    (&[0], 0, &[0], Err(27)),
+    (&[], 0, &[1, 2, 1, 2, 1, 2, 1], Err(27)),
+];
+
 /// A sheet on E1 by its answers and those of them that are photographed, and its short form.
 pub type Short = (&'static [u8], &'static [usize], &'static [u8]);
 

@@ -41,6 +41,11 @@ pub mod parts;
 mod photograph_edges;
 pub mod photograph_shapes;
 pub mod photographs;
+pub mod plan;
+#[cfg(test)]
+mod plan_edges;
+pub mod plan_shapes;
+pub mod questions;
 pub mod random;
 pub mod reader;
 pub mod repeats;
@@ -64,4 +69,5 @@ pub mod tables;
 pub mod text;
 pub mod there_and_back;
 pub mod turned;
+pub mod turns;
 pub mod versions;

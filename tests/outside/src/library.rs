@@ -5,6 +5,7 @@ use sighting::{ffi, Alternatives, Refusal};
 use crate::calls::{Call, CHANGING, MAKING};
 use crate::memory::Part;
 use crate::nearest;
+use crate::plan;
 use crate::row;
 use crate::sheet::Sheet;
 
@@ -12,7 +13,7 @@ use crate::sheet::Sheet;
 pub struct Lent {
     /// To be read only.
     pub book: Part<u8>,
-    /// A stored sheet, a list of calls, or a second book, to be read only.
+    /// A stored sheet, a list of calls or of questions, or a second book, to be read only.
     pub list: Part<u8>,
     /// To be read only.
     pub listing: Part<u16>,
@@ -72,6 +73,7 @@ impl Library for Exported {
             Call::Alternatives => ffi::sighting_alternatives(s, b, n, out, lent_len, o),
             Call::Row { field, code, table } => ffi::sighting_row(s, b, n, *field, *code, *table, o),
             Call::Nearest => ffi::sighting_nearest(s, b, n, out, lent_len, o),
+            Call::Plan { target, .. } => ffi::sighting_plan(s, b, n, *target, list, list_len, o),
             Call::Load { .. } => ffi::sighting_load(s, b, n, list, list_len, o),
             Call::Store => ffi::sighting_store(s, b, n, out, lent_len, o),
             Call::LoadShort { .. } => ffi::sighting_load_short(s, b, n, list, list_len, o),
@@ -110,6 +112,7 @@ impl Library for Wrapper {
             Call::Nearest => {
                 sheet.nearest(book, bytes).map(|found| nearest::told(found.map(|found| [found.differing, found.written])))
             }
+            Call::Plan { target, .. } => sheet.plan(book, *target, list).map(plan::told),
             Call::Load { .. } => handed_back(sighting::Sheet::load(book, list), &mut sheet),
             Call::Store => nothing_counted(sheet.store(book, bytes)),
             Call::LoadShort { .. } => handed_back(sighting::Sheet::load_short(book, list), &mut sheet),

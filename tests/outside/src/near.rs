@@ -71,7 +71,7 @@ fn of_some_kind(r: &mut Random) -> Book {
 }
 
 /// Up to six fields; in some books one has the most codes.
-fn few(r: &mut Random) -> Vec<u8> {
+pub fn few(r: &mut Random) -> Vec<u8> {
     let fields = r.from(1, 6);
     let mut counts: Vec<u8> = (0..fields).map(|_| r.from(2, 4) as u8).collect();
     if r.one_in(6) {
@@ -105,7 +105,7 @@ fn at_limit(r: &mut Random, limits: &[Counts]) -> Book {
 }
 
 /// Tables that hold the rows of a few readings, which are full then, and some other rows.
-fn with_readings(r: &mut Random, counts: Vec<u8>) -> Book {
+pub fn with_readings(r: &mut Random, counts: Vec<u8>) -> Book {
     let all: Vec<u8> = (0..counts.len() as u8).collect();
     let readings: Vec<Vec<u8>> = (0..r.from(1, 8)).map(|_| row_of(r, &counts, &all)).collect();
     let tables = (0..r.from(1, 8)).map(|_| holding(r, &counts, &readings)).collect();

@@ -62,7 +62,7 @@ fn limited(r: &mut Random) -> Book {
 }
 
 /// All parts in one book, with their fields and their tables in any order.
-fn joined(r: &mut Random, parts: &[Book]) -> Book {
+pub fn joined(r: &mut Random, parts: &[Book]) -> Book {
     let fields: usize = parts.iter().map(|part| part.counts.len()).sum();
     let mut places: Vec<u8> = (0..fields as u8).collect();
     r.shuffle(&mut places);

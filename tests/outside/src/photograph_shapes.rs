@@ -238,7 +238,7 @@ mod tests {
     use crate::examples::e1;
     use crate::made::{asked, names_of};
     use crate::sheet::{Sheet, FRESH};
-    use crate::{nearest_shapes, resend_shapes, row_shapes, shapes, short_shapes, versions};
+    use crate::{nearest_shapes, plan_shapes, resend_shapes, row_shapes, shapes, short_shapes, versions};
 
     /// The shapes of a call on E1 with fields 0 and 1 answered by 0 and 1, and these places photographed.
     fn names(photographed: &[usize], call: Call) -> Vec<&'static str> {
@@ -326,6 +326,9 @@ mod tests {
             }
             if call == "nearest" {
                 names.extend(nearest_shapes::all().map(|(name, _)| name));
+            }
+            if call == "plan" {
+                names.extend(plan_shapes::all().map(|(name, _)| name));
             }
             assert_eq!(names.iter().collect::<BTreeSet<_>>().len(), names.len(), "{call}");
         }

@@ -22,7 +22,7 @@ pub struct Asked<'a> {
     left: &'a Left,
 }
 
-/// A shape: its name, how often it has to be reached in a run of 45,000 cases, and what has it.
+/// A shape: its name, how often it has to be reached in a run of 47,500 cases, and what has it.
 type Shape = (&'static str, u64, fn(&Asked) -> bool);
 
 const ANSWERS: [Shape; 26] = [
@@ -177,12 +177,12 @@ pub fn standing(book: &Book, sheet: &Sheet) -> Subdomain {
     largest(book, &sheet.answers)
 }
 
-fn next(number: usize, count: usize) -> bool {
+pub fn next(number: usize, count: usize) -> bool {
     number == count
 }
 
 /// The number is one below the count and this bit more.
-fn is_above(number: usize, bit: u32, count: usize) -> bool {
+pub fn is_above(number: usize, bit: u32, count: usize) -> bool {
     number.checked_sub(1 << bit).is_some_and(|low| low < count)
 }
 

@@ -4,10 +4,11 @@
 //! bare and by the safe wrapper, with buffers one short, exact, longer, as long as the header says suffices, and of length 0, and with
 //! its memory flush against a page that nobody may touch, in front and behind; a list of calls is also made one by one, alternatives are
 //! held against plain filtering with each answered field relaxed, photographed or not, rows against plain filtering and the listing, a
-//! nearest reading against plain filtering and itself, the two forms of a stored sheet against each other, a joined book against both that
-//! it was made from, the other order and itself, a book that is shown or written goes the way back too, and an accepted book is turned into
-//! the other version. The run prints how often each refusal of each call was reached and what else the cases had, and fails if something was
-//! missed; some of it has to be had so often that it takes 45,000 cases.
+//! nearest reading against plain filtering and itself, a number of questions against plain filtering and itself one turn on, the two forms
+//! of a stored sheet against each other, a joined book against both that it was made from, the other order and itself, a book that is shown
+//! or written goes the way back too, and an accepted book is turned into the other version. The run prints how often each refusal of each
+//! call was reached and what else the cases had, and fails if something was missed; some of it has to be had so often that it takes 47,500
+//! cases.
 
 use std::ffi::c_int;
 use std::io::Write;
@@ -113,6 +114,15 @@ fn readings_agree(rooms: &Rooms, case: &Case, reading: &Reading) -> bool {
     disagreement.is_none()
 }
 
+/// The least number of questions is one more than behind each answer to the best one.
+fn plans_agree(rooms: &Rooms, case: &Case, reading: &Reading) -> bool {
+    let disagreement = rooms.plan_disagreement(&Exported, case, reading);
+    if let Some(disagreement) = &disagreement {
+        println!("a number of questions and plain filtering do not agree\n{disagreement}");
+    }
+    disagreement.is_none()
+}
+
 /// Each way between sheets and the two stored forms and back gives what it began with.
 fn forms_agree(rooms: &Rooms, case: &Case, reading: &Reading) -> bool {
     agree_both_ways("stored forms do not agree", |library| rooms.form_disagreement(library, case, reading))
@@ -163,6 +173,7 @@ fn case_agrees(rooms: &Rooms, seed: u64, index: u64, seen: &mut Coverage) -> boo
         && filterings_agree(rooms, &case, &reading)
         && rows_agree(rooms, &case, &reading, &mut random(seed ^ 0xC0DE, index))
         && readings_agree(rooms, &case, &reading)
+        && plans_agree(rooms, &case, &reading)
         && forms_agree(rooms, &case, &reading)
         && joins_agree(rooms, &case, &reading)
         && versions_agree(rooms, &case, &reading, &trials)

@@ -79,6 +79,7 @@ pub fn taken(call: &Call, field_as: fn(usize) -> usize, code_as: fn(usize) -> us
         Call::Photograph { field } => Call::Photograph { field: field_as(field) },
         Call::Filtered { relaxed } => Call::Filtered { relaxed: field_as(relaxed) },
         Call::Row { field, code, table } => Call::Row { field: field_as(field), code: code_as(code), table },
+        Call::Plan { target, ref questions } => Call::Plan { target: field_as(target), questions: questions.clone() },
         _ => call.clone(),
     }
 }
@@ -105,7 +106,7 @@ fn fault_first(book: &Book, form: &[u8]) -> Result<Sheet, Refusal> {
 
 impl Seen<'_> {
     pub fn accepted(&self) -> &Book {
-        self.reading.as_ref().expect("14 to 19 and 21 to 26 come after the book was read")
+        self.reading.as_ref().expect("14 to 19 and 21 to 27 come after the book was read")
     }
 
     pub fn field(&self) -> usize {

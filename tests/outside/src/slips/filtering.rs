@@ -14,7 +14,7 @@ const fn wrong_lines(what: &'static str, exchange: fn(&mut Desk)) -> Listed {
 }
 
 pub const fn wrong_filter(what: &'static str, exchange: fn(&mut Desk)) -> Listed {
-    (what, &["filtered", "alternatives", "row"], Part(exchange))
+    (what, &["filtered", "alternatives", "row", "plan"], Part(exchange))
 }
 
 pub const SLIPS: &[Listed] = &[

@@ -13,6 +13,7 @@ mod nearing;
 mod pairing;
 mod photographs;
 mod places;
+mod planning;
 mod pointing;
 mod reading;
 mod resending;
@@ -29,6 +30,7 @@ use crate::desk::{Desk, Enter, Reading};
 use crate::joining::Joining;
 use crate::library::{Lent, Library};
 use crate::nearest;
+use crate::plan;
 use crate::row::Search;
 use crate::sheet::Sheet;
 use crate::short;
@@ -55,6 +57,8 @@ pub enum Wrong {
     Sought(Search),
     /// The desk looks for the nearest full reading by this.
     Near(nearest::Search),
+    /// The desk looks for the least number of questions by this.
+    Least(plan::Search),
     /// The desk enters a code of a field by this.
     Entered(Enter),
     /// The desk loads short forms by this.
@@ -93,7 +97,7 @@ impl Slip {
 /// All slips, each in each of its calls.
 pub fn all() -> Vec<Slip> {
     let of_document_01 = [reading::SLIPS, filtering::SLIPS, calling::SLIPS].concat();
-    let of_rows = [counting::SLIPS, pointing::SLIPS, nearing::SLIPS].concat();
+    let of_rows = [counting::SLIPS, pointing::SLIPS, nearing::SLIPS, planning::SLIPS].concat();
     let of_versions = [versions::SLIPS, places::SLIPS].concat();
     let of_photographs = [photographs::SLIPS, doubting::SLIPS, resending::SLIPS].concat();
     let of_forms = [listing::SLIPS, shortening::SLIPS, lengthening::SLIPS].concat();
@@ -129,6 +133,7 @@ impl SlowLibrary {
             Wrong::Counted(different_rows) => desk.different_rows = different_rows,
             Wrong::Sought(search) => desk.row = search,
             Wrong::Near(search) => desk.nearest = search,
+            Wrong::Least(search) => desk.plan = search,
             Wrong::Entered(enter) => desk.enter = enter,
             Wrong::Loaded(load) => desk.load_short = load,
             Wrong::Stored(store) => desk.store_short = store,
@@ -256,6 +261,19 @@ mod tests {
             ("nearest: all answered fields counted", "the reading is not the nearest to itself"),
         ];
         are_seen(&slips, |library, rooms, case, reading| rooms.reading_disagreement(library, case, reading));
+    }
+
+    #[test]
+    fn plans_that_plain_filtering_does_not_give_are_seen() {
+        let slips = [
+            ("plan: a question where none is needed", "the target has at most one standing code"),
+            ("plan: settled with two codes", "it is not one question more than behind the best question"),
+            ("plan: one answer that settles suffices", "it is not one question more than behind the best question"),
+            ("plan: a branch without a code to give not settled", "it is not one question more than behind the best question"),
+            ("plan: only the first question that is open chosen", "it is not one question more than behind the best question"),
+            ("plan: 27 for an empty list", "a list that may be asked is refused, here or one turn on"),
+        ];
+        are_seen(&slips, |library, rooms, case, reading| rooms.plan_disagreement(library, case, reading));
     }
 
     #[test]

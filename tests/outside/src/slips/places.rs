@@ -200,7 +200,8 @@ fn remainder(field: usize, modulus: usize) -> usize {
     }
 }
 
-/// A field of no book is entered where the sheet has a place for it; to withdraw or to relax, it has no answer; for a row, no code.
+/// A field of no book is entered where the sheet has a place for it; to withdraw or to relax, it has no answer; for a row, no code; as a
+/// target it has no standing code, and needs no question.
 fn place_for_field(seen: &Seen, left: &mut calls::Left) {
     if left.number == 15 && seen.field() < PLACES {
         left.number = match *seen.call {
@@ -209,6 +210,10 @@ fn place_for_field(seen: &Seen, left: &mut calls::Left) {
                 0
             }
             Call::Row { .. } => 16,
+            Call::Plan { .. } => {
+                left.cells[1] = 1;
+                0
+            }
             _ => 17,
         };
     }

@@ -69,7 +69,7 @@ impl Stray {
 /// The calls that each memory is lent to.
 const LENT: [(Memory, &[&str]); 9] = [
     (Memory::Book, OF_A_BOOK),
-    (Memory::List, &["load", "load_short", "shorten", "lengthen", "join", "replay", "report"]),
+    (Memory::List, &["plan", "load", "load_short", "shorten", "lengthen", "join", "replay", "report"]),
     (Memory::Listing, &["write"]),
     (Memory::Sheet, MAKING),
     (Memory::Sheet, OF_A_SHEET),
@@ -84,7 +84,7 @@ const LENT: [(Memory, &[&str]); 9] = [
 
 /// The calls that each memory is lent to be read only.
 const LENT_TO_READ: [(Memory, &[&str]); 4] =
-    [LENT[0], LENT[1], LENT[2], (Memory::Sheet, &["filtered", "alternatives", "row", "nearest", "store", "store_short"])];
+    [LENT[0], LENT[1], LENT[2], (Memory::Sheet, &["filtered", "alternatives", "row", "nearest", "plan", "store", "store_short"])];
 
 const BESIDE: [(Place, Access); 4] = [
     (Place::Before, Access::Read),
