@@ -1,7 +1,8 @@
 //! Measures the library against n + 1 separate filterings, plain Rust and Gecode, all in one run.
 //!
 //! `bench` prints the tables; `bench --write DOCS` also puts them into DOCS/PERFORMANCE.md, between its two marks, and draws
-//! DOCS/performance.svg. `bench --joining` measures and prints what joining two books takes, and nothing else.
+//! DOCS/performance.svg. `bench --joining` measures and prints what joining two books takes, and nothing else; `bench --plans` does so with
+//! the debrief plan.
 
 mod families;
 mod gecode;
@@ -11,6 +12,7 @@ mod measure;
 mod nearest;
 mod photographs;
 mod plain;
+mod plans;
 mod plot;
 mod questions;
 mod shapes;
@@ -84,7 +86,8 @@ fn last_sections(out: &mut String, b: &Family, e: &Family) -> std::fmt::Result {
     let listings = listings::all().map(|listed| (listed.what, measure::listing(&listed)));
     tables::listings(out, &listings)?;
     writeln!(out, "\n### Stack, all fields of the full books answered\n")?;
-    let stacks = |family| [measure::stacks(family), short::stacks(family), joining::stacks(family)].concat();
+    let stacks =
+        |family| [measure::stacks(family), short::stacks(family), joining::stacks(family), plans::stacks(family)].concat();
     tables::stacks(out, &stacks(b), &stacks(e))
 }
 
@@ -106,14 +109,17 @@ fn measured() -> Result<(String, String), std::fmt::Error> {
         writeln!(out, "libgecode-dev was not installed: the column for Gecode is left out.\n")?;
     }
     let versions: Vec<_> = e.answers().map(|n| measure::versions(b, e, n)).collect();
-    let (searches, stored, joins) = (nearest::searches(), short::all(b, e), joining::all());
+    let (searches, stored, joins, plans) = (nearest::searches(), short::all(b, e), joining::all(), plans::plans(b));
     tables::targets(&mut out, &passes, &versions, &shaped, &searches, &stored, &joins)?;
+    tables::plan_targets(&mut out, &plans)?;
     families_sections(&mut out, &books, &passes)?;
     writeln!(out, "\n### The full book of version 2 beside that of version 1, in turns\n")?;
     tables::versions(&mut out, &versions)?;
     row_sections(&mut out, b, e)?;
     writeln!(out, "\n### The nearest full reading\n")?;
     tables::searches(&mut out, &searches)?;
+    writeln!(out, "\n### The debrief plan\n")?;
+    tables::plans(&mut out, &plans)?;
     photograph_sections(&mut out, &books)?;
     writeln!(out, "\n### Short stored sheets with n answers\n")?;
     tables::stored(&mut out, &stored)?;
@@ -142,11 +148,28 @@ fn joining_alone() -> Result<String, std::fmt::Error> {
     Ok(out)
 }
 
+/// What the debrief plan takes, its stack too.
+fn plans_alone() -> Result<String, std::fmt::Error> {
+    let (books, mut out) = (families::all(), String::new());
+    let [_, b, .., e] = &books;
+    tables::plans(&mut out, &plans::plans(b))?;
+    writeln!(out)?;
+    tables::stacks(&mut out, &plans::stacks(b), &plans::stacks(e))?;
+    Ok(out)
+}
+
 fn main() -> Result<(), Box<dyn std::error::Error>> {
     let words: Vec<String> = std::env::args().skip(1).collect();
-    if words == ["--joining"] {
-        println!("{}", joining_alone()?);
-        return Ok(());
+    match words.iter().map(String::as_str).collect::<Vec<_>>()[..] {
+        ["--joining"] => {
+            println!("{}", joining_alone()?);
+            return Ok(());
+        }
+        ["--plans"] => {
+            println!("{}", plans_alone()?);
+            return Ok(());
+        }
+        _ => {}
     }
     let (text, drawing) = measured()?;
     println!("{text}");

@@ -6,8 +6,12 @@ use crate::joining::Join;
 use crate::measure::{Filtering, Listing, Pass, Reading, RefusedRows, Report, Row, Shaped, Versions};
 use crate::nearest::{Search, Searched};
 use crate::photographs::{Changes, Photographed};
+use crate::plans::{Asked, Planned};
 use crate::questions::Question;
 use crate::short::{Call, Stored};
+
+/// How many passes, each anew, make a hard plan.
+const MANY_PASSES: u64 = 1_000;
 
 fn ratio(value: Option<f64>) -> String {
     value.map_or("–".to_string(), |v| format!("{v:.2}"))
@@ -97,6 +101,15 @@ fn joining_target(out: &mut String, joins: &[Join]) -> Result {
     writeln!(out, "| joining two books against plain Rust, any books | at most 1.5 | {worst:.2} |")
 }
 
+/// The targets of the debrief plan, with what was reached on the worst books.
+pub fn plan_targets(out: &mut String, plans: &[(Asked, Planned)]) -> Result {
+    let plain = most(plans.iter().map(|(_, p)| p.library / p.plain));
+    let many = plans.iter().filter(|(_, p)| p.passes_anew >= MANY_PASSES);
+    let anew = most(many.map(|(_, p)| p.library / p.anew));
+    writeln!(out, "| debrief plan against plain Rust, any book | at most 1.5 | {plain:.2} |")?;
+    writeln!(out, "| hard debrief plan against plain Rust, each pass anew | at most 0.33 | {anew:.2} |")
+}
+
 pub fn targets(
     out: &mut String,
     families: &[(String, Vec<Pass>)],
@@ -160,15 +173,40 @@ fn microseconds(time: f64) -> String {
     }
 }
 
+/// A time with its unit, up to seconds.
+fn with_unit(time: f64) -> String {
+    if time < 1_000.0 {
+        format!("{} µs", microseconds(time))
+    } else {
+        format!("{:.1} ms", time / 1_000.0)
+    }
+}
+
+/// The debrief plan, one row for each book.
+pub fn plans(out: &mut String, plans: &[(Asked, Planned)]) -> Result {
+    writeln!(
+        out,
+        "| book | questions | passes | library | µs a pass | × plain Rust | passes, each anew | library × plain Rust, each anew | plain Rust × plain Rust, each anew |"
+    )?;
+    writeln!(out, "|---|---|---|---|---|---|---|---|---|")?;
+    for (asked, p) in plans {
+        let questions = p.questions.map_or("none".to_string(), |n| n.to_string());
+        let (time, each, plain) = (with_unit(p.library), p.library / p.passes as f64, p.library / p.plain);
+        let anew = [p.library, p.plain].map(|time| format!("{:.2}", time / p.anew)).join(" | ");
+        writeln!(
+            out,
+            "| {} | {questions} | {} | {time} | {each:.2} | {plain:.2} | {} | {anew} |",
+            asked.what, p.passes, p.passes_anew
+        )?;
+    }
+    Ok(())
+}
+
 /// The nearest full reading, one row for each book and sheet.
 pub fn searches(out: &mut String, searches: &[(Searched, Search)]) -> Result {
     writeln!(out, "| book | what | library | × plain Rust | plain filterings that take as long |\n|---|---|---|---|---|")?;
     for (searched, s) in searches {
-        let time = if s.library < 1_000.0 {
-            format!("{} µs", microseconds(s.library))
-        } else {
-            format!("{:.1} ms", s.library / 1_000.0)
-        };
+        let time = with_unit(s.library);
         let (plain, filterings) = (s.library / s.plain, s.library / s.filtering);
         writeln!(out, "| {} | {} | {time} | {plain:.2} | {filterings:.1} |", searched.name, searched.what)?;
     }

@@ -44,9 +44,15 @@ fn median(mut values: Vec<f64>) -> f64 {
 
 /// The median time of each contender, in microseconds.
 pub fn medians(contenders: &mut [Contender]) -> Vec<f64> {
-    let times: Vec<u32> = contenders.iter_mut().map(|c| (LEAST_NANOSECONDS / nanoseconds(c, 3)).ceil() as u32).collect();
+    medians_of(REPEATS, contenders)
+}
+
+/// The same with so many turns: fewer for what takes a second.
+pub fn medians_of(turns: usize, contenders: &mut [Contender]) -> Vec<f64> {
+    let first = if turns < REPEATS { 1 } else { 3 };
+    let times: Vec<u32> = contenders.iter_mut().map(|c| (LEAST_NANOSECONDS / nanoseconds(c, first)).ceil() as u32).collect();
     let mut taken = vec![Vec::new(); contenders.len()];
-    for _ in 0..REPEATS {
+    for _ in 0..turns {
         for (i, contender) in contenders.iter_mut().enumerate() {
             taken[i].push(nanoseconds(contender, times[i]));
         }

@@ -8,10 +8,10 @@ use super::{Refused, CODES, PLACES};
 const WORDS: usize = PLACES * CODES;
 
 /// Filters a book in several cases at once: bit k of a mark says that it stands in case k.
-struct Engine<'a> {
+pub struct Engine<'a> {
     book: &'a Checked<'a>,
     marks: [u64; WORDS],
-    watch: [u64; PLACES],
+    pub watch: [u64; PLACES],
     queue: u64,
     struck: u64,
 }
@@ -27,7 +27,7 @@ fn first_bits(n: usize) -> u64 {
 impl<'a> Engine<'a> {
     /// The marks that the answers allow: of an answered field the held code in all cases, the others in those that relax the
     /// field.
-    fn start(book: &'a Checked<'a>, answers: &[u8; PLACES], cases: usize, relaxing: &[u64; PLACES]) -> Engine<'a> {
+    pub fn start(book: &'a Checked<'a>, answers: &[u8; PLACES], cases: usize, relaxing: &[u64; PLACES]) -> Engine<'a> {
         let mut engine = Engine { book, marks: [0; WORDS], watch: [0; PLACES], queue: first_bits(book.view.tables), struck: 0 };
         let all = first_bits(cases);
         for f in 0..book.view.fields {
@@ -44,6 +44,33 @@ impl<'a> Engine<'a> {
             }
         }
         engine
+    }
+
+    /// The codes of field q asked for, a case for each: begun with what stands, so that only the tables with q are to be looked at.
+    pub fn begun(book: &'a Checked<'a>, watch: &[u64; PLACES], standing: &[u32; PLACES], q: usize) -> Engine<'a> {
+        let mut engine = Engine { book, marks: [0; WORDS], watch: *watch, queue: watch[q], struck: 0 };
+        let cases = standing[q] as u64;
+        for (f, &standing) in standing.iter().enumerate().take(book.view.fields) {
+            for c in (0..book.view.codes(f)).filter(|c| standing >> c & 1 == 1) {
+                engine.marks[f * CODES + c] = if f == q { 1 << c } else { cases };
+            }
+        }
+        engine
+    }
+
+    /// The same begun with the answers, and with all tables to be looked at.
+    pub fn begun_anew(book: &'a Checked<'a>, answers: &[u8; PLACES], q: usize) -> Engine<'a> {
+        let codes = book.view.codes(q);
+        let mut engine = Engine::start(book, answers, codes, &[0; PLACES]);
+        for c in 0..codes {
+            engine.marks[q * CODES + c] = 1 << c;
+        }
+        engine
+    }
+
+    /// The codes of field f that stand in case k, as a number.
+    pub fn standing(&self, k: usize, f: usize) -> u32 {
+        (0..self.book.view.codes(f)).fold(0, |bits, c| bits | ((self.marks[f * CODES + c] >> k & 1) as u32) << c)
     }
 
     /// The first row from `from` on that keeps its code in column j in a case of need[code], with those cases.
@@ -107,7 +134,7 @@ impl<'a> Engine<'a> {
         }
     }
 
-    fn propagate(&mut self) {
+    pub fn propagate(&mut self) {
         let mut from = 0;
         while self.queue != 0 {
             let later = self.queue >> from;
@@ -119,13 +146,23 @@ impl<'a> Engine<'a> {
     }
 
     /// The cases in which some field is empty: all but those in which every field has a code that stands.
-    fn empty_cases(&self) -> u64 {
+    pub fn empty_cases(&self) -> u64 {
         let mut full = u64::MAX;
         for f in 0..self.book.view.fields {
             let codes = &self.marks[f * CODES..f * CODES + self.book.view.codes(f)];
             full &= codes.iter().fold(0, |any, word| any | word);
         }
         !full
+    }
+
+    /// The cases in which field f has more than one mark.
+    pub fn crowded_cases(&self, f: usize) -> u64 {
+        let (mut once, mut twice) = (0, 0);
+        for word in &self.marks[f * CODES..(f + 1) * CODES] {
+            twice |= once & word;
+            once |= word;
+        }
+        twice
     }
 }
 
@@ -167,7 +204,7 @@ pub fn filtered(sheet: &[u8; SHEET_BYTES], bytes: &[u8], out: &mut [u32]) -> Res
     let mut engine = Engine::start(&book, &sheet.answers, 1, &[0; PLACES]);
     engine.propagate();
     for (f, number) in out.iter_mut().enumerate().take(book.view.fields) {
-        *number = (0..book.view.codes(f)).fold(0, |bits, c| bits | (engine.marks[f * CODES + c] as u32) << c);
+        *number = engine.standing(0, f);
     }
     Ok(())
 }

@@ -5,6 +5,7 @@ pub mod engine;
 pub mod joining;
 pub mod listing;
 pub mod nearest;
+pub mod plan;
 pub mod reader;
 pub mod sheet;
 pub mod short;
