@@ -95,6 +95,6 @@ pub record IsLargest (b : Book) (a : List ℕ) (S : Subdomain) : Type 0 where
 abbrev pub relax : List ℕ → ℕ → List ℕ
 relax a f = set a f 255
 
--- the answers with code c of field f "added to the sheet" (02, M-110)
+-- the answers with code c of field f too, in the place of an older answer (02, M-110)
 abbrev pub added : List ℕ → ℕ → ℕ → List ℕ
 added a f c = set a f c

@@ -29,7 +29,8 @@ pub record Surveyed (s W P : List ℕ) : Type 0 where
 
 -- ---- the queue of tables, one bit each
 
--- each table of the book that is not in the queue d supports all marks, and nothing else is in it; the marks have room in the count n
+-- each table of the book that is not in the queue d supports all marks, and nothing but the book's tables is in it; the marks have room in the
+-- count n
 pub record PropagateGiven (s M : List ℕ) (n d : ℕ) : Type 0 where
   pub supported : (i : ℕ) → i < table_count s → T (bit d i) ⊎ TableSupported M (nth (book_of s) i)
   pub only : (i : ℕ) → T (bit d i) → i < table_count s

@@ -1,5 +1,6 @@
 // The filter over an accepted book: the one pass for all cases, plain filtering by the same engine with one case, the cases of a pass in
-// which some field is empty, the row behind a code, and whether an answer may be put in doubt.
+// which some field is empty, the row behind a code, whether an answer may be put in doubt, and what stands under answers, with what a question
+// leaves standing behind each of its codes.
 #![tactic(auto)]
 
 ghost use Rattle.std.specs.Prelude.{◌≡◌};
