@@ -49,7 +49,7 @@ module _ (s : List ℕ) where
       )
 
   -- and n tables from table k on
-  tables_long : (n k : ℕ) → place s (k + n) ≤ length s → place s k + length (tables_bytes (tables_at s (place s k) n)) ≡ place s (k + n)
+  pub tables_long : (n k : ℕ) → place s (k + n) ≤ length s → place s k + length (tables_bytes (tables_at s (place s k) n)) ≡ place s (k + n)
   unfolding tables_at place
   tables_long zero k h = rw (add-zero k) (omega arith)
   tables_long (suc n) k h =

@@ -10,8 +10,8 @@ use borrow.Author.Tests.{leb-true, le-leb, lt-leb}
 use Rattle.format.specs.Basics.{pick}
 use Rattle.format.specs.Format.{Book, WellFormed, table_limit, row_limit, row_total, same_codes, encode, book_of}
 use Rattle.format.specs.Reading.{Verdict, pass, fail, and_then, verdict}
-use Rattle.format.specs.Writing.{Reply, declined, into}
-use Rattle.format.specs.Joining.{joined, within_limits, joined_into, joining_by, joining}
+use Rattle.format.specs.Writing.{Reply, declined, reply_by, into}
+use Rattle.format.specs.Joining.{joined, within_limits, joined_into, joining}
 use Rattle.format.proofs.Booleans.{T-ext, T_true, T_false, false_T}
 use Rattle.format.proofs.Picks.{pick_cases, both_true, both_pass}
 use Rattle.format.proofs.Verdict.{verdict_promise}
@@ -130,7 +130,7 @@ module _ (P : Reply → Type 0) (s t o : List ℕ) where
   unfolding joining
   join_holds first second differ over within = go (verdict s) (verdict t) refl refl
     where
-      go : (v w : Verdict) → verdict s ≡ v → verdict t ≡ w → P (joining_by (and_then v w) o (joined_into (book_of s) (book_of t) o))
+      go : (v w : Verdict) → verdict s ≡ v → verdict t ≡ w → P (reply_by (and_then v w) o (joined_into (book_of s) (book_of t) o))
       go (fail number place) w e f = first number place e
       go pass (fail number place) e f = second e number place f
       go pass pass e f = into_holds P (book_of s) (book_of t) o (passed_well s e) (passed_well t f) (differ e f) (over e f) (within e f)

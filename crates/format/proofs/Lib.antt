@@ -40,3 +40,8 @@ pub mod Joined
 pub mod JoinedLimits
 pub mod JoinedBooks
 pub mod Joinings
+pub mod TreePlaces
+pub mod Trails
+pub mod FirstTables
+pub mod TreeTests
+pub mod TreeBooks

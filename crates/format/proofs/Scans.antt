@@ -1,4 +1,5 @@
--- Laws of first_bad: one place on, a stop, the end; another test that says the same; the test holds at each place before the answer and fails at it, so the end is reached
+-- Laws of first_bad: one place on, a stop, the end; another test that says the same; the test holds at each place before the answer and fails
+-- at it, so the end is reached exactly where the test holds at each place, and the first that fails is the answer. Assumes nothing.
 -- exactly where the test holds at each place. Assumes nothing.
 use mathlib.Core.Path.{◌≡◌, refl, subst}
 use mathlib.Core.Bool.{Bool, true, false}
@@ -6,6 +7,8 @@ use mathlib.Core.Logic.{◌⊎◌, inl, inr, ⊎_elim}
 use Prim.Native.Nat.{ℕ, zero, suc, ◌+◌, ◌-◌, ◌≤◌, ◌<◌}
 use native.Mathlib.Nat.{eq-or-lt_of_le}
 use native.Mathlib.Omega.{arith}
+use borrow.Author.Tests.{both_ways}
+use Rattle.std.proofs.lemmas.Bool.{cases_order}
 use Rattle.format.specs.Basics.{pick, scan, first_bad}
 
 module _ (ok : ℕ → Bool) where
@@ -80,6 +83,14 @@ module _ (ok : ℕ → Bool) where
   pass_all i e h p =
       let r : scan ok i (e - i) ≡ i + (e - i) = pass_scan (e - i) i (λ k l u. p k l (omega arith)) in
       omega arith
+
+  -- a place that fails is the answer from the start on, where each place before it passes
+  pub bad_is : (e i : ℕ) → i < e → ok i ≡ false → ((k : ℕ) → k < i → ok k ≡ true) → first_bad ok 0 e ≡ i
+  bad_is e i l f p =
+      let n : ℕ = first_bad ok 0 e in
+      ⊎_elim (λ (w : n ≡ i). w)
+      (λ u. ⊎_elim (λ (w : n < i). absurd (both_ways (ok n) (bad_fails 0 e (omega arith) (omega arith)) (p n w)))
+      (λ (w : i < n). absurd (both_ways (ok i) f (bad_before 0 e i (omega arith) w))) u) (cases_order n i)
 
 -- the answer turns on the test at the places looked at alone
 module _ (ok ok' : ℕ → Bool) where

@@ -1,6 +1,6 @@
 -- Requests M-100 and M-103: writing accepts exactly the listings of well-formed books, and showing undoes it. Assumes nothing.
 use mathlib.Core.Path.{◌≡◌, refl, sym, ap, subst, ◌∙◌}
-use mathlib.Core.Logic.{◌⊎◌, inl, inr, ◌≢◌, ◌↔◌}
+use mathlib.Core.Logic.{◌≢◌, ◌↔◌}
 use mathlib.Core.Bool.{Bool, true, false}
 use mathlib.Core.List.{List}
 use Prim.Native.Nat.{ℕ}
@@ -16,7 +16,7 @@ use Rattle.format.proofs.Decode.{promise_layout}
 use Rattle.format.proofs.Encode.{even_book, book_of_lem, layout_promise}
 use Rattle.format.proofs.Bytes.{encode_bytes}
 use Rattle.format.specs.Listing.{listing_of, book_in}
-use Rattle.format.specs.Writing.{into, declined, written, showing, writing, writable, laid_out}
+use Rattle.format.specs.Writing.{Reply, into, declined, written, showing, writing, writable, laid_out}
 use Rattle.format.specs.WriteAndShow.{HasListing, WriteAndShow}
 use Rattle.format.proofs.ListingWords.{listing_words}
 use Rattle.format.proofs.Parsing.{book_in_lem, listing_ends}
@@ -37,7 +37,7 @@ module _ (l : List ℕ) (e : writable l ≡ true) where
   listed : listing_of (book_in l) ≡ l
   listed = listing_again l (writable_says l e).whole
 
-  has_listing : HasListing l
+  pub has_listing : HasListing l
   has_listing = record { book = book_in l; well = book_well; numbers = sym listed }
 
 -- the listing of a well-formed book can be written
@@ -45,7 +45,7 @@ module _ (b : Book) (well : WellFormed b) where
   laid : laid_out (listing_of b) ≡ encode b
   laid = ap encode (book_in_lem b well)
 
-  writable_listing : writable (listing_of b) ≡ true
+  pub writable_listing : writable (listing_of b) ≡ true
   writable_listing =
       says_writable (listing_of b)
       (record {
@@ -54,7 +54,7 @@ module _ (b : Book) (well : WellFormed b) where
         reads = rw laid (promise_accepted (encode b) (layout_promise b well));
       })
 
-  writes : (o : List ℕ) → writing (listing_of b) o ≡ into (encode b) o
+  pub writes : (o : List ℕ) → writing (listing_of b) o ≡ into (encode b) o
   unfolding writing
   writes o = rw (writable_listing, laid)
 
@@ -64,37 +64,32 @@ module _ (b : Book) (well : WellFormed b) where
 
 -- ---- 20
 
--- a listing that is not refused by 20 can be written
-not_20 : (l o : List ℕ) → (writing l o).outcome.number ≢ 20 → writable l ≡ true
-unfolding writing
-not_20 l o n = go (writable l) refl n
+-- a listing that is not refused by 20 can be written, whatever is answered then
+pub not_20 : (l o : List ℕ) (r : Reply) → (pick (writable l) r (declined o 20 0)).outcome.number ≢ 20 → writable l ≡ true
+not_20 l o r n = go (writable l) refl n
   where
-    go : (t : Bool) → writable l ≡ t → (pick t (into (laid_out l) o) (declined o 20 0)).outcome.number ≢ 20 → writable l ≡ true
+    go : (t : Bool) → writable l ≡ t → (pick t r (declined o 20 0)).outcome.number ≢ 20 → writable l ≡ true
     go true e n = e
     go false e n = absurd (n refl)
 
 -- so it is not
 is_not_20 : (l o : List ℕ) → writable l ≡ true → (writing l o).outcome.number ≢ 20
 unfolding writing
-is_not_20 l o e n = numbers (into_number (laid_out l) o)
-  where
-    same : (into (laid_out l) o).outcome.number ≡ 20
-    same = rw e at n
-
-    numbers : ((into (laid_out l) o).outcome.number ≡ 0) ⊎ ((into (laid_out l) o).outcome.number ≡ 18) → ⊥
-    numbers (inl z) = omega (arith, same)
-    numbers (inr z) = omega (arith, same)
+is_not_20 l o e n =
+    let same : (into (laid_out l) o).outcome.number ≡ 20 = rw e at n in
+    omega (arith, into_number (laid_out l) o)
 
 exactly : (l o : List ℕ) → ((writing l o).outcome.number ≢ 20) ↔ HasListing l
+unfolding writing
 exactly l o =
-    (λ n. has_listing l (not_20 l o n), λ h. is_not_20 l o (rw h.numbers (writable_listing h.book h.well)))
+    (λ n. has_listing l (not_20 l o _ n), λ h. is_not_20 l o (rw h.numbers (writable_listing h.book h.well)))
 
 -- ---- both ways, through the memory lent
 
 write_show : (l o o' : List ℕ) → (writing l o).outcome.number ≡ 0 → showing (written (writing l o)) o' ≡ into l o'
 unfolding writing
 write_show l o o' e =
-    let f = not_20 l o (λ n. omega arith) in
+    let f = not_20 l o (into (laid_out l) o) (λ n. omega arith) in
     let a : writing l o ≡ into (laid_out l) o = rw f in
     let w : written (writing l o) ≡ laid_out l = ap written a ∙ into_written (laid_out l) o (rw a at e) in
     ap (λ (s : List ℕ). showing s o') w ∙ shows (book_in l) (book_well l f) o' ∙ ap (λ (x : List ℕ). into x o') (listed l f)

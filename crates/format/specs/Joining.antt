@@ -3,8 +3,8 @@
 use Rattle.std.specs.Prelude.{ℕ, ◌<◌, ◌≡◌, ◌⊎◌, ◌↔◌, List, [], ◌∷◌, ◌++◌, map, Bool, true, false, ◌&&◌, ◌||◌, not, length, ltb, leb, eqb}
 use Rattle.format.specs.Basics.{pick, In, Pairwise}
 use Rattle.format.specs.Format.{Table, Book, table_limit, row_limit, row_total, same_codes, is_in, encode, book_of}
-use Rattle.format.specs.Reading.{Verdict, pass, fail, and_then, verdict}
-use Rattle.format.specs.Writing.{Reply, declined, into}
+use Rattle.format.specs.Reading.{and_then, verdict}
+use Rattle.format.specs.Writing.{Reply, declined, reply_by, into}
 
 -- ---- the book that two books make
 
@@ -109,10 +109,6 @@ joined_into b d o =
     (pick (within_limits (joined b d)) (into (encode (joined b d)) o) (declined o 26 0))
     (declined o 25 0)
 
-abbrev pub joining_by : Verdict → List ℕ → Reply → Reply
-joining_by pass o r = r
-joining_by (fail number place) o r = declined o number place
-
 -- "Refusals of the first book, then of the second, by their numbers"
 unfoldable pub joining : List ℕ → List ℕ → List ℕ → Reply
-joining s t o = joining_by (and_then (verdict s) (verdict t)) o (joined_into (book_of s) (book_of t) o)
+joining s t o = reply_by (and_then (verdict s) (verdict t)) o (joined_into (book_of s) (book_of t) o)

@@ -9,4 +9,6 @@ pub mod Writing
 pub mod WriteAndShow
 pub mod Joining
 pub mod JoinedBooks
+pub mod Trees
+pub mod TreeBooks
 pub mod Examples

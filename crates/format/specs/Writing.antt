@@ -14,6 +14,11 @@ pub record Reply : Type 0 where
 abbrev pub declined : List ℕ → ℕ → ℕ → Reply
 declined o number place = record { outcome = refused 1 number place; buffer = o }
 
+-- the first refusal of some tests, with o lent; or r where they passed
+abbrev pub reply_by : Verdict → List ℕ → Reply → Reply
+reply_by pass o r = r
+reply_by (fail number place) o r = declined o number place
+
 -- 18, place 0, if fewer numbers or bytes are lent than xs has; else xs is written, what stands behind it stays, and the call "tells in its
 -- result how many bytes or numbers it wrote"
 unfoldable pub into : List ℕ → List ℕ → Reply
@@ -28,12 +33,8 @@ written r = take (get_or r.outcome.counts 0 0) r.buffer
 
 -- ---- "a call that shows a book's listing": "1 to 13, then 18, too few numbers lent"
 
-abbrev pub showing_by : Verdict → List ℕ → List ℕ → Reply
-showing_by pass l o = into l o
-showing_by (fail number place) l o = declined o number place
-
 unfoldable pub showing : List ℕ → List ℕ → Reply
-showing s o = showing_by (verdict s) (listing_of (book_of s)) o
+showing s o = reply_by (verdict s) o (into (listing_of (book_of s)) o)
 
 -- ---- "They need book bytes from it"
 
