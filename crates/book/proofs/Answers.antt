@@ -4,15 +4,15 @@ use mathlib.Core.List.{List, [], ◌∷◌}
 use Prim.Native.Nat.{ℕ, ◌≤◌, ◌<◌}
 use native.Mathlib.Omega.{arith}
 use lib.ListN.{length}
-use Rattle.format.specs.Format.{row_limit, list_place, field_count, table_count, row_total, different_total, book_of}
-use Rattle.format.specs.Promise.{place}
+use Rattle.format.specs.Format.{row_limit, list_place, field_count, table_count, row_total, different_total, book_counts, book_of}
+use Rattle.format.specs.Promise.{place, Promise}
 use Rattle.format.specs.Reading.{Outcome, accepted, refused, Verdict, pass, fail, next, stop, trailer_verdict, list_test, table_step, tables_step, last_test, verdict, outcome, reading, checking}
 use Rattle.format.proofs.Views.{counts_count, tables_count}
 use Rattle.format.proofs.Refusals.{verdict_list, verdict_tables, last_13_left, last_pass, reading_pass, checking_pass, checking_fail}
 use Rattle.format.proofs.Trailer.{trailer_good}
 use Rattle.format.proofs.TableTests.{table_good}
 use Rattle.format.proofs.AllTables.{tables_good}
-use Rattle.format.proofs.Verdict.{verdict_promise}
+use Rattle.format.proofs.Verdict.{verdict_promise, promise_verdict}
 use Rattle.format.proofs.Accepted.{checked_verdict}
 use Rattle.book.specs.Bounds.{BodyFits}
 use Rattle.book.specs.View.{Viewed}
@@ -104,17 +104,12 @@ module _ (s : List ℕ) where
           rows_is = cc counts_are;
         }
 
-    -- its counts, with the different rows of its tables
-    pub read_good : (different : ℕ) → different ≡ different_total (book_of s).tables
-        → accepted (fields ∷ tables ∷ rows ∷ different ∷ []) ≡ reading s
-    read_good different d =
-        let ef : fields ≡ field_count s = cc counts_are in
-        let et : tables ≡ table_count s = cc counts_are in
-        let er : rows ≡ row_total (book_of s).tables = cc counts_are in
-        let f : fields ≡ length (book_of s).counts = ef ∙ sym (counts_count s (verdict_promise s passed).whole) in
-        let t : tables ≡ length (book_of s).tables = et ∙ sym (tables_count s) in
-        same f t er d ∙ reading_pass s (sym passed)
-      where
-        same : {f t r w : ℕ} → fields ≡ f → tables ≡ t → rows ≡ r → different ≡ w
-            → accepted (fields ∷ tables ∷ rows ∷ different ∷ []) ≡ accepted (f ∷ t ∷ r ∷ w ∷ [])
-        same a b c d = cc
+  -- the numbers of a view, with the different rows of its tables, are what reading counts
+  pub viewed_counts : (list fields tables rows different : ℕ) → Viewed s list fields tables rows → different ≡ different_total (book_of s).tables
+      → fields ∷ tables ∷ rows ∷ different ∷ [] ≡ book_counts (book_of s)
+  viewed_counts list fields tables rows different v d =
+      rw (v.numbers.fields_is, v.numbers.tables_is, v.rows_is, d, counts_count s v.numbers.promise.whole, tables_count s) refl
+
+  -- and are answered
+  pub read_good : Promise s → (counts : List ℕ) → counts ≡ book_counts (book_of s) → accepted counts ≡ reading s
+  read_good p counts e = rw e (reading_pass s (sym (promise_verdict s p)))

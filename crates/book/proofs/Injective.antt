@@ -65,7 +65,7 @@ refused_same : (r r' : Refused) → r.kind ≡ r'.kind → r.place ≡ r'.place 
 refused_same r r' k p = ap₂ (λ (x : Refusal) (y : ℕ). record { kind = x; place = y }) k p
 
 -- the counts that a list shows
-abbrev counts_of : List ℕ → Counts
+abbrev pub counts_of : List ℕ → Counts
 counts_of ns = record { fields = get_or ns 0 0; tables = get_or ns 1 0; rows = get_or ns 2 0; different = get_or ns 3 0 }
 
 -- two readings that show the same are the same

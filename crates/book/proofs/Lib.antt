@@ -13,3 +13,4 @@ pub mod Refusing
 pub mod HandingOut
 pub mod Parts
 pub mod Columns
+pub mod TableFields

@@ -1,5 +1,5 @@
 -- The reader's answers in document 01's terms: number, place and counts for each answer. Assumes nothing.
-use Rattle.std.specs.Prelude.{[], ◌∷◌, Result, Ok, Err}
+use Rattle.std.specs.Prelude.{ℕ, List, [], ◌∷◌, Result, Ok, Err}
 use Rattle.format.specs.Reading.{Outcome, accepted, refused, Verdict, pass, fail, Step, next, stop}
 use Rattle.book.specs.Numbers.{number_of}
 use Rattle.book.specs.declared.refusals.Refused.{Refused}
@@ -17,9 +17,13 @@ abbrev pub step_of : Result Passed Refused → Step
 step_of (Ok passed) = next passed.at passed.rows
 step_of (Err r) = stop (number_of r.kind) r.place
 
--- reading's answer: fields, tables, rows written, different rows
+-- what reading counts: fields, tables, rows written, different rows
+abbrev pub counted : Counts → List ℕ
+counted counts = counts.fields ∷ counts.tables ∷ counts.rows ∷ counts.different ∷ []
+
+-- reading's answer
 abbrev pub shown : Result Counts Refused → Outcome
-shown (Ok counts) = accepted (counts.fields ∷ counts.tables ∷ counts.rows ∷ counts.different ∷ [])
+shown (Ok counts) = accepted (counted counts)
 shown (Err r) = refused 4 (number_of r.kind) r.place
 
 -- opening's answer: place of the field list, fields, tables, rows

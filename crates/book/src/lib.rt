@@ -60,16 +60,27 @@ pub struct Counts {
     pub different: usize,
 }
 
+impl Book<'_> {
+    ghost use Rattle.format.specs.Format.{book_counts, book_of};
+    ghost use Rattle.book.specs.Shown.{counted};
+
+    // Counts its different rows too, which opening does not.
+    pub fn counts(self) -> Counts
+        ensures { counted result ≡ book_counts (book_of self.entry.bytes.now) }
+    {
+        Counts {
+            fields: self.fields,
+            tables: self.tables,
+            rows: self.rows,
+            different: different::different_total(self),
+        }
+    }
+}
+
 // Opens the book, then counts its different rows.
 pub fn read(bytes: &[u8]) -> Result<Counts, Refused>
     ensures answer { shown result ≡ reading bytes.now }
     ensures layout { (shown result).number ≡ 0 ↔ HasLayout bytes.now }
 {
-    let book = Book::open(bytes)?;
-    Ok(Counts {
-        fields: book.fields,
-        tables: book.tables,
-        rows: book.rows,
-        different: different::different_total(book),
-    })
+    Ok(Book::open(bytes)?.counts())
 }

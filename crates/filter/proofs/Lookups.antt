@@ -42,7 +42,8 @@ use Rattle.book.proofs.Firsts.{first_found}
 use Rattle.filter.specs.Support.{first_from, row_cases}
 use Rattle.filter.specs.Rows.{supporting, no_column, supporting_row}
 use Rattle.filter.proofs.Lists.{zeros}
-use Rattle.filter.proofs.Tables.{nth_is, arity_of, codes_small}
+use Rattle.book.proofs.TableFields.{fields_many}
+use Rattle.filter.proofs.Tables.{nth_is, codes_small}
 use Rattle.filter.proofs.Agreement.{marks_domain}
 use Rattle.filter.proofs.FirstRow.{OneMark, row_number, first_row_lem}
 
@@ -138,7 +139,7 @@ module _ {s : List ℕ} {index at arity first rows : ℕ} (q : TableIn s index a
   no_code : (S : Subdomain) (j c : ℕ) → j < arity → code_limit ≤ c → no_row ≡ first_support_in S (table_at s at) j c
   no_code S j c jl l =
       first_rows.first_only (row_supports S (table_at s at) j c) (length (table_at s at).rows) no_row (first_support_in S (table_at s at) j c)
-      (λ k m u. absurd (omega (arith, row_there S (table_at s at) j c k u, codes_small q k j m (omega (arith, arity_of q)))))
+      (λ k m u. absurd (omega (arith, row_there S (table_at s at) j c k u, codes_small q k j m (omega (arith, fields_many q)))))
       (first_rows.first_below (row_supports S (table_at s at) j c) (length (table_at s at).rows))
 
   -- in the marks of plain filtering the row is that of the largest subdomain
@@ -187,7 +188,7 @@ module _ {s : List ℕ} {i at arity first rows : ℕ} (q : TableIn s i at arity 
     tied : answer_in (supporting (first_support_in (largest (book_of s) a) (table_at s at) j c)) ≡ supporting_row (book_of s) a f c i
     tied =
         ap (λ (k : ℕ). answer_in (supporting (first_support_in (largest (book_of s) a) (table_at s at) k c))) e
-        ∙ sym (by_table ∙ ap answer_by (lt-ltb (column_of (table_at s at) f) (length (table_at s at).fields) (omega (arith, e, arity_of q))))
+        ∙ sym (by_table ∙ ap answer_by (lt-ltb (column_of (table_at s at) f) (length (table_at s at).fields) (omega (arith, e, fields_many q))))
 
     pub code_large : code_limit ≤ c → Ok None ≡ supporting_row (book_of s) a f c i
     code_large k = answered (ap supporting (no_code q (largest (book_of s) a) j c l k)) ∙ tied

@@ -24,7 +24,8 @@ use Rattle.filter.proofs.StruckWords.{LeftOf, others, stood, stays, elsewhere, i
 use Rattle.filter.proofs.Bits.{Within}
 use Rattle.filter.proofs.Words.{domain_bit, domain_small}
 use Rattle.filter.proofs.Limits.{codes_few}
-use Rattle.filter.proofs.Tables.{arity_of, field_is, field_known, index_below, nth_is}
+use Rattle.book.proofs.TableFields.{fields_many}
+use Rattle.filter.proofs.Tables.{field_is, field_known, index_below, nth_is}
 
 module _ {s : List ℕ} {index at arity first rows : ℕ} (q : TableIn s index at arity first rows) {j f : ℕ} (jl : j < arity) (fe : f ≡ field_at s at j) where
   -- f is column j's field, and one of the book's
@@ -75,7 +76,7 @@ module _ {s : List ℕ} {index at arity first rows : ℕ} (q : TableIn s index a
       supported v =
           subst (λ (z : Table). Support R z j d) (nth_is q)
           (r.consistent f d v index (index_below q) j
-          (subst (λ (z : Table). j < length z.fields) (sym (nth_is q)) (subst (j <◌) (sym (arity_of q)) jl))
+          (subst (λ (z : Table). j < length z.fields) (sym (nth_is q)) (subst (j <◌) (sym (fields_many q)) jl))
           (ap (λ (z : Table). field_of z j) (nth_is q) ∙ field_of_lem q jl fe))
 
       go : Dec (g ≡ f) → T (domain_of N i g d)

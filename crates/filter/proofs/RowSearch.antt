@@ -14,7 +14,8 @@ use Rattle.book.specs.View.{TableIn}
 use Rattle.filter.specs.declared.support.Found.{Found}
 use Rattle.filter.specs.Support.{found, narrowed, row_cases, first_from}
 use Rattle.filter.proofs.Firsts.{FirstIs, first_is, first_next, first_found}
-use Rattle.filter.proofs.Tables.{arity_of, rows_of_lem, code_small}
+use Rattle.book.proofs.TableFields.{fields_many}
+use Rattle.filter.proofs.Tables.{rows_of_lem, code_small}
 use Rattle.filter.proofs.Narrowing.{narrowed_none, narrowed_skip, narrowed_and, cases_are, cases_none}
 
 module _ {s : List ℕ} {index at arity first rows : ℕ} (q : TableIn s index at arity first rows) where
@@ -48,14 +49,14 @@ module _ {s : List ℕ} {index at arity first rows : ℕ} (q : TableIn s index a
 
       -- no case is left behind column i
       pub row_given_up : (i : ℕ) → i < arity → narrowed M (table_at s at) j r w (i + 1) ≡ 0 → row_cases M need (table_at s at) j r ≡ 0
-      row_given_up i il = cases_none M (table_at s at) j r need w (i + 1) asked (omega (arith, arity_of q))
+      row_given_up i il = cases_none M (table_at s at) j r need w (i + 1) asked (omega (arith, fields_many q))
 
       -- all columns passed
       pub row_passed : (v i : ℕ) → v ≡ narrowed M (table_at s at) j r w i → i ≤ arity → arity ≤ i
           → row_cases M need (table_at s at) j r ≡ v
       row_passed v i ve lo hi =
           cases_are M (table_at s at) j r need w v asked
-          (ve ∙ ap (narrowed M (table_at s at) j r w) (let e : i ≡ length (table_at s at).fields = omega (arith, arity_of q) in e))
+          (ve ∙ ap (narrowed M (table_at s at) j r w) (let e : i ≡ length (table_at s at).fields = omega (arith, fields_many q) in e))
 
 -- the row r given up, r₀ being its name before the columns
 pub search_on : (n r r₀ : ℕ) (g : ℕ → ℕ) (x : Option Found) → r ≡ r₀ → x ≡ first_from (n - r₀) r₀ g → r₀ < n → g r₀ ≡ 0

@@ -22,6 +22,7 @@ use Rattle.consistency.proofs.Masks.{zero_bit}
 use Rattle.book.specs.View.{TableIn}
 use Rattle.filter.specs.Queue.{Watched}
 use Rattle.filter.proofs.Bits.{bit_or_lem, one_bit, shl_one}
+use Rattle.book.proofs.TableFields.{field_few}
 use Rattle.filter.proofs.Tables as tables
 
 -- all of the first k bits, as the code has them
@@ -38,7 +39,7 @@ index_small q = le_trans q.table.within q.table.promise.tables_few
 
 -- the field of a column has a word
 pub field_small : {s : List ℕ} {i at arity first rows : ℕ} → TableIn s i at arity first rows → {j : ℕ} → j < arity → {f : ℕ} → f ≡ field_at s at j → f < places
-field_small q {j} l e = omega (arith, e ∙ tables.field_is q j l, tables.field_small q j l)
+field_small q {j} l e = omega (arith, e ∙ tables.field_is q j l, field_few q j l)
 
 module _ {s U : List ℕ} {i at arity first rows : ℕ} (q : TableIn s i at arity first rows) (full : length U ≡ places) {j : ℕ} (l : j < arity) where
   module _ {f : ℕ} (fe : f ≡ field_at s at j) where

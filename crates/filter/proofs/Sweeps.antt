@@ -15,7 +15,8 @@ use Rattle.book.specs.View.{TableIn}
 use Rattle.filter.specs.Revise.{Removal, Revised, ColumnSupported, TableSupported, Watches, Queued, Swept}
 use Rattle.filter.specs.Asks.{Marks}
 use Rattle.filter.proofs.Removals.{removal_then}
-use Rattle.filter.proofs.Tables.{nth_is, arity_of, field_is, fields_apart}
+use Rattle.book.proofs.TableFields.{fields_many}
+use Rattle.filter.proofs.Tables.{nth_is, field_is, fields_apart}
 use Rattle.filter.proofs.ColumnKept.{column_supported, column_kept}
 use Rattle.filter.proofs.Queueing.{queued_next}
 
@@ -46,7 +47,7 @@ module _ {s W M : List ℕ} {i at arity first rows n : ℕ} (q : TableIn s i at 
   swept_all l =
       record {
         removal = h.removal;
-        supported = subst (λ (x : Table). TableSupported N x) (sym (nth_is q)) (λ c cl. h.supported c (omega (arith, arity_of q)));
+        supported = subst (λ (x : Table). TableSupported N x) (sym (nth_is q)) (λ c cl. h.supported c (omega (arith, fields_many q)));
         queued = h.queued;
         rest = h.rest;
       }
@@ -57,12 +58,12 @@ module _ {s W M : List ℕ} {i at arity first rows n : ℕ} (q : TableIn s i at 
       own = subst (λ (x : ℕ). Revised (book_of s) N P (table_at s at) j x m u) (fe ∙ field_is q j jl) r
 
       apart : (l : ℕ) → l < length (table_at s at).fields → l ≢ j → field_of (table_at s at) l ≢ field_of (table_at s at) j
-      apart l ll = fields_apart q l j (subst (l <◌) (arity_of q) ll) jl
+      apart l ll = fields_apart q l j (subst (l <◌) (fields_many q) ll) jl
 
       columns : (l : ℕ) → (l ≡ j) ⊎ (l < j) → ColumnSupported P (table_at s at) l
-      columns l (inl x) = subst (ColumnSupported P (table_at s at)) (sym x) (column_supported (subst (j <◌) (sym (arity_of q)) jl) apart own)
+      columns l (inl x) = subst (ColumnSupported P (table_at s at)) (sym x) (column_supported (subst (j <◌) (sym (fields_many q)) jl) apart own)
       columns l (inr x) =
-          column_kept (subst (j <◌) (sym (arity_of q)) jl) apart own l (omega (arith, arity_of q)) (λ (y : l ≡ j). omega arith)
+          column_kept (subst (j <◌) (sym (fields_many q)) jl) apart own l (omega (arith, fields_many q)) (λ (y : l ≡ j). omega arith)
           (h.supported l x)
 
       next : (l : ℕ) → l < j + 1 → ColumnSupported P (table_at s at) l

@@ -30,7 +30,8 @@ use Rattle.nearest.specs.Words.{width_of, front_of, begins, can_hold, any_empty,
 use Rattle.nearest.proofs.Fronts.{fronts_among}
 use Rattle.nearest.proofs.Holding.{rows_of_lem}
 use Rattle.nearest.proofs.WordTurns.{length_row}
-use Rattle.nearest.proofs.Tables.{table_ok, rows_many, fields_many, arity_few}
+use Rattle.book.proofs.TableFields.{fields_many}
+use Rattle.nearest.proofs.Tables.{table_ok, rows_many, arity_few}
 
 -- ---- the words of tables
 
@@ -168,13 +169,13 @@ module _ (s : List ℕ) where
 
       module _ (x : Front) (q : FrontIn (table_at s at) R f x) where
         upto : width_of (table_at s at) f ≤ a
-        upto = omega (arith, ltb-true (column_of (table_at s at) f) (length (table_at s at).fields) q.field, fields_many s i at a p n t)
+        upto = omega (arith, ltb-true (column_of (table_at s at) f) (length (table_at s at).fields) q.field, fields_many t)
 
         row_of : RowOf (width_of (table_at s at) f) (front_of (table_at s at) R f)
         row_of =
             record {
               long = length_row R (take (width_of (table_at s at) f) (table_at s at).fields)
-                  ∙ length-take (width_of (table_at s at) f) (table_at s at).fields ∙ omega (arith, upto, fields_many s i at a p n t);
+                  ∙ length-take (width_of (table_at s at) f) (table_at s at).fields ∙ omega (arith, upto, fields_many t);
               bytes = q.bytes;
             }
 
@@ -184,7 +185,7 @@ module _ (s : List ℕ) where
         hold_some b w e d =
             e ∙ rw (d, q.width_is, q.word_is, q.field)
             (sym (fronts_among (width_of (table_at s at) f) (length (table_at s at).fields) (omega arith)
-            (omega (arith, upto, fields_many s i at a p n t)) (omega (arith, upto, arity_few s i at a p n t)) (front_of (table_at s at) R f) row_of
+            (omega (arith, upto, fields_many t)) (omega (arith, upto, arity_few s i at a p n t)) (front_of (table_at s at) R f) row_of
             (table_at s at).rows (rows_of_lem (book_of s).counts (promise_well s t.table.promise).sized (table_at s at) (table_ok s i at a p n t))))
 
 -- ---- looking for an empty table

@@ -2,7 +2,7 @@
 use Rattle.std.proofs.Common.{rules, tests, refl, arith, ◌∙◌}
 use Rattle.std.proofs.lemmas.Result.{err_from_is_err_and}
 use Rattle.format.specs.Format.{table_at}
-use Rattle.filter.proofs.Tables.{arity_of}
+use Rattle.book.proofs.TableFields.{fields_many}
 use Rattle.filter.proofs.Lookups.{column_there}
 use Rattle.filter.proofs.lookup.column_in.Goals as goal
 
@@ -16,7 +16,7 @@ pub invariant_of-result : goal.invariant_of-result
 invariant_of-result c =
     let p = column_there (table_at c.args.table.bytes.now c.args.table.at) c.args.f c.position.new.self c.position.ensures.ran (c.iter.ensures.rest ∙ c.fields.ensures)
     (λ x q k. search (rules, tests)) (λ x q k. search (rules, tests)) c.in_ok-j.ensures.value in
-    record { within = omega (arith, p.0.0, arity_of c.args.table.stands) }
+    record { within = omega (arith, p.0.0, fields_many c.args.table.stands) }
 
 pub returns-clause-column : goal.returns-clause-column
 returns-clause-column c =

@@ -3,7 +3,8 @@ use Rattle.format.specs.Format.{field_count}
 use Rattle.filter.specs.declared.revise.Pass.{Pass}
 use Rattle.filter.proofs.Lists.{listed}
 use Rattle.filter.proofs.Removals.{removal_marks}
-use Rattle.filter.proofs.Tables.{field_known, field_small, columns, column_field}
+use Rattle.book.proofs.TableFields.{field_few}
+use Rattle.filter.proofs.Tables.{field_known, columns, column_field}
 use Rattle.filter.proofs.Sweeps.{watches_at, marks_at, swept_at, swept_all, swept_struck, swept_still}
 use Rattle.filter.proofs.revise.sweep.Goals.{then-struck-pass, else-struck-pass}
 use Rattle.filter.proofs.revise.sweep.Goals as goal
@@ -18,7 +19,7 @@ codes-requires c =
 
 pub invariant_of-field : goal.invariant_of-field
 invariant_of-field c = record {
-  place = omega (arith, field_small c.table-table.result.stands _ c.loop-j-test.true, listed c.loop-j.j c.fields-fields.ensures c.from-f.ensures);
+  place = omega (arith, field_few c.table-table.result.stands _ c.loop-j-test.true, listed c.loop-j.j c.fields-fields.ensures c.from-f.ensures);
   few = omega (arith, c.codes.ensures.few, c.from.ensures);
 }
 

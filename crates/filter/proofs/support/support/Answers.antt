@@ -2,7 +2,8 @@ use Rattle.std.proofs.Common.{arith, refl, sym, ◌∙◌}
 use Rattle.filter.proofs.Lists.{listed}
 use Rattle.filter.proofs.Firsts.{first_none}
 use Rattle.filter.proofs.Narrowing.{narrowed_none}
-use Rattle.filter.proofs.Tables.{field_small, code_small, columns}
+use Rattle.book.proofs.TableFields.{field_few}
+use Rattle.filter.proofs.Tables.{code_small, columns}
 use Rattle.filter.proofs.RowSearch.{own_in, column_and, column_skip, row_unasked, row_given_up, row_passed, search_on, search_ends}
 use Rattle.filter.proofs.support.support.Goals.{then-k-j+else-cases-eq0-2, else-k-j}
 use Rattle.filter.proofs.support.support.Goals as goal
@@ -26,7 +27,7 @@ bounds-marks-f c =
     let q = c.args.column.table.stands in
     let f = listed c.loop-k.k c.fields-fields.ensures c.from-f.ensures in
     let code = listed c.loop-k.k c.row-row.ensures.is c.from-code.ensures in
-    omega (arith, f, field_small q _ c.loop-k-test.true, code, code_small q _ _ c.rows-test.true c.loop-k-test.true)
+    omega (arith, f, field_few q _ c.loop-k-test.true, code, code_small q _ _ c.rows-test.true c.loop-k-test.true)
 
 pub rows-preserved : goal.rows-preserved
 rows-preserved c =

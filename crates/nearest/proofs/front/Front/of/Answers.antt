@@ -3,7 +3,8 @@ use mathlib.Core.Path.{refl, ap, ◌∙◌}
 use mathlib.Core.List.{List}
 use Prim.Native.Nat.{ℕ}
 use lib.ListN.{length, get_or}
-use Rattle.nearest.proofs.Tables.{arity_few, fields_many, field_few}
+use Rattle.book.proofs.TableFields.{fields_many, field_few}
+use Rattle.nearest.proofs.Tables.{arity_few}
 use Rattle.nearest.proofs.WordTurns.{chosen_small, word_fits, chosen_on, chosen_here, chosen_none}
 use Rattle.nearest.proofs.front.Front.of.Goals as goal
 
@@ -12,25 +13,25 @@ bounds-reading-field c =
     let t = c.args.table.stands in
     let e = c.fields-byte-items.ensures in
     let is = c.from-field.ensures ∙ ap (λ (fs : List ℕ). get_or fs c.loop-j.j 0) e in
-    omega (arith, is, field_few _ _ _ _ _ _ t c.loop-j.j (omega (arith, ap length e, fields_many _ _ _ _ _ _ t)))
+    omega (arith, is, field_few t c.loop-j.j (omega (arith, ap length e, fields_many t)))
 
 pub overflow_mul-word : goal.overflow_mul-word
 overflow_mul-word c =
     let t = c.args.table.stands in
     let l = ap length c.fields-byte-items.ensures in
-    omega (arith, chosen_small _ _ _ _ _ c.loop-j.invariant (omega (arith, arity_few _ _ _ _ _ _ t, fields_many _ _ _ _ _ _ t, l)))
+    omega (arith, chosen_small _ _ _ _ _ c.loop-j.invariant (omega (arith, arity_few _ _ _ _ _ _ t, fields_many t, l)))
 
 pub overflow_add-word : goal.overflow_add-word
 overflow_add-word c =
     let t = c.args.table.stands in
     let l = ap length c.fields-byte-items.ensures in
-    omega (arith, chosen_small _ _ _ _ _ c.loop-j.invariant (omega (arith, arity_few _ _ _ _ _ _ t, fields_many _ _ _ _ _ _ t, l)), c.fits-reading c.from-field.result)
+    omega (arith, chosen_small _ _ _ _ _ c.loop-j.invariant (omega (arith, arity_few _ _ _ _ _ _ t, fields_many t, l)), c.fits-reading c.from-field.result)
 
 pub invariant_of-result : goal.invariant_of-result
 invariant_of-result c =
     let t = c.args.table.stands in
     let few = arity_few _ _ _ _ _ _ t in
-    let many = fields_many _ _ _ _ _ _ t in
+    let many = fields_many t in
     let e = c.fields-byte-items.ensures in
     let l = ap length e in
     record {
