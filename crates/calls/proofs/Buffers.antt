@@ -8,7 +8,7 @@ use lib.ListN.{length}
 use Rattle.format.specs.Format.{Book, WellFormed, encode, book_of}
 use Rattle.format.specs.Reading.{Accepted}
 use Rattle.format.specs.Listing.{listing_of, book_in}
-use Rattle.format.specs.Writing.{laid_out, writable}
+use Rattle.format.specs.Writing.{laid_out, writable, book_limit}
 use Rattle.format.specs.Joining.{joined}
 use Rattle.format.proofs.Numbers.{fail_number}
 use Rattle.format.proofs.Accepted.{verdict_accepted, accepted_promise}
@@ -20,7 +20,7 @@ use Rattle.consistency.proofs.Limits.{many_few, total_few}
 use Rattle.calls.specs.Calls.{fresh_sheet, sheet_from}
 use Rattle.calls.specs.Short.{short_of}
 use Rattle.calls.specs.Buffers.{short_enough, Suffices}
-use Rattle.calls.specs.Conditions.{Request, to_filter, to_list, to_store, to_store_short, to_shorten, to_lengthen, to_nearest, to_show, to_write, to_join, result_of, given_book, Refusal, filter_14, filter_15, filter_17, filter_18, list_14, list_18, store_14, store_22, store_18, store_short_14, store_short_18, shorten_19, shorten_14, shorten_18, lengthen_24, lengthen_14, lengthen_22, lengthen_18, nearest_14, nearest_23, nearest_18, show_18, join_25, join_26, join_18, WriteRefusal, write_missing, write_left_over, write_too_large, write_unread, write_18, RefusedBy, the_book, the_call, the_second, the_listing}
+use Rattle.calls.specs.Conditions.{Request, to_filter, to_list, to_store, to_store_short, to_shorten, to_lengthen, to_nearest, to_show, to_write, to_write_tree, to_join, result_of, given_book, Refusal, filter_14, filter_15, filter_17, filter_18, list_14, list_18, store_14, store_22, store_18, store_short_14, store_short_18, shorten_19, shorten_14, shorten_18, lengthen_24, lengthen_14, lengthen_22, lengthen_18, nearest_14, nearest_23, nearest_18, show_18, join_25, join_26, join_18, WriteRefusal, write_20, write_18, WriteTreeRefusal, write_tree_20, write_tree_28, write_tree_29, write_tree_18, RefusedBy, the_book, the_call, the_second, the_listing, the_tree_listing}
 use Rattle.calls.proofs.Sheets.{Within, accepted_within}
 use Rattle.calls.proofs.ShortPlaces.{length_short}
 use Rattle.calls.proofs.Condition1.{condition1}
@@ -36,12 +36,20 @@ refused_18 bytes s q given e = at q given (condition1 bytes s q (λ z. omega ari
     at q g (the_call e r) n = (verdict_accepted bytes e, r)
     at (to_join t o) g {number} {place} (the_second e f r) n = absurd (omega (arith, fail_number t number place f))
     at (to_write l o) g (the_listing r) n = absurd (true≢false (sym g))
+    at (to_write_tree l o) g (the_tree_listing r) n = absurd (true≢false (sym g))
 
 -- writing is refused on a condition of its own, whatever the bytes
 of_writing : {bytes : List ℕ} {s : Sheet} {l o : List ℕ} {number place : ℕ} → RefusedBy bytes s (to_write l o) number place → WriteRefusal l o number place
 of_writing (the_book g e r) = absurd (true≢false (sym g))
 of_writing {bytes = bytes} {s = s} {l = l} {o = o} {number = number} {place = place} (the_call _ x) = elim x [ ]
 of_writing (the_listing r) = r
+
+-- so is writing for the tree profile
+of_tree_writing : {bytes : List ℕ} {s : Sheet} {l o : List ℕ} {number place : ℕ} → RefusedBy bytes s (to_write_tree l o) number place
+    → WriteTreeRefusal l o number place
+of_tree_writing (the_book g e r) = absurd (true≢false (sym g))
+of_tree_writing {bytes = bytes} {s = s} {l = l} {o = o} {number = number} {place = place} (the_call _ x) = elim x [ ]
+of_tree_writing (the_tree_listing r) = r
 
 -- ---- that condition
 
@@ -92,11 +100,19 @@ join_short (join_26 e h w) n = absurd (omega arith)
 join_short (join_18 e h w l) n = (w, l)
 
 write_short : {l o : List ℕ} {number place : ℕ} → WriteRefusal l o number place → number ≡ 18 → (writable l ≡ true) × (length o < length (laid_out l))
-write_short (write_missing h) n = absurd (omega arith)
-write_short (write_left_over h) n = absurd (omega arith)
-write_short (write_too_large e h) n = absurd (omega arith)
-write_short (write_unread e b h) n = absurd (omega arith)
+write_short (write_20 h) n = absurd (omega arith)
 write_short (write_18 w l) n = (w, l)
+
+write_tree_short : {l o : List ℕ} {number place : ℕ} → WriteTreeRefusal l o number place → number ≡ 18
+    → (writable l ≡ true) × (length o < length (laid_out l))
+write_tree_short (write_tree_20 h) n = absurd (omega arith)
+write_tree_short (write_tree_28 w h) n = absurd (omega arith)
+write_tree_short (write_tree_29 w h r) n = absurd (omega arith)
+write_tree_short (write_tree_18 w t l) n = (w, l)
+
+-- what a listing lays out is a book's bytes
+laid_few : (l : List ℕ) → writable l ≡ true → length (laid_out l) ≤ book_limit
+laid_few l w = (write_and_show.each (book_in l) (book_well l w)).bytes_few
 
 -- an entry at most for each field
 short_few : (b : Book) → length b.counts ≤ places → (s : Sheet) → length (short_of (length b.counts) s) ≤ short_enough
@@ -133,7 +149,10 @@ suffices =
           omega (arith, show_short r.1, (write_and_show.each (book_of bytes) well).numbers_few);
       book = λ l o h e.
           let w = write_short (of_writing (condition1 [] fresh_sheet (to_write l o) (λ z. omega arith)).reason) e in
-          omega (arith, w.1, (write_and_show.each (book_in l) (book_well l w.0)).bytes_few);
+          omega (arith, w.1, laid_few l w.0);
+      tree = λ l o h e.
+          let w = write_tree_short (of_tree_writing (condition1 [] fresh_sheet (to_write_tree l o) (λ z. omega arith)).reason) e in
+          omega (arith, w.1, laid_few l w.0);
       joined = λ first second o h e.
           let r = refused_18 first fresh_sheet (to_join second o) refl e in
           let w = join_short r.1 e in

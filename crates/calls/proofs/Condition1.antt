@@ -11,13 +11,17 @@ use lib.Dec.{ltb, eqb}
 use borrow.Author.Tests.{ltb-true, ltb-false, eqb-true, eqb-false}
 use Rattle.format.specs.Basics.{pick}
 use Rattle.format.specs.Format.{Book, book_counts, encode, book_of}
-use Rattle.format.specs.Reading.{Verdict, pass, fail, verdict, outcome, reading}
-use Rattle.format.specs.Listing.{listing_of, listing_end}
-use Rattle.format.specs.Writing.{Reply, into, showing_by, showing, laid_out, all_bytes, writable, writing}
+use Rattle.format.specs.Reading.{Verdict, pass, fail, and_then, verdict, outcome, reading}
+use Rattle.format.specs.Listing.{listing_of, book_in, listing_end}
+use Rattle.format.specs.Writing.{Reply, declined, reply_by, into, showing, laid_out, all_bytes, writable, writing}
 use Rattle.format.specs.Joining.{joined}
+use Rattle.format.specs.Trees.{tree_test, tree_verdict, tree_reading, at_0, tree_writing}
 use Rattle.format.proofs.Accepted.{verdict_accepted}
 use Rattle.format.proofs.Numbers.{book_refusal}
 use Rattle.format.proofs.Joinings.{join_holds}
+use Rattle.format.proofs.Trails.{ring_more}
+use Rattle.format.proofs.FirstTables.{wide_not_narrow}
+use Rattle.format.proofs.TreeTests.{TreeCase, tree_cases}
 use Rattle.format.proofs.ByteTests.{bytes_true, true_bytes}
 use Rattle.format.proofs.Booleans.{true_T, false_T, T_true}
 use Rattle.consistency.specs.Consistency.{places, Sheet, codes, nth, answer, backed, relax}
@@ -30,7 +34,7 @@ use Rattle.consistency.proofs.FirstRows.{has_field_lem}
 use Rattle.consistency.proofs.QuestionLists.{list_is}
 use Rattle.calls.specs.Calls.{Result, turned, done, beside, fault_of, on_sheet, replaces_backed, any_backed, masks_into, sheet_from, entered, withdrawn, photographed, filtered, alternatives, loaded, stored, row_behind, nearest_reading, debrief_plan}
 use Rattle.calls.specs.Short.{short_of, is_short, code_fault, sheet_from_short, loaded_short, stored_short, moved, shortened, lengthened}
-use Rattle.calls.specs.Conditions.{Request, to_read, to_fresh, to_enter, to_withdraw, to_photograph, to_clear, to_filter, to_list, to_store, to_load, to_store_short, to_load_short, to_shorten, to_lengthen, to_row, to_nearest, to_plan, to_show, to_write, to_join, result_of, given_book, sheet_given, lent_to, counts_of, FirstFault, NoFault, NotInTable, ReadsShort, Refusal, enter_14, enter_15, enter_16, enter_22, withdraw_14, withdraw_15, withdraw_17, withdraw_22, photograph_14, photograph_15, photograph_17, filter_14, filter_15, filter_17, filter_18, list_14, list_18, store_14, store_22, store_18, load_19, load_14, store_short_14, store_short_18, load_short_24, load_short_14, shorten_19, shorten_14, shorten_18, lengthen_24, lengthen_14, lengthen_22, lengthen_18, row_14, row_15, row_16, row_21, nearest_14, nearest_23, nearest_18, plan_14, plan_15, plan_27, show_18, join_25, join_26, join_18, WriteRefusal, write_missing, write_left_over, write_too_large, write_unread, write_18, RefusedBy, the_book, the_call, the_second, the_listing, IsRefusal, Condition1}
+use Rattle.calls.specs.Conditions.{Request, to_read, to_fresh, to_enter, to_withdraw, to_photograph, to_clear, to_filter, to_list, to_store, to_load, to_store_short, to_load_short, to_shorten, to_lengthen, to_row, to_nearest, to_plan, to_show, to_write, to_read_tree, to_write_tree, to_join, result_of, given_book, sheet_given, lent_to, counts_of, FirstFault, NoFault, NotInTable, ReadsShort, Refusal, enter_14, enter_15, enter_16, enter_22, withdraw_14, withdraw_15, withdraw_17, withdraw_22, photograph_14, photograph_15, photograph_17, filter_14, filter_15, filter_17, filter_18, list_14, list_18, store_14, store_22, store_18, load_19, load_14, store_short_14, store_short_18, load_short_24, load_short_14, shorten_19, shorten_14, shorten_18, lengthen_24, lengthen_14, lengthen_22, lengthen_18, row_14, row_15, row_16, row_21, nearest_14, nearest_23, nearest_18, plan_14, plan_15, plan_27, show_18, join_25, join_26, join_18, read_tree_28, read_tree_29, NoListing, missing, left_over, too_large, unread, write_20, write_18, WriteTreeRefusal, write_tree_20, write_tree_28, write_tree_29, write_tree_18, RefusedBy, the_book, the_call, the_second, the_listing, the_tree_listing, IsRefusal, Condition1}
 use Rattle.calls.proofs.Faults.{first_fault, fault_free, backed_known, none_backed}
 use Rattle.calls.proofs.CallLaws.{pick_cases, fault_holds, book_holds, sheet_holds}
 use Rattle.calls.proofs.Held.{other_code}
@@ -105,7 +109,7 @@ show_settled : (bytes : List ℕ) (s : Sheet) (o : List ℕ) → Settled bytes s
 unfolding showing
 show_settled bytes s o = at (verdict bytes) refl
   where
-    at : (v : Verdict) → verdict bytes ≡ v → Settled bytes s (to_show o) (beside s (showing_by v (listing_of (book_of bytes)) o))
+    at : (v : Verdict) → verdict bytes ≡ v → Settled bytes s (to_show o) (beside s (reply_by v o (into (listing_of (book_of bytes)) o)))
     at pass e = into_settled (listing_of (book_of bytes)) o (λ l. by_call e (show_18 l))
     at (fail number place) e = by_book refl number place e
 
@@ -131,14 +135,14 @@ apart m n h = at (ltb m n) refl
     at false e = inr (omega (arith, ltb-false m n e))
 
 -- 20: what of a listing that is not writable is at fault
-unwritable : (l o : List ℕ) → writable l ≡ false → WriteRefusal l o 20 0
+unwritable : (l : List ℕ) → writable l ≡ false → NoListing l
 unfolding writable
-unwritable l o e =
+unwritable l e =
     let bytes : List ℕ = laid_out l in
-    ⊎_elim (λ t. ⊎_elim write_left_over write_missing (apart (listing_end l) (length l) (eqb-false (listing_end l) (length l) t))) (λ t.
+    ⊎_elim (λ t. ⊎_elim left_over missing (apart (listing_end l) (length l) (eqb-false (listing_end l) (length l) t))) (λ t.
     let ends : listing_end l ≡ length l = eqb-true (listing_end l) (length l) t.0 in
-    ⊎_elim (λ u. write_too_large ends (λ b. true≢false (sym (true_bytes bytes b) ∙ u)))
-    (λ u. write_unread ends (bytes_true bytes u.0) (eqb-false (reading bytes).number 0 u.1))
+    ⊎_elim (λ u. too_large ends (λ b. true≢false (sym (true_bytes bytes b) ∙ u)))
+    (λ u. unread ends (bytes_true bytes u.0) (eqb-false (reading bytes).number 0 u.1))
     (first_false (all_bytes bytes) (eqb (reading bytes).number 0) t.1))
     (first_false (eqb (listing_end l) (length l)) (all_bytes bytes && eqb (reading bytes).number 0) e)
 
@@ -148,7 +152,48 @@ unfolding writing
 write_settled bytes s l o =
     pick_cases (λ (r : Reply). Settled bytes s (to_write l o) (beside s r)) (writable l)
     (λ t. into_settled {q = to_write l o} (laid_out l) o (λ k. refused_by (the_listing (write_18 t k))))
-    (λ t. refused_by (the_listing (unwritable l o t)))
+    (λ t. refused_by (the_listing (write_20 (unwritable l t))))
+
+-- what reading for the tree profile answers by a verdict
+abbrev tree_answer : List ℕ → Sheet → Verdict → Result
+tree_answer bytes s v = record { outcome = outcome v (book_counts (book_of bytes)); sheet = s; buffer = [] }
+
+-- of an accepted book
+tests_settled : (bytes : List ℕ) (s : Sheet) → verdict bytes ≡ pass → TreeCase (book_of bytes)
+    → Settled bytes s to_read_tree (tree_answer bytes s (tree_test (book_of bytes)))
+tests_settled bytes s e (TreeCase.wide i w t) = rw t (by_call e (read_tree_28 w))
+tests_settled bytes s e (TreeCase.ring i n w t) = rw t (by_call e (read_tree_29 n w))
+tests_settled bytes s e (TreeCase.tree k t) = rw t done_settled
+
+-- of any bytes
+read_tree_settled : (bytes : List ℕ) (s : Sheet) → Settled bytes s to_read_tree (result_of bytes s to_read_tree)
+unfolding tree_reading tree_verdict
+read_tree_settled bytes s = at (verdict bytes) refl
+  where
+    at : (v : Verdict) → verdict bytes ≡ v → Settled bytes s to_read_tree (tree_answer bytes s (and_then v (tree_test (book_of bytes))))
+    at pass e = tests_settled bytes s e (tree_cases (book_of bytes))
+    at (fail number place) e = by_book refl number place e
+
+module _ (bytes : List ℕ) (s : Sheet) (l o : List ℕ) where
+  -- a call that writes for the profile and answers r
+  abbrev TreeSettled : Reply → Type 0
+  TreeSettled r = Settled bytes s (to_write_tree l o) (beside s r)
+
+  -- a refusal of its own
+  tree_refused : {number : ℕ} → WriteTreeRefusal l o number 0 → TreeSettled (declined o number 0)
+  tree_refused why = refused_by (the_tree_listing why)
+
+  -- what it answers for a listing that can be written
+  laid_settled : writable l ≡ true → TreeCase (book_in l) → TreeSettled (reply_by (at_0 (tree_test (book_in l))) o (into (laid_out l) o))
+  laid_settled e (TreeCase.wide i w t) = rw t (tree_refused (write_tree_28 e (wide_not_narrow (book_in l) w)))
+  laid_settled e (TreeCase.ring i n w t) = rw t (tree_refused (write_tree_29 e n (ring_more (book_in l) w.table_in w.ring)))
+  laid_settled e (TreeCase.tree k t) = rw t (into_settled {q = to_write_tree l o} (laid_out l) o (λ h. tree_refused (write_tree_18 e k h)))
+
+  -- and for any
+  write_tree_settled : TreeSettled (tree_writing l o)
+  unfolding tree_writing
+  write_tree_settled =
+      pick_cases TreeSettled (writable l) (λ e. laid_settled e (tree_cases (book_in l))) (λ e. tree_refused (write_tree_20 (unwritable l e)))
 
 -- 21: where the test for the field fails, there is no such table, or the field is not in it
 not_there : (b : Book) (f i : ℕ) → has_field (nth b i) f ≡ false → NotInTable b f i
@@ -330,4 +375,6 @@ condition1 bytes s (to_plan t qs) =
     fail_settled e (list_ok b t qs s.answers) (λ v. plan_27 w (ltb-true t n u) (λ m. false_T v ((list_is b t qs s.answers).1 m))) (λ v. done_settled)))
 condition1 bytes s (to_show o) = show_settled bytes s o
 condition1 bytes s (to_write l o) = write_settled bytes s l o
+condition1 bytes s to_read_tree = read_tree_settled bytes s
+condition1 bytes s (to_write_tree l o) = write_tree_settled bytes s l o
 condition1 bytes s (to_join second o) = join_settled bytes s second o

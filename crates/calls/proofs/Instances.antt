@@ -7,7 +7,7 @@ use mathlib.Core.Bool.{false}
 use mathlib.Core.List.{List, [], ◌∷◌, map}
 use native.Mathlib.Omega.{arith}
 use lib.ListN.{replicate}
-use Rattle.format.specs.Basics.{scan, first_bad}
+use Rattle.format.specs.Basics.{scan, first_bad, All}
 use Rattle.format.specs.Format.{Book, trailer_bytes, encode, rows_at, table_at, tables_at, book_of}
 use Rattle.format.specs.Reading.{Outcome, trailer_test, list_test, rows_step, table_step, tables_step, verdict, reading, Accepted}
 use Rattle.format.specs.Listing.{table_numbers, listing_of, tables_in, tables_end, book_in}
@@ -23,7 +23,7 @@ use Rattle.consistency.specs.Alike.{Alike}
 use Rattle.consistency.proofs.AlikeExample.{example, turned, example_alike}
 use Rattle.calls.specs.Calls.{plain_sheet, fresh_sheet, done, sheet_from, entered, withdrawn, alternatives}
 use Rattle.calls.specs.Histories.{Call, enter, withdraw, clear, results, sheet_through, sheet_after}
-use Rattle.calls.specs.Conditions.{to_show, Refusal, show_18, WriteRefusal, write_missing, write_left_over, write_too_large, write_unread, write_18, SameResults, numbers}
+use Rattle.calls.specs.Conditions.{to_show, Refusal, show_18, NoListing, missing, left_over, too_large, unread, WriteRefusal, write_20, write_18, SameResults, numbers}
 use Rattle.calls.proofs.Condition3.{condition3}
 
 -- ---- E1, and E1 with its tables the other way round and its repeated row once
@@ -95,49 +95,52 @@ still_entered = refl
 -- ---- Request M-100, each refusal of writing: one field and the numbers behind it
 
 -- its version is missing, as from each listing before request M-103
-abbrev missing : List ℕ
-missing = 1 ∷ 1 ∷ 0 ∷ []
+abbrev pub no_version : List ℕ
+no_version = 1 ∷ 1 ∷ 0 ∷ []
 
 -- a number is left over behind the version
-abbrev left_over : List ℕ
-left_over = 1 ∷ 1 ∷ 0 ∷ 1 ∷ 0 ∷ []
+abbrev pub one_over : List ℕ
+one_over = 1 ∷ 1 ∷ 0 ∷ 1 ∷ 0 ∷ []
 
 -- 257 codes are too many for a byte
-abbrev too_large : List ℕ
-too_large = 1 ∷ 257 ∷ 0 ∷ 1 ∷ []
+abbrev pub over_byte : List ℕ
+over_byte = 1 ∷ 257 ∷ 0 ∷ 1 ∷ []
 
 -- reading refuses a field without codes, by 7
-abbrev unread : List ℕ
-unread = 1 ∷ 0 ∷ 0 ∷ 1 ∷ []
+abbrev pub no_codes : List ℕ
+no_codes = 1 ∷ 0 ∷ 0 ∷ 1 ∷ []
 
 -- a listing of a book of seven bytes
 abbrev seven : List ℕ
 seven = 1 ∷ 1 ∷ 0 ∷ 1 ∷ []
 
--- the four are refused by 20 on their conditions, whatever is lent; the last by 18 where six bytes are
-module _ (o : List ℕ) where
-  pub missing_20 : WriteRefusal missing o 20 0
-  unfolding tables_end
-  missing_20 = write_missing (omega arith)
+-- each of the four is no listing for a reason of its own
+pub no_version_missing : NoListing no_version
+unfolding tables_end
+no_version_missing = missing (omega arith)
 
-  pub left_over_20 : WriteRefusal left_over o 20 0
-  unfolding tables_end
-  left_over_20 = write_left_over (omega arith)
+pub one_over_left : NoListing one_over
+unfolding tables_end
+one_over_left = left_over (omega arith)
 
-  pub too_large_20 : WriteRefusal too_large o 20 0
-  unfolding tables_end tables_in book_in encode trailer_bytes
-  too_large_20 = write_too_large refl (λ b. omega (arith, b.0))
+pub over_byte_large : NoListing over_byte
+unfolding tables_end tables_in book_in encode trailer_bytes
+over_byte_large = too_large refl (λ b. omega (arith, b.0))
 
-  pub unread_20 : WriteRefusal unread o 20 0
-  unfolding tables_end tables_in book_in encode trailer_bytes reading verdict trailer_test list_test first_bad scan
-  unread_20 = write_unread refl (bytes_true (laid_out unread) refl) (λ z. omega arith)
+pub no_codes_unread : NoListing no_codes
+unfolding tables_end tables_in book_in encode trailer_bytes reading verdict trailer_test list_test first_bad scan
+no_codes_unread = unread refl (bytes_true (laid_out no_codes) refl) (λ z. omega arith)
+
+-- so they are refused by 20, whatever is lent; the last is by 18 where six bytes are
+pub four_20 : (o : List ℕ) → All (λ (l : List ℕ). WriteRefusal l o 20 0) (no_version ∷ one_over ∷ over_byte ∷ no_codes ∷ [])
+four_20 o = (write_20 no_version_missing, (write_20 one_over_left, (write_20 over_byte_large, (write_20 no_codes_unread, tt))))
 
 pub seven_18 : WriteRefusal seven (replicate 6 9) 18 0
 unfolding tables_end tables_in book_in encode trailer_bytes writable reading verdict trailer_test list_test tables_step first_bad scan
 seven_18 = write_18 refl (omega arith)
 
--- so the call refuses them, by computing, and changes no byte
-pub writings_refused : map (λ (l : List ℕ). writing l (replicate 6 9)) (missing ∷ left_over ∷ too_large ∷ unread ∷ seven ∷ [])
+-- the call refuses them, by computing, and changes no byte
+pub writings_refused : map (λ (l : List ℕ). writing l (replicate 6 9)) (no_version ∷ one_over ∷ over_byte ∷ no_codes ∷ seven ∷ [])
     ≡ map (λ (number : ℕ). declined (replicate 6 9) number 0) (20 ∷ 20 ∷ 20 ∷ 20 ∷ 18 ∷ [])
 unfolding into writing writable tables_end tables_in book_in encode trailer_bytes reading verdict trailer_test list_test tables_step first_bad scan
 writings_refused = refl

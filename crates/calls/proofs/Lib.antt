@@ -33,4 +33,7 @@ pub mod ShortCalls
 pub mod ShortExamples
 pub mod JoinedBytes
 pub mod JoinExamples
+pub mod TreeInstances
+pub mod TreesAlike
+pub mod TreeExamples
 pub mod Kept

@@ -3,6 +3,7 @@ use Rattle.std.specs.Prelude.{ℕ, ◌+◌, ◌*◌, ◌≤◌, ◌≢◌, List,
 use Rattle.format.specs.Format.{code_limit}
 use Rattle.format.specs.Writing.{showing, writing, book_limit, listing_limit}
 use Rattle.format.specs.Joining.{joining}
+use Rattle.format.specs.Trees.{tree_writing}
 use Rattle.consistency.specs.Consistency.{places, Sheet}
 use Rattle.calls.specs.Calls.{filtered, alternatives, stored, nearest_reading}
 use Rattle.calls.specs.Short.{stored_short, shortened, lengthened}
@@ -36,5 +37,7 @@ pub record Suffices : Type 0 where
   -- Request M-100: numbers for a book's listing, bytes for a book
   pub listing : (bytes o : List ℕ) → listing_limit ≤ length o → (showing bytes o).outcome.number ≢ 18
   pub book : (l o : List ℕ) → book_limit ≤ length o → (writing l o).outcome.number ≢ 18
+  -- Request M-111: bytes for a tree book
+  pub tree : (l o : List ℕ) → book_limit ≤ length o → (tree_writing l o).outcome.number ≢ 18
   -- Request M-109: bytes for two books joined
   pub joined : (first second o : List ℕ) → book_limit ≤ length o → (joining first second o).outcome.number ≢ 18

@@ -5,9 +5,10 @@ use Rattle.format.specs.Basics.{pick, In}
 use Rattle.format.specs.Format.{Book, WellFormed, encode, book_of}
 use Rattle.format.specs.Reading.{accepted, pass, fail, verdict, BookRefusal, reading, Accepted}
 use Rattle.format.specs.Layout.{Bytes}
-use Rattle.format.specs.Listing.{listing_of, listing_end}
+use Rattle.format.specs.Listing.{listing_of, book_in, listing_end}
 use Rattle.format.specs.Writing.{showing, laid_out, writable, writing}
 use Rattle.format.specs.Joining.{joined, joining}
+use Rattle.format.specs.Trees.{Ring, Narrow, Tree, FirstWide, FirstRing, first_byte, tree_reading, tree_writing}
 use Rattle.consistency.specs.Counting.{sum_over, those}
 use Rattle.consistency.specs.Consistency.{places, Subdomain, Sheet, codes, nth, answer, backed, relax, IsLargest}
 use Rattle.consistency.specs.Emptiness.{NoneEmpty, none_empty}
@@ -45,6 +46,8 @@ pub data Request : Type 0 where
   to_plan : ℕ → List ℕ → Request
   to_show : List ℕ → Request
   to_write : List ℕ → List ℕ → Request
+  to_read_tree : Request
+  to_write_tree : List ℕ → List ℕ → Request
   to_join : List ℕ → List ℕ → Request
 
 abbrev pub result_of : List ℕ → Sheet → Request → Result
@@ -67,6 +70,8 @@ result_of bytes s (to_nearest o) = nearest_reading bytes s o
 result_of bytes s (to_plan t qs) = debrief_plan bytes s t qs
 result_of bytes s (to_show o) = beside s (showing bytes o)
 result_of bytes s (to_write l o) = beside s (writing l o)
+result_of bytes s to_read_tree = record { outcome = tree_reading bytes; sheet = s; buffer = [] }
+result_of bytes s (to_write_tree l o) = beside s (tree_writing l o)
 result_of bytes s (to_join second o) = beside s (joining bytes second o)
 
 -- the calls that are given a book's bytes
@@ -90,6 +95,8 @@ given_book (to_nearest o) = true
 given_book (to_plan t qs) = true
 given_book (to_show o) = true
 given_book (to_write l o) = false
+given_book to_read_tree = true
+given_book (to_write_tree l o) = false
 given_book (to_join second o) = true
 
 -- the sheet given; "It is given no sheet: a refused load hands back a fresh one"
@@ -113,6 +120,8 @@ sheet_given s (to_nearest o) = s
 sheet_given s (to_plan t qs) = s
 sheet_given s (to_show o) = s
 sheet_given s (to_write l o) = s
+sheet_given s to_read_tree = s
+sheet_given s (to_write_tree l o) = s
 sheet_given s (to_join second o) = s
 
 abbrev pub lent_to : Request → List ℕ
@@ -135,6 +144,8 @@ lent_to (to_nearest o) = o
 lent_to (to_plan t qs) = []
 lent_to (to_show o) = o
 lent_to (to_write l o) = o
+lent_to to_read_tree = []
+lent_to (to_write_tree l o) = o
 lent_to (to_join second o) = o
 
 -- how many things the call counts
@@ -158,6 +169,8 @@ counts_of (to_nearest o) = 3
 counts_of (to_plan t qs) = 2
 counts_of (to_show o) = 1
 counts_of (to_write l o) = 1
+counts_of to_read_tree = 4
+counts_of (to_write_tree l o) = 1
 counts_of (to_join second o) = 1
 
 -- 14, "the first field at fault": place p fails the test of 14, and each place before it passes
@@ -288,15 +301,29 @@ pub data Refusal (b : Book) (s : Sheet) : Request → ℕ → ℕ → Type 0 whe
   join_26 : {t o : List ℕ} → verdict t ≡ pass → (book_of t).counts ≡ b.counts → (WellFormed (joined b (book_of t)) → ⊥) → Refusal b s (to_join t o) 26 0
   join_18 : {t o : List ℕ} → verdict t ≡ pass → (book_of t).counts ≡ b.counts → WellFormed (joined b (book_of t))
       → length o < length (encode (joined b (book_of t))) → Refusal b s (to_join t o) 18 0
+  -- Request M-111, reading for the profile, behind 1 to 13: "28, a table with more than two fields, first byte of the first such table. 29, tested when
+  -- no table breaks 28: a ring, first byte of the first table that closes one"
+  read_tree_28 : {i : ℕ} → FirstWide b i → Refusal b s to_read_tree 28 (first_byte b i)
+  read_tree_29 : {i : ℕ} → Narrow b → FirstRing b i → Refusal b s to_read_tree 29 (first_byte b i)
 
--- Request M-100, the refusals of writing listing l with bytes o lent: "20, place 0: a number missing, left over or too large for its bytes, or
--- the bytes laid out would be refused by reading. Then 18, too few bytes lent"
+-- Request M-100, 20 of writing listing l: "a number missing, left over or too large for its bytes, or the bytes laid out would be refused by reading"
+pub data NoListing (l : List ℕ) : Type 0 where
+  missing : length l < listing_end l → NoListing l
+  left_over : listing_end l < length l → NoListing l
+  too_large : listing_end l ≡ length l → (Bytes (laid_out l) → ⊥) → NoListing l
+  unread : listing_end l ≡ length l → Bytes (laid_out l) → (reading (laid_out l)).number ≢ 0 → NoListing l
+
+-- The refusals of writing listing l with bytes o lent: "20, place 0 .. Then 18, too few bytes lent"
 pub data WriteRefusal (l o : List ℕ) : ℕ → ℕ → Type 0 where
-  write_missing : length l < listing_end l → WriteRefusal l o 20 0
-  write_left_over : listing_end l < length l → WriteRefusal l o 20 0
-  write_too_large : listing_end l ≡ length l → (Bytes (laid_out l) → ⊥) → WriteRefusal l o 20 0
-  write_unread : listing_end l ≡ length l → Bytes (laid_out l) → (reading (laid_out l)).number ≢ 0 → WriteRefusal l o 20 0
+  write_20 : NoListing l → WriteRefusal l o 20 0
   write_18 : writable l ≡ true → length o < length (laid_out l) → WriteRefusal l o 18 0
+
+-- Request M-111, for the profile: "The writer checks them after 20 and before 18, with place 0"
+pub data WriteTreeRefusal (l o : List ℕ) : ℕ → ℕ → Type 0 where
+  write_tree_20 : NoListing l → WriteTreeRefusal l o 20 0
+  write_tree_28 : writable l ≡ true → (Narrow (book_in l) → ⊥) → WriteTreeRefusal l o 28 0
+  write_tree_29 : writable l ≡ true → Narrow (book_in l) → Ring (book_in l) (length (book_in l).tables) → WriteTreeRefusal l o 29 0
+  write_tree_18 : writable l ≡ true → Tree (book_in l) → length o < length (laid_out l) → WriteTreeRefusal l o 18 0
 
 -- "A refusal gives its number and a place (a byte of the book for 1 to 13, the first field at fault for 14, else 0)"
 pub data RefusedBy (bytes : List ℕ) (s : Sheet) : Request → ℕ → ℕ → Type 0 where
@@ -309,6 +336,7 @@ pub data RefusedBy (bytes : List ℕ) (s : Sheet) : Request → ℕ → ℕ → 
       → RefusedBy bytes s (to_join t o) number place
   -- writing is given no book: whatever the bytes
   the_listing : {l o : List ℕ} {number place : ℕ} → WriteRefusal l o number place → RefusedBy bytes s (to_write l o) number place
+  the_tree_listing : {l o : List ℕ} {number place : ℕ} → WriteTreeRefusal l o number place → RefusedBy bytes s (to_write_tree l o) number place
 
 -- r is a refusal of call q: number and place; "All counts in it are 0, each lent buffer keeps its bytes, and the sheet comes back as given"
 pub record IsRefusal (bytes : List ℕ) (s : Sheet) (q : Request) (r : Result) : Type 0 where

@@ -10,3 +10,4 @@ pub mod Nearest
 pub mod Plans
 pub mod ShortForms
 pub mod Joins
+pub mod Trees
