@@ -25,13 +25,9 @@ use Rattle.listing.proofs.Fitted.{Fitted, fitted, fits_of}
 
 module _ (l out : List ℕ) where
   -- 20
-  pub wrote_unwritable : (writable l ≡ true → ⊥) → declined out 20 0 ≡ writing l out
+  pub wrote_unwritable : writable l ≡ false → declined out 20 0 ≡ writing l out
   unfolding writing
-  wrote_unwritable n = go (writable l) refl
-    where
-      go : (t : Bool) → writable l ≡ t → declined out 20 0 ≡ writing l out
-      go true e = absurd (n e)
-      go false e = rw e
+  wrote_unwritable e = rw e
 
   module _ (e : writable l ≡ true) where
     writes : writing l out ≡ into (laid_out l) out
@@ -42,24 +38,34 @@ module _ (l out : List ℕ) where
     pub wrote_handed : (xs out' : List ℕ) (r : Result ℕ NoRoom) → xs ≡ laid_out l → HandedOut xs out out' r → handed r out' ≡ writing l out
     wrote_handed xs out' r ex h = handed_into xs out out' r h ∙ ap (λ (z : List ℕ). into z out) ex ∙ sym writes
 
+-- what cannot be written
+cannot : (l : List ℕ) → (writable l ≡ true → ⊥) → writable l ≡ false
+cannot l n = go (writable l) refl
+  where
+    go : (t : Bool) → writable l ≡ t → t ≡ false
+    go true e = absurd (n e)
+    go false e = refl
+
 -- what can be written fits
 writable_fits : (l : List ℕ) → writable l ≡ true → Fitted l
 writable_fits l e =
     let w = writable_says l e in
     record { whole = w.whole; bytes = w.bytes; short = book_few _ (book_well l e) }
 
-pub unfit_unwritable : (l : List ℕ) → fits l ≡ false → writable l ≡ true → ⊥
-unfit_unwritable l f e =
+pub unfit_unwritable : (l : List ℕ) → fits l ≡ false → writable l ≡ false
+unfit_unwritable l f =
+    cannot l (λ e.
     let z : false ≡ true = sym f ∙ fits_of l (writable_fits l e) in
     let y : ◌≡◌ {A = ℕ} 0 1 = cc in
-    omega arith
+    omega arith)
 
 -- of a listing that fits, the bytes laid out, s, decide
 module _ (l s : List ℕ) (es : s ≡ laid_out l) where
-  pub refused_unwritable : (number place : ℕ) → fail number place ≡ verdict s → writable l ≡ true → ⊥
-  refused_unwritable number place e w =
+  pub refused_unwritable : (number place : ℕ) → fail number place ≡ verdict s → writable l ≡ false
+  refused_unwritable number place e =
+      cannot l (λ w.
       let a : Accepted s = rw es (writable_says l w).reads in
-      fail≢pass (e ∙ accepted_verdict s a)
+      fail≢pass (e ∙ accepted_verdict s a))
 
   pub passed_writable : fits l ≡ true → verdict s ≡ pass → writable l ≡ true
   passed_writable f p =

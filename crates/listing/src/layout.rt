@@ -1,14 +1,14 @@
 // The bytes of a listing's book, laid out.
 // (d) Parts of both memories by places reckoned here: `split_at` would need the same numbers, since each part says how long the next is.
-ghost use Rattle.std.specs.Prelude.{◌≡◌, true, ◌≤◌, length};
+ghost use Rattle.std.specs.Prelude.{◌≡◌, ◌≤◌, length};
 ghost use Rattle.std.proofs.lemmas.List.Edits.{sets};
 ghost use Rattle.format.specs.Format.{table_bytes, tables_bytes};
 ghost use Rattle.format.specs.Layout.{Bytes};
 ghost use Rattle.format.specs.Listing.{table_in, tables_in};
 ghost use Rattle.format.specs.Writing.{laid_out, book_limit};
-ghost use Rattle.listing.specs.Fits.{fits};
 ghost use Rattle.listing.specs.Bounds.{TableLays, TablesLay};
 
+use super::Listing;
 use book::TRAILER;
 
 // Numbers, each a byte, in memory for as many. (d) No one function with `widen`: this way a cast is needed, and that way a conversion. One that
@@ -58,17 +58,18 @@ fn lay_tables(listing: &[u16], first: usize, tables: usize, out: &mut [u8]) -> u
     to
 }
 
-// Writes the bytes of a listing that fits, from the first byte on. Answers how many they are.
-pub(crate) fn lay_out(listing: &[u16], out: &mut [u8]) -> usize
-    requires { (fits listing.now ≡ true) × (book_limit ≤ length out.old) }
-    ensures { (result ≡ length (laid_out listing.now)) × (out.new ≡ sets out.old 0 (laid_out listing.now)) }
+// Writes the bytes of a listing, from the first byte on. Answers how many they are.
+pub(crate) fn lay_out(listing: Listing<'_>, out: &mut [u8]) -> usize
+    requires { book_limit ≤ length out.old }
+    ensures { (result ≡ length (laid_out listing.entry.numbers.now)) × (out.new ≡ sets out.old 0 (laid_out listing.entry.numbers.now)) }
 {
-    let fields = usize::from(listing[0]);
-    let tables = usize::from(listing[1 + fields]);
-    let list = lay_tables(listing, 2 + fields, tables, out);
+    let numbers = listing.numbers;
+    let fields = usize::from(numbers[0]);
+    let tables = usize::from(numbers[1 + fields]);
+    let list = lay_tables(numbers, 2 + fields, tables, out);
     let end = list + fields;
-    narrow(&listing[1..1 + fields], &mut out[list..end]);
-    let version = listing[listing.len() - 1] as u8;
+    narrow(&numbers[1..1 + fields], &mut out[list..end]);
+    let version = numbers[numbers.len() - 1] as u8;
     let trailer = book::trailer(list as u16, fields as u8, tables as u8, version);
     out[end..end + TRAILER].copy_from_slice(&trailer);
     end + TRAILER
