@@ -107,6 +107,20 @@ impl Written {
         book
     }
 
+    // So many links without rows, on the most fields: each field is linked to the next, and the last one to field 0.
+    pub(crate) fn with_links(links: u8) -> Written {
+        let mut book = Written::empty();
+        for field in 0..links {
+            let next = (field + 1) % PLACES as u8;
+            book.put_all(&[2, field.min(next), field.max(next), 0, 0]);
+        }
+        book.put_end(Shape {
+            tables: links,
+            ..Shape::WIDEST
+        });
+        book
+    }
+
     pub(crate) fn bytes(&self) -> &[u8] {
         &self.buffer[..self.len]
     }

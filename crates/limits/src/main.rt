@@ -11,6 +11,9 @@ use report::{PAIR_BYTES, TEXT_LIMIT};
 use sheet::Sheet;
 use std::io;
 
+// The numbers of a listing of as many fields and as many links without rows.
+const LISTING: usize = 3 + 5 * PLACES;
+
 // One more than a stored sheet may have.
 const FORM_BYTES: usize = PLACES + 1;
 
@@ -194,6 +197,23 @@ fn try_joined(rt: &HostRuntime) -> io::Result<()> {
     Ok(())
 }
 
+// Tree books: a path through the most fields, and the ring that one link more closes; then the listing of either, with so many bytes lent.
+fn try_trees(rt: &HostRuntime) -> io::Result<()> {
+    for links in [PLACES - 1, PLACES] {
+        let book = Written::with_links(links as u8);
+        say(rt, "tree, links", links, trees::read_tree(book.bytes()))?;
+    }
+    for (links, lent) in [(PLACES - 1, 361), (PLACES - 1, 360), (PLACES, 366)] {
+        let book = Written::with_links(links as u8);
+        let mut numbers = [0; LISTING];
+        let count = listing::show(book.bytes(), &mut numbers).unwrap_or(0);
+        let mut out = [0; BOOK_LIMIT];
+        let written = trees::write_tree(&numbers[..count.min(LISTING)], first_mut(&mut out, lent));
+        say(rt, "tree, lent", lent, written)?;
+    }
+    Ok(())
+}
+
 // Printing the widest book and a sheet that is answered 0 everywhere, with so many bytes lent.
 fn try_text(rt: &HostRuntime, widest: &[u8], form: &[u8]) -> io::Result<()> {
     let mut text = [0; TEXT_LIMIT];
@@ -216,5 +236,6 @@ fn main(rt: HostRuntime) -> io::Result<()> {
     try_fresh(rt)?;
     try_plans(rt)?;
     try_joined(rt)?;
+    try_trees(rt)?;
     try_text(rt, widest, &form)
 }

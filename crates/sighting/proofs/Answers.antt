@@ -16,6 +16,10 @@ use Rattle.listing.specs.Answers.{showed, wrote}
 use Rattle.listing.specs.Refusals.{show_number, show_place, write_number}
 use Rattle.listing.specs.declared.refusals.ShowRefusal.{ShowRefusal}
 use Rattle.listing.specs.declared.refusals.WriteRefusal.{WriteRefusal}
+use Rattle.trees.specs.Answers.{tree_read, tree_wrote}
+use Rattle.trees.specs.Numbers as trees
+use Rattle.trees.specs.declared.refusals.TreeRefusal.{TreeRefusal}
+use Rattle.trees.specs.declared.refusals.TreeWriteRefusal.{TreeWriteRefusal}
 use Rattle.joining.specs.Answers.{joined_by}
 use Rattle.joining.specs.Numbers as join
 use Rattle.joining.specs.declared.refusals.JoinRefusal.{JoinRefusal}
@@ -64,6 +68,11 @@ pub told_read : (r : Result reader.Counts Refused)
 told_read (Ok counts) = refl
 told_read (Err e) = refl
 
+pub told_read_tree : (r : Result reader.Counts TreeRefusal)
+    → told (λ counts. counts.fields ∷ counts.tables ∷ counts.rows ∷ counts.different ∷ []) trees.read_number trees.read_place 4 r ≡ tree_read r
+told_read_tree (Ok counts) = refl
+told_read_tree (Err e) = refl
+
 -- ---- a call that is given no sheet
 
 -- its answer, and what the memory lent holds
@@ -81,6 +90,10 @@ told_showed (Err e) o = refl
 pub told_wrote : (r : Result ℕ WriteRefusal) (o : List ℕ) → replied write_number (λ e. 0) r o ≡ wrote r o
 told_wrote (Ok count) o = refl
 told_wrote (Err e) o = refl
+
+pub told_wrote_tree : (r : Result ℕ TreeWriteRefusal) (o : List ℕ) → replied trees.write_number (λ e. 0) r o ≡ tree_wrote r o
+told_wrote_tree (Ok count) o = refl
+told_wrote_tree (Err e) o = refl
 
 pub told_joined : (r : Result ℕ JoinRefusal) (o : List ℕ) → replied join.number_of join.place_of r o ≡ joined_by r o
 told_joined (Ok count) o = refl

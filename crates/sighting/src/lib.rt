@@ -11,6 +11,7 @@ ghost use Rattle.format.specs.Layout.{HasLayout};
 ghost use Rattle.format.specs.Reading.{reading};
 ghost use Rattle.format.specs.Writing.{into, showing, writing};
 ghost use Rattle.format.specs.WriteAndShow.{HasListing};
+ghost use Rattle.format.specs.Trees.{tree_reading, tree_writing};
 ghost use Rattle.format.specs.Joining as model;
 ghost use Rattle.calls.specs.Calls.{fresh_sheet, cleared, entered, withdrawn, photographed, filtered, alternatives, loaded, stored, row_behind, nearest_reading, debrief_plan};
 ghost use Rattle.calls.specs.Short.{loaded_short, stored_short, shortened, lengthened};
@@ -50,6 +51,26 @@ pub extern "C" fn sighting_write(listing: &[u16], out: &mut [u8], outcome: &mut 
     ensures listing { result ≢ 20 ↔ HasListing listing.now }
 {
     tell(listing::write(listing, out), outcome)
+}
+
+// Reads a tree book. Cells: place, fields, tables, rows written, different rows.
+#[unsafe(no_mangle)]
+pub extern "C" fn sighting_read_tree(book: &[u8], outcome: &mut [u64; 5]) -> u64
+    ensures { Tells result outcome.new (tree_reading book.now) }
+{
+    tell(trees::read_tree(book), outcome)
+}
+
+// Writes the bytes of the tree book that a listing says. Cells: place, bytes written.
+#[unsafe(no_mangle)]
+pub extern "C" fn sighting_write_tree(
+    listing: &[u16],
+    out: &mut [u8],
+    outcome: &mut [u64; 2],
+) -> u64
+    ensures { Replies result outcome.new out.new (tree_writing listing.now out.old) }
+{
+    tell(trees::write_tree(listing, out), outcome)
 }
 
 // Makes the sheet a fresh one.
