@@ -52,6 +52,8 @@
  *       25  the fields of the two books differ in their numbers of codes         0
  *       26  the joined book would break a limit of version 2                     0
  *       27  the list of questions is none that may be asked                      0
+ *       28  a table ties more than two fields                                    that table's first byte; sighting_write_tree: 0
+ *       29  the tables' links form a ring                                        that table's first byte; sighting_write_tree: 0
  *
  * 1 to 13 have their place in the book that is refused. sighting_join is lent two, and neither number nor place tells which of them it
  * refuses: it is the first where sighting_read refuses that, by the same number and place, and else the second.
@@ -70,6 +72,10 @@
  * 26 looks for more than 64 tables or more than 4,096 rows in the joined book; of two accepted books it can break no other limit.
  * 27 looks for more than six questions, and for one that stands in the list before, that the book has no field for, that has an answer, or
  * that is the target.
+ * 28 looks for the first table of more than two fields. Where there is none, 29 looks for the first table that closes a ring: with it the
+ * tables so far have a ring, and without it they have none. Two fields are linked where a table ties the two, also one without rows; links
+ * of different tables that lead from a field back to it are a ring, so two tables on the same two fields are one. A listing has no bytes,
+ * and sighting_write_tree refuses it by 28 and 29 with place 0.
  * The first refusal in the order that a function's comment gives is the one returned.
  */
 #ifndef SIGHTING_H
@@ -107,7 +113,7 @@
 #define SIGHTING_SHORT_BYTES 182       /* sighting_store_short, sighting_shorten */
 #define SIGHTING_REPORT_BYTES 21162    /* sighting_report */
 #define SIGHTING_LISTING_NUMBERS 16831 /* sighting_show */
-#define SIGHTING_BOOK_BYTES 16898      /* sighting_write, sighting_join */
+#define SIGHTING_BOOK_BYTES 16898      /* sighting_write, sighting_write_tree, sighting_join */
 
 /* The four kinds of call in a list for sighting_replay. */
 #define SIGHTING_CALL_ENTER 0
@@ -315,6 +321,22 @@ uint64_t sighting_show(const uint8_t *book, size_t book_len, uint16_t *out, size
  * Refusals: 20, 18 where out_len is below the length of the book.
  */
 uint64_t sighting_write(const uint16_t *listing, size_t listing_len, uint8_t *out, size_t out_len, uint64_t *outcome);
+
+/*
+ * Reads a tree book, the restricted book of small aircraft, and counts what it has. A tree book is a book whose tables tie one field or
+ * two, and whose links form no ring. Every other call takes it like any book.
+ *   outcome[5]  place, fields, tables, rows written, different rows, as sighting_read
+ * Refusals: 1 to 13, 28, 29.
+ */
+uint64_t sighting_read_tree(const uint8_t *book, size_t book_len, uint64_t *outcome);
+
+/*
+ * Writes the bytes of the tree book that a listing says, as sighting_write does, and refuses the listing of any other book. What it writes is
+ * read by sighting_read_tree.
+ *   outcome[2]  place, how many bytes were written
+ * Refusals: 20, 28, 29, 18 where out_len is below the length of the book.
+ */
+uint64_t sighting_write_tree(const uint16_t *listing, size_t listing_len, uint8_t *out, size_t out_len, uint64_t *outcome);
 
 /*
  * Joins two books whose fields have the same numbers of codes: writes one book that says what both say, of version 2 whatever theirs are.

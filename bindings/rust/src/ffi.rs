@@ -121,6 +121,8 @@ extern "C" {
     ) -> u64;
     pub fn sighting_show(book: *const u8, book_len: usize, out: *mut u16, out_len: usize, outcome: *mut u64) -> u64;
     pub fn sighting_write(listing: *const u16, listing_len: usize, out: *mut u8, out_len: usize, outcome: *mut u64) -> u64;
+    pub fn sighting_read_tree(book: *const u8, book_len: usize, outcome: *mut u64) -> u64;
+    pub fn sighting_write_tree(listing: *const u16, listing_len: usize, out: *mut u8, out_len: usize, outcome: *mut u64) -> u64;
     pub fn sighting_join(
         first: *const u8,
         first_len: usize,

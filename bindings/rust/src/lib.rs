@@ -170,6 +170,37 @@
 //! # }
 //! ```
 //!
+//! Small aircraft carry a tree book. Its tables tie one field or two, and no ring of tables leads from a field back to it:
+//!
+//! ```
+//! use sighting::{read, read_tree, write_tree};
+//!
+//! # fn main() -> Result<(), sighting::Refusal> {
+//! # let book = [
+//! #     2, 0, 2, 4, 0, 0, 0, 0, 1, 1, 2, 0, 1, 2, 1, 2, 4, 0, 0, 0, 1, 1, 1, 2, 2, 2, 2, 3, 3, 0x1A, 0, 3, 2, 1, 0xE5,
+//! # ];
+//! assert_eq!(read_tree(&book)?, read(&book)?); // the first book above: field 2 is linked to both others, and they not to each other
+//!
+//! let each_pair_differs = [
+//!     2, 0, 1, 2, 0, 0, 1, 1, 0, // fields 0 and 1
+//!     2, 0, 2, 2, 0, 0, 1, 1, 0, // fields 0 and 2
+//!     2, 1, 2, 2, 0, 0, 1, 1, 0, // fields 1 and 2: from field 0 by 1 and 2 back to 0
+//!     2, 2, 2, 27, 0, 3, 3, 1, 0xE5,
+//! ];
+//! let ring = read_tree(&each_pair_differs).unwrap_err();
+//! assert_eq!(ring.to_string(), "refused 29 at 18: the tables' links form a ring");
+//!
+//! let mut out = [0; sighting::BOOK_BYTES];
+//! let pair = [2, 2, 2, 1, 2, 0, 1, 1, 0, 1, 1]; // a listing: two fields of two codes, and one table with one row
+//! assert_eq!(write_tree(&pair, &mut out)?, 15);
+//! assert_eq!(read_tree(&out[..15])?.tables, 1);
+//!
+//! let three = [3, 2, 2, 2, 1, 3, 0, 1, 2, 0, 1]; // a table of three fields
+//! assert_eq!(write_tree(&three, &mut out).unwrap_err().to_string(), "refused 28 at 0: a table ties more than two fields");
+//! # Ok(())
+//! # }
+//! ```
+//!
 //! Two survey blocks that share one aircraft need one book. The joined one has a table for each set of fields that either book has, with
 //! the rows that stand in all tables on these fields:
 //!
@@ -241,7 +272,7 @@ pub const REPORT_BYTES: usize = 21162;
 /// So many numbers suffice for [`show`].
 pub const LISTING_NUMBERS: usize = 16831;
 
-/// So many bytes suffice for [`write()`] and [`join`].
+/// So many bytes suffice for [`write()`], [`write_tree`] and [`join`].
 pub const BOOK_BYTES: usize = 16898;
 
 /// What a book has. A row that is repeated in its table counts once among the different rows.
@@ -295,13 +326,33 @@ fn answer<T>(number: u64, place: u64, value: T) -> Result<T, Refusal> {
     }
 }
 
-/// Reads a book and counts what it has. Refusals: 1 to 13.
-pub fn read(book: &[u8]) -> Result<Counts, Refusal> {
+/// A call that reads a book and counts: five cells, place and what it counted.
+type Reader = unsafe extern "C" fn(*const u8, usize, *mut u64) -> u64;
+
+/// What such a call answers.
+///
+/// # Safety
+/// `call` reads and writes no more than the slice and cells that it is lent.
+unsafe fn read_by(call: Reader, book: &[u8]) -> Result<Counts, Refusal> {
     let mut cells = [0; 5];
-    // SAFETY: book's pointer and length belong together; five cells are lent.
-    let number = unsafe { ffi::sighting_read(book.as_ptr(), book.len(), cells.as_mut_ptr()) };
+    let number = call(book.as_ptr(), book.len(), cells.as_mut_ptr());
     let [place, fields, tables, rows, different_rows] = cells;
     answer(number, place, Counts { fields, tables, rows, different_rows })
+}
+
+/// Reads a book and counts what it has. Refusals: 1 to 13.
+pub fn read(book: &[u8]) -> Result<Counts, Refusal> {
+    // SAFETY: the call keeps to what it is lent.
+    unsafe { read_by(ffi::sighting_read, book) }
+}
+
+/// Reads a tree book and counts what [`read`] counts. A tree book is a book whose tables tie one field or two, and whose links form no
+/// ring. Two fields are linked where a table ties the two, also one without rows; two tables on the same two fields are a ring. Every
+/// other call takes such a book like any. Refusals: 1 to 13, 28 at the first byte of the first table of more than two fields, and, where
+/// there is none, 29 at that of the first table that closes a ring.
+pub fn read_tree(book: &[u8]) -> Result<Counts, Refusal> {
+    // SAFETY: the call keeps to what it is lent.
+    unsafe { read_by(ffi::sighting_read_tree, book) }
 }
 
 /// A call that reads a book and a stored sheet, or another book, and writes bytes: two cells, place and how many it wrote.
@@ -356,9 +407,28 @@ pub fn show(book: &[u8], out: &mut [u16]) -> Result<u64, Refusal> {
 /// book shows gives the book's bytes, and the bytes written show the listing. One that ends without a version is refused by 20.
 /// Refusals: 20, 18.
 pub fn write(listing: &[u16], out: &mut [u8]) -> Result<u64, Refusal> {
+    // SAFETY: the call keeps to what it is lent.
+    unsafe { lay_out_by(ffi::sighting_write, listing, out) }
+}
+
+/// Writes the bytes of the tree book that a listing says, as [`write()`] does, and refuses the listing of any other book. What it writes
+/// is accepted by [`read_tree`]. Refusals: 20, 28 where a table ties more than two fields, 29 where the links form a ring, 18; each has
+/// place 0.
+pub fn write_tree(listing: &[u16], out: &mut [u8]) -> Result<u64, Refusal> {
+    // SAFETY: the call keeps to what it is lent.
+    unsafe { lay_out_by(ffi::sighting_write_tree, listing, out) }
+}
+
+/// A call that reads a listing and writes bytes: two cells, place and how many it wrote.
+type Layout = unsafe extern "C" fn(*const u16, usize, *mut u8, usize, *mut u64) -> u64;
+
+/// What such a call answers.
+///
+/// # Safety
+/// `call` reads and writes no more than the slices and cells that it is lent.
+unsafe fn lay_out_by(call: Layout, listing: &[u16], out: &mut [u8]) -> Result<u64, Refusal> {
     let mut cells = [0; 2];
-    // SAFETY: each pointer has its slice's length beside it; two cells are lent.
-    let number = unsafe { ffi::sighting_write(listing.as_ptr(), listing.len(), out.as_mut_ptr(), out.len(), cells.as_mut_ptr()) };
+    let number = call(listing.as_ptr(), listing.len(), out.as_mut_ptr(), out.len(), cells.as_mut_ptr());
     let [place, written] = cells;
     answer(number, place, written)
 }

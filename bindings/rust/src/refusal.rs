@@ -3,9 +3,10 @@
 use std::error::Error;
 use std::fmt;
 
-/// A refusal: its number, 1 to 27, and its place. The place is a byte of the book for 1 to 13, the first place of the sheet at fault, or
-/// the first such field of a short stored sheet, for 14, and 0 for the others. Of the two books of [`join`](crate::join) it is the first
-/// that 1 to 13 refuse where [`read`](crate::read) refuses that, and else the second.
+/// A refusal: its number, 1 to 29, and its place. The place is a byte of the book for 1 to 13, the first place of the sheet at fault, or
+/// the first such field of a short stored sheet, for 14, the first byte of a table for the 28 and 29 of [`read_tree`](crate::read_tree),
+/// and 0 for the others. Of the two books of [`join`](crate::join) it is the first that 1 to 13 refuse where [`read`](crate::read) refuses
+/// that, and else the second.
 #[derive(Clone, Copy, Debug, PartialEq, Eq)]
 pub struct Refusal {
     pub number: u64,
@@ -13,7 +14,7 @@ pub struct Refusal {
 }
 
 /// What each number says, from 1.
-const MEANINGS: [&str; 27] = [
+const MEANINGS: [&str; 29] = [
     "the book has fewer than 6 or more than 32,768 bytes",
     "the closing byte is not 0xE5",
     "the version is neither 1 nor 2",
@@ -41,6 +42,8 @@ const MEANINGS: [&str; 27] = [
     "the fields of the two books differ in their numbers of codes",
     "the joined book would break a limit of version 2",
     "the list of questions is none that may be asked",
+    "a table ties more than two fields",
+    "the tables' links form a ring",
 ];
 
 impl Refusal {
@@ -76,7 +79,8 @@ mod tests {
         assert_eq!(meaning(25), "the fields of the two books differ in their numbers of codes");
         assert_eq!(meaning(26), "the joined book would break a limit of version 2");
         assert_eq!(meaning(27), "the list of questions is none that may be asked");
-        assert_eq!((meaning(0), meaning(28)), ("no refusal has this number", "no refusal has this number"));
+        assert_eq!((meaning(28), meaning(29)), ("a table ties more than two fields", "the tables' links form a ring"));
+        assert_eq!((meaning(0), meaning(30)), ("no refusal has this number", "no refusal has this number"));
         assert_eq!(Refusal { number: 3, place: 33 }.to_string(), "refused 3 at 33: the version is neither 1 nor 2");
     }
 }

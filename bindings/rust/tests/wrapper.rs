@@ -1,6 +1,7 @@
 //! What the wrapper adds to the library: its types, and what it does with numbers and buffers.
 
-use sighting::{join, lengthen, read, report, shorten, show, write, Alternatives, Call, Nearest, Refusal, Sheet};
+use sighting::{join, lengthen, read, read_tree, report, shorten, show, write, write_tree};
+use sighting::{Alternatives, Call, Counts, Nearest, Refusal, Sheet};
 use sighting::{BOOK_BYTES, LISTING_NUMBERS, NO_ANSWER, NUMBERS, PAIRS_BYTES};
 use sighting::{PLACES, REPORT_BYTES, SHEET_BYTES, SHORT_BYTES, STORED_BYTES};
 
@@ -27,6 +28,8 @@ const NO_SHORT_SHEET: Refusal = Refusal { number: 24, place: 0 };
 const OTHER_CODES: Refusal = Refusal { number: 25, place: 0 };
 const TOO_MUCH: Refusal = Refusal { number: 26, place: 0 };
 const NO_LIST: Refusal = Refusal { number: 27, place: 0 };
+const WIDE: Refusal = Refusal { number: 28, place: 0 };
+const RING: Refusal = Refusal { number: 29, place: 0 };
 
 /// E1's sheet: field 0 answered by 0 and field 1 by 1.
 fn answered() -> Sheet {
@@ -647,6 +650,93 @@ fn a_joined_book_keeps_the_limits() {
         assert_eq!((joined(&first, &second), joined(&second, &first)), (Err(TOO_MUCH), Err(TOO_MUCH)));
         assert_eq!(join(&first, &second, &mut []), Err(TOO_MUCH));
     }
+}
+
+/// The bytes of the tree book that the wrapper writes for a listing.
+fn tree_written(listing: &[u16]) -> Result<Vec<u8>, Refusal> {
+    all_written(|out| write_tree(listing, out))
+}
+
+/// E1 and a book without tables, of either version, are read and written as any book.
+#[test]
+fn tree_books_are_books() {
+    for (listing, counts) in
+        [(&LISTING[..], [3, 2, 8, 7]), (&[1, 1, 0, 1], [1, 0, 0, 0]), (&[1, 1, 2, 1, 0, 0, 1, 0, 0, 2], [1, 2, 0, 0])]
+    {
+        let [fields, tables, rows, different_rows] = counts;
+        for version in [1, 2] {
+            let listing = [&listing[..listing.len() - 1], &[version]].concat();
+            let book = tree_written(&listing).expect("a tree book");
+            assert_eq!((written(&listing), shown(&book)), (Ok(book.clone()), Ok(listing)));
+            assert_eq!(read_tree(&book), Ok(Counts { fields, tables, rows, different_rows }));
+        }
+    }
+    assert_eq!(tree_written(&LISTING), Ok(BOOK.to_vec()));
+}
+
+/// The listing of a book of so many fields of two codes with tables without rows on these fields.
+fn without_rows(fields: u16, tables: &[&[u16]]) -> Vec<u16> {
+    let table = |fields: &&[u16]| [&[fields.len() as u16][..], fields, &[0]].concat();
+    let tables_of: Vec<u16> = tables.iter().flat_map(table).collect();
+    [&[fields][..], &vec![2; fields as usize], &[tables.len() as u16], &tables_of, &[2]].concat()
+}
+
+/// A ring of two tables, of three, and one behind other tables; a table of three fields, of four, before a ring and behind one. Reading
+/// tells the table's first byte, and writing none.
+#[test]
+fn books_that_are_no_tree_books() {
+    for (tables, number, place) in [
+        (&[&[0, 1][..], &[0, 1]][..], 29, 5),
+        (&[&[0, 1], &[2], &[0, 1], &[0, 1]], 29, 9),
+        (&[&[0, 1], &[0, 2], &[1, 2]], 29, 10),
+        (&[&[0, 3], &[1, 2], &[0, 1], &[2, 3], &[0, 1, 2]], 28, 20),
+        (&[&[0, 3], &[1, 2], &[0, 1], &[2, 3], &[0]], 29, 15),
+        (&[&[0, 1, 2]], 28, 0),
+        (&[&[3], &[0, 1, 2, 3], &[0, 1], &[0, 1, 2]], 28, 4),
+        (&[&[0, 1], &[0, 1], &[0, 1, 2]], 28, 10),
+    ] {
+        let listing = without_rows(4, tables);
+        let book = written(&listing).expect("a book");
+        assert_eq!(read_tree(&book), Err(Refusal { number, place }), "{tables:?}");
+        let refused = if number == 28 { WIDE } else { RING };
+        assert_eq!((tree_written(&listing), write_tree(&listing, &mut [])), (Err(refused), Err(refused)), "{tables:?}");
+    }
+}
+
+/// 1 to 13 come first in reading, and 20 in writing; 18 comes last. A refusal leaves what is lent.
+#[test]
+fn refusals_of_tree_books_in_their_order() {
+    let mut ring = without_rows(2, &[&[0, 1], &[0, 1], &[1]]);
+    let mut book = written(&ring).expect("a book");
+    let (last, mut out) = (book.len() - 1, [7; 36]);
+    book[last] = 0;
+    assert_eq!(read_tree(&book), Err(Refusal { number: 2, place: last as u64 }));
+    book[last] = 0xE5;
+    book[11] = 2;
+    assert_eq!(read_tree(&book), Err(Refusal { number: 10, place: 11 }));
+    book[11] = 1;
+    assert_eq!(read_tree(&book), Err(Refusal { number: 29, place: 5 }));
+    assert_eq!((write_tree(&ring[1..], &mut []), write_tree(&ring, &mut [])), (Err(NO_BOOK), Err(RING)));
+    assert_eq!((write_tree(&ring, &mut out), write_tree(&LISTING, &mut out[..34]), out), (Err(RING), Err(TOO_FEW), [7; 36]));
+    assert_eq!((write_tree(&LISTING, &mut out), &out[..35], out[35]), (Ok(35), &BOOK[..], 7));
+    ring.push(2);
+    assert_eq!(write_tree(&ring, &mut []), Err(NO_BOOK));
+}
+
+/// A path through 60 fields and five tables of one field are a tree book; a link on the ends of the path, as the last table, is a ring.
+#[test]
+fn the_longest_path_and_ring() {
+    let path: Vec<[u16; 2]> = (0..59).map(|field| [field, field + 1]).collect();
+    let with = |last: &'static [u16]| {
+        let mut tables: Vec<&[u16]> = path.iter().map(|link| &link[..]).collect();
+        tables.extend([&[7][..], &[0], &[59], &[7], last]);
+        without_rows(60, &tables)
+    };
+    let book = tree_written(&with(&[30])).expect("a tree book");
+    assert_eq!(read_tree(&book), Ok(Counts { fields: 60, tables: 64, rows: 0, different_rows: 0 }));
+    let ring = with(&[0, 59]);
+    assert_eq!(read_tree(&written(&ring).expect("a book")), Err(Refusal { number: 29, place: 59 * 5 + 4 * 4 }));
+    assert_eq!(tree_written(&ring), Err(RING));
 }
 
 /// The most alternatives: 60 fields of 32 codes, no table, all fields answered.
