@@ -1033,6 +1033,136 @@ static void longest_join(void) {
     join_to("the first and the last row in each other's place", first, length, all, length, all, length);
 }
 
+/* Reads a book for the profile of tree books. All five cells are written, and none beside them. */
+static void ask_read_tree(const char *what, const uint8_t *bytes, size_t length, uint64_t number, uint64_t place,
+                          const uint64_t *counts) {
+    uint64_t cells[7] = {7, 7, 7, 7, 7, 7, 7};
+    expect(what, number, sighting_read_tree(bytes, length, cells + 1));
+    expect("its place", place, cells[1]);
+    for (size_t i = 0; i < 4; i++) expect(what, counts[i], cells[2 + i]);
+    expect("the cell before", 7, cells[0]);
+    expect("the cell behind", 7, cells[6]);
+}
+
+/* The same, refused: nothing is counted. */
+static void refuse_tree(const char *what, const uint8_t *bytes, size_t length, uint64_t number, uint64_t place) {
+    static const uint64_t none[4];
+    ask_read_tree(what, bytes, length, number, place, none);
+}
+
+/*
+ * Writes the tree book of a listing with so many of 48 bytes lent. Both cells are written, and none beside them; of the bytes the first
+ * are the book's then, and all others as they were.
+ */
+static void ask_write_tree(const char *what, const uint16_t *listing, size_t numbers, size_t lent, uint64_t number, const uint8_t *bytes,
+                           size_t length) {
+    uint8_t out[48], left[48];
+    uint64_t cells[4] = {7, 7, 7, 7};
+    memset(out, 7, sizeof out);
+    memset(left, 7, sizeof left);
+    memcpy(left, bytes, length);
+    expect(what, number, sighting_write_tree(listing, numbers, out, lent, cells + 1));
+    expect("the place of a tree book", 0, cells[1]);
+    expect("how many bytes of it were written", length, cells[2]);
+    expect("the cell before a tree book's", 7, cells[0]);
+    expect("the cell behind a tree book's", 7, cells[3]);
+    expect(what, 0, (uint64_t)(memcmp(out, left, sizeof out) != 0));
+}
+
+/* The same, refused, whatever is lent: no byte is written. */
+static void refuse_written_tree(const char *what, const uint16_t *listing, size_t numbers, uint64_t number) {
+    ask_write_tree(what, listing, numbers, 0, number, book, 0);
+    ask_write_tree(what, listing, numbers, 48, number, book, 0);
+}
+
+/* E1 is a tree book: its counts, and its bytes to just as many, one more, one too few, and none. */
+static void tree_books(void) {
+    static const uint64_t counts[] = {3, 2, 8, 7}, least_counts[] = {1, 0, 0, 0};
+    static const uint16_t listing[] = {3, 2, 3, 3, 2, 2, 0, 2, 4, 0, 0, 0, 1, 1, 2, 0, 1, 2, 1, 2, 4, 0, 0, 1, 1, 1, 2, 2, 2, 1};
+    static const uint16_t least[] = {1, 32, 0, 2};
+    static const uint8_t least_book[] = {32, 0, 0, 1, 0, 2, 0xE5};
+    const size_t numbers = sizeof listing / sizeof *listing;
+    ask_read_tree("E1 is a tree book", book, sizeof book, 0, 0, counts);
+    ask_read_tree("the least tree book", least_book, sizeof least_book, 0, 0, least_counts);
+    ask_write_tree("write E1", listing, numbers, sizeof book, 0, book, sizeof book);
+    ask_write_tree("write E1 to one byte more", listing, numbers, sizeof book + 1, 0, book, sizeof book);
+    ask_write_tree("write E1 to one byte too few", listing, numbers, sizeof book - 1, 18, book, 0);
+    ask_write_tree("write E1 to no byte", listing, numbers, 0, 18, book, 0);
+    ask_write_tree("write the least tree book", least, 4, sizeof least_book, 0, least_book, sizeof least_book);
+    ask_write_tree("the same to one byte too few", least, 4, sizeof least_book - 1, 18, least_book, 0);
+    refuse_written_tree("no numbers", listing, 0, 20);
+    refuse_written_tree("no version", listing, numbers - 1, 20);
+}
+
+/* A ring, two tables on the same pair, tables of three and four fields, in books and in listings; each with a fault that comes first. */
+static void no_tree_books(void) {
+    static const uint8_t twins[] = {2, 0, 1, 0, 0, 1, 1, 0, 0, 2, 0, 1, 0, 0, 2, 2, 14, 0, 2, 3, 1, 0xE5};
+    static const uint8_t wide[] = {2, 0, 1, 0, 0, 2, 0, 1, 0, 0, 3, 0, 1, 2, 0, 0, 2, 2, 2, 16, 0, 3, 3, 2, 0xE5};
+    static const uint8_t four[] = {4, 0, 1, 2, 3, 0, 0, 2, 2, 2, 2, 7, 0, 4, 1, 1, 0xE5};
+    static const uint16_t ring_listing[] = {3, 2, 2, 2, 3, 2, 0, 1, 0, 2, 0, 2, 0, 2, 1, 2, 0, 2, 9};
+    static const uint16_t twin_listing[] = {2, 2, 2, 3, 2, 0, 1, 0, 1, 1, 0, 2, 0, 1, 0, 1};
+    static const uint16_t wide_listing[] = {3, 2, 2, 2, 3, 2, 0, 1, 0, 2, 0, 1, 0, 3, 0, 1, 2, 0, 2};
+    uint8_t faulty[sizeof each_pair_differs];
+    refuse_tree("E4", each_pair_differs, sizeof each_pair_differs, 29, 18);
+    refuse_tree("two tables on the same pair", twins, sizeof twins, 29, 9);
+    refuse_tree("three fields behind a ring", wide, sizeof wide, 28, 10);
+    refuse_tree("four fields", four, sizeof four, 28, 0);
+    memcpy(faulty, each_pair_differs, sizeof faulty);
+    faulty[26] = 2;
+    refuse_tree("E4 with a code at fault", faulty, sizeof faulty, 11, 26);
+    for (size_t length = 0; length < sizeof four; length++) {
+        uint64_t outcome[5], number = sighting_read(four, length, outcome);
+        refuse_tree("a part of a book", four, length, number, outcome[0]);
+    }
+    refuse_written_tree("a ring", ring_listing, sizeof ring_listing / sizeof *ring_listing - 1, 29);
+    refuse_written_tree("a ring and a number left over", ring_listing, sizeof ring_listing / sizeof *ring_listing, 20);
+    refuse_written_tree("the same pair twice", twin_listing, sizeof twin_listing / sizeof *twin_listing, 29);
+    refuse_written_tree("the same without a version", twin_listing, sizeof twin_listing / sizeof *twin_listing - 1, 20);
+    refuse_written_tree("three fields", wide_listing, sizeof wide_listing / sizeof *wide_listing, 28);
+    refuse_written_tree("three fields and no version", wide_listing, sizeof wide_listing / sizeof *wide_listing - 1, 20);
+}
+
+/* A listing of 60 fields and of so many tables without rows: a path through all fields, tables of one field, and last one on these two. */
+static size_t path_of_sixty(uint16_t *listing, int tables, int one, int other) {
+    size_t n = 0;
+    listing[n++] = 60;
+    for (int field = 0; field < 60; field++) listing[n++] = 2;
+    listing[n++] = (uint16_t)tables;
+    for (int table = 0; table < tables; table++) {
+        const int is_last = table + 1 == tables, is_link = table < 59 || (is_last && one != other);
+        listing[n++] = is_link ? 2 : 1;
+        listing[n++] = (uint16_t)(is_last ? one : table % 59);
+        if (is_link) listing[n++] = (uint16_t)(is_last ? other : table + 1);
+        listing[n++] = 0;
+    }
+    listing[n++] = 2;
+    return n;
+}
+
+/* The most tables: a path through all 60 fields and five tables of one field are a tree book; a link on its ends as the last is a ring. */
+static void most_links(void) {
+    static uint16_t listing[512];
+    static uint8_t bytes[512];
+    uint64_t outcome[5], written[2];
+    size_t numbers = path_of_sixty(listing, 64, 59, 59), length = 59 * 5 + 5 * 4 + 66;
+    expect("write 59 links to one byte too few", 18, sighting_write_tree(listing, numbers, bytes, length - 1, written));
+    expect("bytes told by 18", 0, written[1]);
+    expect("the byte lent first", 0, bytes[0]);
+    expect("write 59 links", 0, sighting_write_tree(listing, numbers, bytes, length, written));
+    expect("their bytes", length, written[1]);
+    expect("read them", 0, sighting_read_tree(bytes, length, outcome));
+    expect("the number of tables", 64, outcome[2]);
+    numbers = path_of_sixty(listing, 64, 0, 59);
+    expect("write a ring of 60", 29, sighting_write_tree(listing, numbers, bytes, sizeof bytes, written));
+    expect("place of 29 in writing", 0, written[0]);
+    expect("write it as any book", 0, sighting_write(listing, numbers, bytes, sizeof bytes, written));
+    expect("read a ring of 60", 29, sighting_read_tree(bytes, (size_t)written[1], outcome));
+    expect("place of 29", 59 * 5 + 4 * 4, outcome[0]);
+    expect("tables of a ring", 0, outcome[2]);
+    numbers = path_of_sixty(listing, 65, 59, 59);
+    expect("write 65 tables", 20, sighting_write_tree(listing, numbers, bytes, sizeof bytes, written));
+}
+
 int main(void) {
     wide_numbers();
     read_only_sheet();
@@ -1070,5 +1200,8 @@ int main(void) {
     most_sets();
     most_rows();
     longest_join();
+    tree_books();
+    no_tree_books();
+    most_links();
     return differences != 0;
 }

@@ -28,6 +28,8 @@ pub enum Call {
     Report { form: Vec<u8> },
     Show,
     Write { listing: Vec<u16> },
+    ReadTree,
+    WriteTree { listing: Vec<u16> },
 }
 
 /// The calls that are given a sheet with answers.
@@ -46,7 +48,7 @@ pub const OF_A_FIELD: &[&str] = &["enter", "withdraw", "photograph", "filtered",
 /// The calls that are given a code of it.
 pub const OF_A_CODE: &[&str] = &["enter", "row"];
 
-/// The calls that tell a place; the last is the only one that reads no book.
+/// The calls that tell a place; the last ones read no book.
 pub const TELLING: &[&str] = &[
     "read",
     "enter",
@@ -67,11 +69,19 @@ pub const TELLING: &[&str] = &[
     "replay",
     "report",
     "show",
+    "read_tree",
     "write",
+    "write_tree",
 ];
 
+/// The calls that write a book from a listing.
+pub const WRITING: &[&str] = &["write", "write_tree"];
+
 /// The calls that read a book.
-pub const OF_A_BOOK: &[&str] = TELLING.split_at(TELLING.len() - 1).0;
+pub const OF_A_BOOK: &[&str] = TELLING.split_at(TELLING.len() - WRITING.len()).0;
+
+/// The calls of tree books.
+pub const OF_TREES: &[&str] = &["read_tree", "write_tree"];
 
 /// The calls that ask for one element for each field of the book.
 pub const ONE_FOR_EACH: &[&str] = &["filtered", "nearest", "store", "lengthen"];
@@ -122,6 +132,8 @@ impl Call {
             Call::Report { .. } => "report",
             Call::Show => "show",
             Call::Write { .. } => "write",
+            Call::ReadTree => "read_tree",
+            Call::WriteTree { .. } => "write_tree",
         }
     }
 
@@ -129,11 +141,11 @@ impl Call {
     pub fn cells(&self) -> usize {
         match self {
             Call::Fresh | Call::Clear => 0,
-            Call::Read => 5,
+            Call::Read | Call::ReadTree => 5,
             Call::Nearest => 4,
             Call::Alternatives | Call::Row { .. } | Call::Plan { .. } | Call::Replay { .. } => 3,
             Call::StoreShort | Call::Shorten { .. } | Call::Lengthen { .. } => 2,
-            Call::Join { .. } | Call::Report { .. } | Call::Show | Call::Write { .. } => 2,
+            Call::Join { .. } | Call::Report { .. } | Call::Show | Call::Write { .. } | Call::WriteTree { .. } => 2,
             _ => 1,
         }
     }
@@ -153,8 +165,17 @@ impl Call {
     /// The numbers lent to the call to read.
     pub fn listing(&self) -> &[u16] {
         match self {
-            Call::Write { listing } => listing,
+            Call::Write { listing } | Call::WriteTree { listing } => listing,
             _ => &[],
+        }
+    }
+
+    /// The same call with another listing, where it has one.
+    pub fn with_listing(&self, listing: Vec<u16>) -> Call {
+        match self {
+            Call::Write { .. } => Call::Write { listing },
+            Call::WriteTree { .. } => Call::WriteTree { listing },
+            _ => self.clone(),
         }
     }
 
@@ -198,7 +219,7 @@ impl Call {
             Call::StoreShort | Call::Shorten { .. } => Some(sighting::SHORT_BYTES),
             Call::Report { .. } => Some(sighting::REPORT_BYTES),
             Call::Show => Some(sighting::LISTING_NUMBERS),
-            Call::Join { .. } | Call::Write { .. } => Some(sighting::BOOK_BYTES),
+            Call::Join { .. } | Call::Write { .. } | Call::WriteTree { .. } => Some(sighting::BOOK_BYTES),
             _ => None,
         }
     }

@@ -5,6 +5,7 @@ use crate::book::{field_limit, Book, Table};
 use crate::calls::Call;
 use crate::draft::Draft;
 use crate::faults::{changed, faulty, some_faults, turned};
+use crate::forests;
 use crate::forms;
 use crate::listing::Listing;
 use crate::listings;
@@ -27,12 +28,14 @@ pub struct Case {
     pub faults: Vec<usize>,
     /// How the listing to write was made.
     pub listing: &'static str,
+    /// How that of a tree book was.
+    pub tree_listing: &'static str,
 }
 
 impl Case {
     /// A case that was not drawn: a book, a sheet and calls.
     pub fn new(book: Vec<u8>, sheet: Sheet, calls: Vec<Call>) -> Case {
-        Case { book, sheet, calls, boundary: None, faults: Vec::new(), listing: "" }
+        Case { book, sheet, calls, boundary: None, faults: Vec::new(), listing: "", tree_listing: "" }
     }
 }
 
@@ -50,6 +53,9 @@ const PAIRED: u64 = 18;
 /// Of as many cases one is made for the debrief plan: the odd one three before the next turn, so that none of them is made for a reading.
 const PLANNED: u64 = PAIRED;
 
+/// Of as many one is made for the profile of tree books: the odd one three behind a turn.
+const OF_TREES: u64 = PAIRED;
+
 pub fn case(seed: u64, index: u64) -> Case {
     let mut r = random(seed, index);
     let pair = (index % PAIRED == PAIRED / 2).then(|| pairs::pair(&mut r));
@@ -57,6 +63,7 @@ pub fn case(seed: u64, index: u64) -> Case {
         Some(pair) => first_of(&mut r, pair),
         None if index.is_multiple_of(NEAR) => made_for(&mut r, near::book, near::sheet),
         None if index % PLANNED == PLANNED - 3 => made_for(&mut r, questions::book, questions::sheet),
+        None if index % OF_TREES == 3 => of_trees(&mut r),
         None => drawn(&mut r),
     };
     let BookCase { model, bytes, boundary, faults } = book;
@@ -72,7 +79,9 @@ pub fn case(seed: u64, index: u64) -> Case {
     ]);
     calls.push(Call::Join { second: pair.map_or_else(|| some_second(&mut r, &model), |pair| pair.second) });
     calls.extend(questions::plans(&mut r, &model, &sheet));
-    Case { book: bytes, sheet, calls, boundary, faults, listing }
+    let (tree_listing, numbers) = listings::some_for_trees(&mut r, Listing::of(&model));
+    calls.extend([Call::ReadTree, Call::WriteTree { listing: numbers }]);
+    Case { book: bytes, sheet, calls, boundary, faults, listing, tree_listing }
 }
 
 /// A book's bytes, with the book that they were made from.
@@ -85,6 +94,14 @@ struct BookCase {
 
 fn drawn(r: &mut Random) -> (BookCase, Sheet) {
     let book = book(r);
+    let sheet = sheet(r, &book.model);
+    (book, sheet)
+}
+
+/// As many of these books are damaged as of others.
+fn of_trees(r: &mut Random) -> (BookCase, Sheet) {
+    let model = forests::book(r);
+    let book = sometimes_faulty(r, model);
     let sheet = sheet(r, &book.model);
     (book, sheet)
 }
@@ -113,6 +130,10 @@ fn book(r: &mut Random) -> BookCase {
         return BookCase { model, bytes, boundary: Some(name), faults: Vec::new() };
     }
     let model = random::book(r);
+    sometimes_faulty(r, model)
+}
+
+fn sometimes_faulty(r: &mut Random, model: Book) -> BookCase {
     let mut faults = Vec::new();
     let bytes = match r.from(0, 29) {
         0 => changed(r, &model),

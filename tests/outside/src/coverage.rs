@@ -3,7 +3,7 @@
 use std::collections::{BTreeMap, BTreeSet};
 
 use crate::book::Book;
-use crate::calls::{Call, COUNTING, LISTING, MAKING, OF_A_SHEET, OF_SHORT_FORMS, WITH_PAIRS};
+use crate::calls::{Call, COUNTING, LISTING, MAKING, OF_A_SHEET, OF_SHORT_FORMS, OF_TREES, WITH_PAIRS};
 use crate::cases::{boundaries, Case};
 use crate::compare::{of_each_call, Asked, Trial};
 use crate::desk::{opened, Desk, Reading};
@@ -23,6 +23,8 @@ use crate::shapes::{shapes, PHOTOGRAPHED, SHAPES};
 use crate::sheet::Sheet;
 use crate::short_shapes;
 use crate::tables;
+use crate::tree_asked::Asked as TreeAsked;
+use crate::tree_shapes;
 use crate::versions;
 
 /// A refusal as counted: its number, and for 14 whether the place lies behind the book's fields.
@@ -35,13 +37,13 @@ pub struct Coverage {
     /// What the cases had beside that, by its name.
     had: BTreeMap<String, u64>,
     /// What the calls that list had to list, the lengths lent for it, what the calls that count had to count, what the calls for a row, a
-    /// reading or a plan had to find, what the calls that join had to join, and what each call had of M-103, M-105, M-107 and M-108, by
-    /// call and name.
+    /// reading or a plan had to find, what the calls that join had to join, which links and rings the calls of tree books had to look at,
+    /// and what each call had of M-103, M-105, M-107 and M-108, by call and name.
     by_call: BTreeMap<(&'static str, &'static str), u64>,
 }
 
 /// The refusals that each call has beside 1 to 13; `true` for a place behind the book's fields.
-const BESIDE: [(&str, &[Kind]); 19] = [
+const BESIDE: [(&str, &[Kind]); 20] = [
     ("read", &[]),
     ("enter", &[(14, false), (14, true), (15, false), (16, false), (22, false)]),
     ("withdraw", &[(14, false), (14, true), (15, false), (17, false), (22, false)]),
@@ -61,6 +63,7 @@ const BESIDE: [(&str, &[Kind]); 19] = [
     ("replay", &[(18, false)]),
     ("report", &[(14, false), (18, false), (19, false)]),
     ("show", &[(18, false)]),
+    ("read_tree", &[(28, false), (29, false)]),
 ];
 
 /// How often something was had, and how often it has to be.
@@ -70,17 +73,19 @@ struct Had {
     least: u64,
 }
 
-/// The call that reads no book, and its refusals.
-const WITHOUT_BOOK: (&str, &[Kind]) = ("write", &[(20, false), (18, false)]);
+/// The calls that read no book, and their refusals.
+const WITHOUT_BOOK: [(&str, &[Kind]); 2] =
+    [("write", &[(20, false), (18, false)]), ("write_tree", &[(20, false), (28, false), (29, false), (18, false)])];
 
 /// What the refusals of a second book are noted by: they are 1 to 13 too.
 const SECOND: &str = "join, of the second book";
 
-/// At how many different places a refusal has to be reached: 1 and 15 to 27 have place 0 alone.
-fn places_asked(number: u64) -> usize {
+/// At how many different places a refusal has to be reached: 1 and 15 to 27 have place 0 alone, and in a writer all have.
+fn places_asked(call: &str, number: u64) -> usize {
     match number {
         2..=11 | 13 | 14 => 3,
         12 => 2,
+        28..=29 if call == "read_tree" => 3,
         _ => 1,
     }
 }
@@ -111,7 +116,7 @@ const LENGTHS: [Length; 5] = [
     ("the wider list's", |lent, asked| lent == asked.wider),
 ];
 
-/// How often each of them has to be lent in a run of 47,500 cases.
+/// How often each of them has to be lent in a run of 50,000 cases.
 const LENGTHS_ASKED: u64 = 200;
 
 /// The sheet whose alternatives the call lists; none where it is refused.
@@ -139,12 +144,16 @@ fn pair(first: usize, second: usize) -> String {
     format!("{} with {}", FAULTS[first].0, FAULTS[second].0)
 }
 
+/// Why no book has the listing of the call, by name.
+fn why_20(call: &Call) -> Option<String> {
+    book_bytes(&Reader::default(), call.listing()).err().map(reason)
+}
+
 /// What a case has, by its name.
 fn names(case: &Case) -> Vec<String> {
     let arguments = ARGUMENTS.iter().filter(|(_, is)| case.calls.iter().any(is)).map(|(name, _)| name.to_string());
     let faults = case.faults.windows(2).map(|faults| pair(faults[0], faults[1]));
-    let listings = case.calls.iter().filter(|call| call.name() == WITHOUT_BOOK.0).map(Call::listing);
-    let reasons = listings.filter_map(|listing| book_bytes(&Reader::default(), listing).err()).map(reason);
+    let reasons = case.calls.iter().filter(|call| call.name() == "write").filter_map(why_20);
     let names = case.boundary.into_iter().chain([case.listing]).map(str::to_string);
     names.chain(arguments).chain(faults).chain(reasons).collect()
 }
@@ -162,6 +171,7 @@ impl Coverage {
             self.note_plans(case, book, trials);
         }
         self.note_joins(case, reading, trials);
+        self.note_trees(case, reading, trials);
         trials.iter().for_each(|trial| self.note_trial(reading, trial));
         for of_call in of_each_call(trials) {
             let steps = of_list(reading, of_call[0].call);
@@ -215,6 +225,18 @@ impl Coverage {
         }
     }
 
+    /// Notes what the calls of tree books had to look at, or why they are refused, and how the listing to write was made.
+    fn note_trees(&mut self, case: &Case, reading: &Reading, trials: &[Trial]) {
+        for asked in of_each_call(trials).filter_map(|of_call| TreeAsked::by(case, reading, of_call)) {
+            asked.shapes().for_each(|shape| self.count(asked.call, shape));
+            if let Call::WriteTree { .. } = asked.call {
+                self.count(asked.call, case.tree_listing);
+                let why = why_20(asked.call);
+                REASONS.iter().filter(|name| why.as_deref() == Some(name)).for_each(|name| self.count(asked.call, name));
+            }
+        }
+    }
+
     fn count(&mut self, call: &Call, what: &'static str) {
         *self.by_call.entry((call.name(), what)).or_default() += 1;
     }
@@ -261,7 +283,7 @@ impl Coverage {
         println!("refusals of each call as number:times/places; 14b is a 14 behind the book's fields");
         let of_a_book = |beside: &[Kind]| (1..=13).map(|number| (number, false)).chain(beside.iter().copied()).collect();
         let mut kinds: Vec<(&'static str, Vec<Kind>)> = BESIDE.map(|(call, beside)| (call, of_a_book(beside))).to_vec();
-        kinds.push((WITHOUT_BOOK.0, WITHOUT_BOOK.1.to_vec()));
+        kinds.extend(WITHOUT_BOOK.map(|(call, refusals)| (call, refusals.to_vec())));
         let mut complete = true;
         for (call, kinds) in &kinds {
             complete &= self.print_call(call, kinds);
@@ -282,6 +304,12 @@ impl Coverage {
         complete &= print_had("joined books", joining_shapes::all().map(|(name, least)| self.had_by("join", name, least)));
         complete &= print_had("readings", nearest_shapes::all().map(|(name, least)| self.had_by("nearest", name, least)));
         complete &= print_had("plans", plan_shapes::all().map(|(name, least)| self.had_by("plan", name, least)));
+        for call in OF_TREES {
+            let shapes = tree_shapes::all(call).map(|(name, least)| self.had_by(call, name, least));
+            complete &= print_had(&format!("tables and links for {call}"), shapes);
+        }
+        complete &= print_had("listings of tree books", ways().map(|way| self.had_by("write_tree", way.name, 1)));
+        complete &= print_had("reasons for 20 of tree books", REASONS.map(|name| self.had_by("write_tree", name, 1)).into_iter());
         for (call, _) in &kinds {
             complete &= self.print_made("versions, fields and places", versions::SHAPES, call);
         }
@@ -330,7 +358,7 @@ impl Coverage {
         let mut line = format!("{call}: accepted {}", self.accepted.get(call).unwrap_or(&0));
         for &(number, behind) in kinds {
             let (times, places) = self.times(call, (number, behind));
-            let missed = places < places_asked(number);
+            let missed = places < places_asked(call, number);
             let (behind, missing) = (if behind { "b" } else { "" }, if missed { " MISSED" } else { "" });
             line += &format!(" {number}{behind}:{times}/{places}{missing}");
             complete &= !missed;

@@ -13,6 +13,7 @@ use crate::row::{self, Pointed};
 use crate::sheet::{Sheet, FRESH, NO_ANSWER, PLACES};
 use crate::short;
 use crate::text::report;
+use crate::trees::Trees;
 
 /// What reading a book answers.
 pub type Reading = Result<Book, Refusal>;
@@ -35,6 +36,7 @@ pub struct Desk {
     pub load_short: short::Load,
     pub store_short: short::Store,
     pub joining: Joining,
+    pub trees: Trees,
     pub enter: Enter,
     /// One call of a list: its number, and the sheet after it.
     pub step: fn(Enter, &Book, &mut Sheet, &[u8]) -> u64,
@@ -62,6 +64,7 @@ impl Default for Desk {
             load_short: short::load,
             store_short: short::store,
             joining: Joining::default(),
+            trees: Trees::default(),
             enter,
             step: step_by,
             list,
@@ -258,7 +261,7 @@ impl Desk {
         (self.enter)(sheet, field, code as u8)
     }
 
-    fn read(&self, reading: &Reading) -> Result<Vec<u64>, Refusal> {
+    pub fn read(&self, reading: &Reading) -> Result<Vec<u64>, Refusal> {
         let book = accepted(reading)?;
         let counts = [book.counts.len(), book.tables.len(), book.rows(), (self.different_rows)(book)];
         Ok(counts.iter().map(|&n| n as u64).collect())
@@ -324,9 +327,8 @@ impl Desk {
     }
 
     /// The bytes of the book that a listing says: 20.
-    fn written(&self, numbers: &[u16]) -> Result<(Vec<u64>, Vec<u8>), Refusal> {
-        let bytes = listing::book_bytes(&self.reader, numbers).or_else(|_| refuse(20, 0))?;
-        Ok(counted(bytes))
+    pub fn written(&self, numbers: &[u16]) -> Result<Vec<u8>, Refusal> {
+        listing::book_bytes(&self.reader, numbers).or_else(|_| refuse(20, 0))
     }
 
     /// What the call answers, on a book so read and on this sheet, where enough is lent. A refusal hands back the very bytes.
@@ -360,7 +362,9 @@ impl Desk {
             }
             Call::Report { form } => writing(Ok(counted(report(self, reading, &form).into_bytes())), *sheet),
             Call::Show => writing(accepted(reading).map(|book| counted((self.listing)(book))), *sheet),
-            Call::Write { listing } => writing(self.written(&listing), *sheet),
+            Call::Write { listing } => writing(self.written(&listing).map(counted), *sheet),
+            Call::ReadTree => counting(self.read_tree(reading), *sheet),
+            Call::WriteTree { listing } => writing(self.written_tree(&listing).map(counted), *sheet),
         }
     }
 }

@@ -16,6 +16,7 @@ pub mod examples;
 pub mod faults;
 pub mod filter;
 pub mod fitting;
+pub mod forests;
 pub mod forms;
 pub mod joined;
 pub mod joining;
@@ -45,6 +46,7 @@ pub mod plan;
 #[cfg(test)]
 mod plan_edges;
 pub mod plan_shapes;
+pub mod profiled;
 pub mod questions;
 pub mod random;
 pub mod reader;
@@ -68,6 +70,11 @@ pub mod steps;
 pub mod tables;
 pub mod text;
 pub mod there_and_back;
+pub mod tree_asked;
+#[cfg(test)]
+mod tree_edges;
+pub mod tree_shapes;
+pub mod trees;
 pub mod turned;
 pub mod turns;
 pub mod versions;

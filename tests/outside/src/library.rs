@@ -1,6 +1,6 @@
 //! Libraries to compare, behind one function: the library as it is exported, and its safe wrapper.
 
-use sighting::{ffi, Alternatives, Refusal};
+use sighting::{ffi, Alternatives, Counts, Refusal};
 
 use crate::calls::{Call, CHANGING, MAKING};
 use crate::memory::Part;
@@ -86,6 +86,8 @@ impl Library for Exported {
             Call::Report { .. } => ffi::sighting_report(b, n, list, list_len, out, lent_len, o),
             Call::Show => ffi::sighting_show(b, n, lent.shown.at, lent.shown.len, o),
             Call::Write { .. } => ffi::sighting_write(lent.listing.at, lent.listing.len, out, lent_len, o),
+            Call::ReadTree => ffi::sighting_read_tree(b, n, o),
+            Call::WriteTree { .. } => ffi::sighting_write_tree(lent.listing.at, lent.listing.len, out, lent_len, o),
         }
     }
 }
@@ -100,7 +102,7 @@ impl Library for Wrapper {
         let given = sighting::Sheet::from(lent.sheet());
         let mut sheet = given;
         let result = match call {
-            Call::Read => sighting::read(book).map(|c| vec![c.fields, c.tables, c.rows, c.different_rows]),
+            Call::Read => counts_of(sighting::read(book)),
             Call::Fresh => handed_back(Ok(sighting::Sheet::fresh()), &mut sheet),
             Call::Clear => cleared(&mut sheet),
             Call::Enter { field, code } => nothing_counted(sheet.enter(book, *field, *code)),
@@ -124,6 +126,8 @@ impl Library for Wrapper {
             Call::Report { .. } => one_count(sighting::report(book, list, bytes)),
             Call::Show => one_count(sighting::show(book, lent.shown.elements_mut())),
             Call::Write { .. } => one_count(sighting::write(lent.listing.elements(), bytes)),
+            Call::ReadTree => counts_of(sighting::read_tree(book)),
+            Call::WriteTree { .. } => one_count(sighting::write_tree(lent.listing.elements(), bytes)),
         };
         // the wrapper's sheet has 1 for any byte of a photograph but 0, so one that stays as it was given is not written
         let is_changed = CHANGING.contains(&call.name()) && (result.is_ok() || sheet != given);
@@ -137,6 +141,10 @@ impl Library for Wrapper {
 fn cleared(sheet: &mut sighting::Sheet) -> Result<Vec<u64>, Refusal> {
     sheet.clear();
     Ok(Vec::new())
+}
+
+fn counts_of(result: Result<Counts, Refusal>) -> Result<Vec<u64>, Refusal> {
+    result.map(|c| vec![c.fields, c.tables, c.rows, c.different_rows])
 }
 
 fn counts(result: Result<Alternatives, Refusal>) -> Result<Vec<u64>, Refusal> {

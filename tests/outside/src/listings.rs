@@ -97,6 +97,14 @@ pub fn some_listing(r: &mut Random, listing: Listing) -> (&'static str, Vec<u16>
     (way.name, (way.made)(r, listing))
 }
 
+/// The same for the writer of tree books, in half of the cases the book's own, so that what is laid out is looked at.
+pub fn some_for_trees(r: &mut Random, listing: Listing) -> (&'static str, Vec<u16>) {
+    if r.one_in(2) {
+        return (WHOLE.name, listing.numbers());
+    }
+    some_listing(r, listing)
+}
+
 /// The reasons for 20, by name. Bytes laid out from a listing agree with themselves: reading has no 2, 6, 8 and 13 for them.
 pub const REASONS: [&str; 12] = [
     "missing",

@@ -234,11 +234,12 @@ mod tests {
 
     use super::SHAPES;
     use crate::book::Book;
-    use crate::calls::{Call, LISTING, MAKING, OF_A_SHEET, OF_SHORT_FORMS};
+    use crate::calls::{Call, LISTING, MAKING, OF_A_SHEET, OF_SHORT_FORMS, OF_TREES};
     use crate::examples::e1;
+    use crate::listings::{ways, REASONS};
     use crate::made::{asked, names_of};
     use crate::sheet::{Sheet, FRESH};
-    use crate::{nearest_shapes, plan_shapes, resend_shapes, row_shapes, shapes, short_shapes, versions};
+    use crate::{nearest_shapes, plan_shapes, resend_shapes, row_shapes, shapes, short_shapes, tree_shapes, versions};
 
     /// The shapes of a call on E1 with fields 0 and 1 answered by 0 and 1, and these places photographed.
     fn names(photographed: &[usize], call: Call) -> Vec<&'static str> {
@@ -314,7 +315,7 @@ mod tests {
     /// What a call had is counted by name.
     #[test]
     fn names_of_a_call_are_different() {
-        for &call in OF_A_SHEET.iter().chain(MAKING).chain(OF_SHORT_FORMS) {
+        for &call in OF_A_SHEET.iter().chain(MAKING).chain(OF_SHORT_FORMS).chain(OF_TREES) {
             let made = [SHAPES, versions::SHAPES, resend_shapes::SHAPES, short_shapes::SHAPES];
             let made = made.into_iter().flat_map(|all| asked(all, call));
             let mut names: Vec<&str> = made.map(|(name, _)| name).collect();
@@ -329,6 +330,12 @@ mod tests {
             }
             if call == "plan" {
                 names.extend(plan_shapes::all().map(|(name, _)| name));
+            }
+            if OF_TREES.contains(&call) {
+                names.extend(tree_shapes::all(call).map(|(name, _)| name));
+            }
+            if call == "write_tree" {
+                names.extend(ways().map(|way| way.name).chain(REASONS));
             }
             assert_eq!(names.iter().collect::<BTreeSet<_>>().len(), names.len(), "{call}");
         }

@@ -5,10 +5,10 @@
 //! its memory flush against a page that nobody may touch, in front and behind; a list of calls is also made one by one, alternatives are
 //! held against plain filtering with each answered field relaxed, photographed or not, rows against plain filtering and the listing, a
 //! nearest reading against plain filtering and itself, a number of questions against plain filtering and itself one turn on, the two forms
-//! of a stored sheet against each other, a joined book against both that it was made from, the other order and itself, a book that is shown
-//! or written goes the way back too, and an accepted book is turned into the other version. The run prints how often each refusal of each
-//! call was reached and what else the cases had, and fails if something was missed; some of it has to be had so often that it takes 47,500
-//! cases.
+//! of a stored sheet against each other, a joined book against both that it was made from, the other order and itself, a tree book against
+//! reading, showing and writing, a book that is shown or written goes the way back too, and an accepted book is turned into the other
+//! version. The run prints how often each refusal of each call was reached and what else the cases had, and fails if something was missed;
+//! some of it has to be had so often that it takes 50,000 cases.
 
 use std::ffi::c_int;
 use std::io::Write;
@@ -133,6 +133,11 @@ fn joins_agree(rooms: &Rooms, case: &Case, reading: &Reading) -> bool {
     agree_both_ways("a joined book is not what is promised", |library| rooms.join_disagreement(library, case, reading))
 }
 
+/// The calls of tree books fit together with reading, showing and writing.
+fn trees_agree(rooms: &Rooms, case: &Case, reading: &Reading) -> bool {
+    agree_both_ways("tree books are not read and written as promised", |library| rooms.tree_disagreement(library, case, reading))
+}
+
 /// The ways to make a call.
 fn ways(call: &Call) -> &'static [(&'static str, &'static dyn Library)] {
     let ways: &[(&str, &dyn Library)] = &[("bare", &Exported), ("by the wrapper", &Wrapper), ("one by one", &OneByOne)];
@@ -176,6 +181,7 @@ fn case_agrees(rooms: &Rooms, seed: u64, index: u64, seen: &mut Coverage) -> boo
         && plans_agree(rooms, &case, &reading)
         && forms_agree(rooms, &case, &reading)
         && joins_agree(rooms, &case, &reading)
+        && trees_agree(rooms, &case, &reading)
         && versions_agree(rooms, &case, &reading, &trials)
         && case.calls.iter().all(|call| list_agrees(&case, &reading, call) && round_trips_agree(&case, call))
 }

@@ -18,7 +18,7 @@ const UNCOUNTED: &[&str] = &["filtered", "store"];
 const OF_AN_ANSWER: &[&str] = &["withdraw", "photograph", "filtered"];
 /// The calls that write and have a count.
 const COUNTING: &[&str] =
-    &["alternatives", "nearest", "store_short", "shorten", "lengthen", "join", "replay", "report", "show", "write"];
+    &["alternatives", "nearest", "store_short", "shorten", "lengthen", "join", "replay", "report", "show", "write", "write_tree"];
 
 pub const SLIPS: &[Listed] = &[
     ("a field taken as a byte", OF_A_FIELD, Part(|desk| desk.taken = |call| taken(call, byte, whole))),
@@ -106,7 +106,7 @@ fn fault_first(book: &Book, form: &[u8]) -> Result<Sheet, Refusal> {
 
 impl Seen<'_> {
     pub fn accepted(&self) -> &Book {
-        self.reading.as_ref().expect("14 to 19 and 21 to 27 come after the book was read")
+        self.reading.as_ref().expect("14 to 19, 21 to 27, and 28 and 29 of reading come after the book was read")
     }
 
     pub fn field(&self) -> usize {

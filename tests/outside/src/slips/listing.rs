@@ -8,29 +8,29 @@ use super::{
     Wrong::{Left, Part},
 };
 use crate::book::Book;
-use crate::calls::{self, Answer, Call};
+use crate::calls::{self, Answer, Call, WRITING};
 use crate::desk::Desk;
 use crate::listing::{book_bytes, Fault, ListedTable, Listing};
 use crate::reader::{codes_outside, tables_above, Reader};
 
-const BOTH: &[&str] = &["show", "write"];
+const TELLING: &[&str] = &["show", "write", "write_tree"];
 
 pub const fn showing(what: &'static str, exchange: fn(&mut Desk)) -> Listed {
     (what, &["show"], Part(exchange))
 }
 
 pub const fn writing(what: &'static str, exchange: fn(&mut Desk)) -> Listed {
-    (what, &["write"], Part(exchange))
+    (what, WRITING, Part(exchange))
 }
 
 pub const fn leaving(what: &'static str, change: fn(&Seen, &mut calls::Left)) -> Listed {
-    (what, &["write"], Left(change))
+    (what, WRITING, Left(change))
 }
 
 pub const SLIPS: &[Listed] = &[
-    ("one element more told", BOTH, Left(|_, left| if_accepted(left, |left| left.cells[1] += 1))),
-    ("how many elements not told", BOTH, Left(|_, left| if_accepted(left, |left| left.cells[1] = 0))),
-    ("a refusal tells one element", BOTH, Left(|_, left| if_refused(left, |left| left.cells[1] = 1))),
+    ("one element more told", TELLING, Left(|_, left| if_accepted(left, |left| left.cells[1] += 1))),
+    ("how many elements not told", TELLING, Left(|_, left| if_accepted(left, |left| left.cells[1] = 0))),
+    ("a refusal tells one element", TELLING, Left(|_, left| if_refused(left, |left| left.cells[1] = 1))),
     showing("rows in rising order", |desk| desk.listing = |book| changed(book, sorted)),
     showing("repeated rows once", |desk| desk.listing = |book| changed(book, once)),
     showing("tables from the last to the first", |desk| desk.listing = |book| changed_whole(book, |l| l.tables.reverse())),
@@ -107,7 +107,7 @@ pub fn taken_whole(call: &Call, change: impl Fn(&mut Listing)) -> Call {
         return call.clone();
     };
     change(&mut listing);
-    Call::Write { listing: listing.numbers() }
+    call.with_listing(listing.numbers())
 }
 
 /// The call with this change in each table of its listing.
@@ -163,12 +163,12 @@ fn all_exchanged(book: &Book) -> Vec<u16> {
 }
 
 fn first_numbers(call: &Call, numbers: usize) -> Call {
-    Call::Write { listing: call.listing()[..numbers].to_vec() }
+    call.with_listing(call.listing()[..numbers].to_vec())
 }
 
 fn left_over_dropped(call: &Call) -> Call {
     match Listing::in_front(call.listing()) {
-        Ok((listing, _)) => Call::Write { listing: listing.numbers() },
+        Ok((listing, _)) => call.with_listing(listing.numbers()),
         Err(_) => call.clone(),
     }
 }
@@ -176,7 +176,7 @@ fn left_over_dropped(call: &Call) -> Call {
 fn missing_as_1(call: &Call) -> Call {
     let continued = [call.listing(), &[1; 70_000]].concat();
     match (Listing::taken_apart(call.listing()), Listing::in_front(&continued)) {
-        (Err(Fault::Missing), Ok((listing, _))) => Call::Write { listing: listing.numbers() },
+        (Err(Fault::Missing), Ok((listing, _))) => call.with_listing(listing.numbers()),
         _ => call.clone(),
     }
 }

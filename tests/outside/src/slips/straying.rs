@@ -2,7 +2,7 @@
 //! lent to be read only. Most of them die by it, so each needs a process of its own.
 
 use super::{Slip, Wrong};
-use crate::calls::{MAKING, OF_A_BOOK, OF_A_SHEET, TELLING};
+use crate::calls::{MAKING, OF_A_BOOK, OF_A_SHEET, TELLING, WRITING};
 use crate::library::Lent;
 
 #[derive(Clone, Copy, Debug)]
@@ -70,13 +70,25 @@ impl Stray {
 const LENT: [(Memory, &[&str]); 9] = [
     (Memory::Book, OF_A_BOOK),
     (Memory::List, &["plan", "load", "load_short", "shorten", "lengthen", "join", "replay", "report"]),
-    (Memory::Listing, &["write"]),
+    (Memory::Listing, WRITING),
     (Memory::Sheet, MAKING),
     (Memory::Sheet, OF_A_SHEET),
     (Memory::Outcome, TELLING),
     (
         Memory::Bytes,
-        &["alternatives", "nearest", "store", "store_short", "shorten", "lengthen", "join", "replay", "report", "write"],
+        &[
+            "alternatives",
+            "nearest",
+            "store",
+            "store_short",
+            "shorten",
+            "lengthen",
+            "join",
+            "replay",
+            "report",
+            "write",
+            "write_tree",
+        ],
     ),
     (Memory::Shown, &["show"]),
     (Memory::Numbers, &["filtered"]),

@@ -75,9 +75,11 @@ pub const SLIPS: &[Listed] = &[
     showing("the first 32 fields", |desk| desk.listing = |book| changed_whole(book, |l| l.counts.truncate(32))),
     ("18 for more numbers than version 1 has", &["show"], Left(|seen, left| longer_refused(seen, left, 16_803))),
     ("18 for more bytes than version 1 has", &["write"], Left(|seen, left| longer_refused(seen, left, 16_870))),
-    leaving("20 for more bytes than version 1 has", |seen, left| {
-        before(left, 18, 20, || seen.answer.written.elements() > 16_870)
-    }),
+    (
+        "20 for more bytes than version 1 has",
+        &["write"],
+        Left(|seen, left| before(left, 18, 20, || seen.answer.written.elements() > 16_870)),
+    ),
     writing("a listing from before taken as of version 1", |desk| desk.taken = |call| completed(call, 1)),
     writing("a listing from before taken as of version 2", |desk| desk.taken = |call| completed(call, 2)),
     writing("the version taken from the front", |desk| desk.taken = taken_from_front),
@@ -124,14 +126,14 @@ fn in_numbers(book: &Book, change: impl Fn(&mut Vec<u16>)) -> Vec<u16> {
 fn taken_from_front(call: &Call) -> Call {
     let mut listing = call.listing().to_vec();
     listing.rotate_left(call.listing().len().min(1));
-    Call::Write { listing }
+    call.with_listing(listing)
 }
 
 /// The call with this version behind a listing that has none.
 fn completed(call: &Call, version: u16) -> Call {
     let listing = [call.listing(), &[version]].concat();
     match Listing::taken_apart(&listing) {
-        Ok(_) => Call::Write { listing },
+        Ok(_) => call.with_listing(listing),
         Err(_) => call.clone(),
     }
 }
