@@ -2,7 +2,7 @@
 //!
 //! `bench` prints the tables; `bench --write DOCS` also puts them into DOCS/PERFORMANCE.md, between its two marks, and draws
 //! DOCS/performance.svg. `bench --joining` measures and prints what joining two books takes, and nothing else; `bench --plans` does so with
-//! the debrief plan.
+//! the debrief plan, and `bench --trees` with tree books.
 
 mod families;
 mod gecode;
@@ -20,6 +20,7 @@ mod short;
 mod stack;
 mod tables;
 mod timing;
+mod trees;
 
 use std::fmt::Write;
 use std::path::Path;
@@ -86,8 +87,9 @@ fn last_sections(out: &mut String, b: &Family, e: &Family) -> std::fmt::Result {
     let listings = listings::all().map(|listed| (listed.what, measure::listing(&listed)));
     tables::listings(out, &listings)?;
     writeln!(out, "\n### Stack, all fields of the full books answered\n")?;
-    let stacks =
-        |family| [measure::stacks(family), short::stacks(family), joining::stacks(family), plans::stacks(family)].concat();
+    let stacks = |family| {
+        [measure::stacks(family), short::stacks(family), joining::stacks(family), plans::stacks(family), trees::stacks()].concat()
+    };
     tables::stacks(out, &stacks(b), &stacks(e))
 }
 
@@ -110,8 +112,10 @@ fn measured() -> Result<(String, String), std::fmt::Error> {
     }
     let versions: Vec<_> = e.answers().map(|n| measure::versions(b, e, n)).collect();
     let (searches, stored, joins, plans) = (nearest::searches(), short::all(b, e), joining::all(), plans::plans(b));
+    let trees = trees::all();
     tables::targets(&mut out, &passes, &versions, &shaped, &searches, &stored, &joins)?;
     tables::plan_targets(&mut out, &plans)?;
+    tables::tree_targets(&mut out, &trees)?;
     families_sections(&mut out, &books, &passes)?;
     writeln!(out, "\n### The full book of version 2 beside that of version 1, in turns\n")?;
     tables::versions(&mut out, &versions)?;
@@ -125,6 +129,8 @@ fn measured() -> Result<(String, String), std::fmt::Error> {
     tables::stored(&mut out, &stored)?;
     writeln!(out, "\n### Joining two books, by the shape of their tables\n")?;
     tables::joins(&mut out, &joins)?;
+    writeln!(out, "\n### Tree books\n")?;
+    tables::trees(&mut out, &trees)?;
     writeln!(out, "\n### Reading, by the shape of the tables and the order of the rows\n")?;
     tables::shapes(&mut out, &shaped)?;
     last_sections(&mut out, b, e)?;
@@ -158,18 +164,26 @@ fn plans_alone() -> Result<String, std::fmt::Error> {
     Ok(out)
 }
 
+/// What reading and writing tree books take, their stack too.
+fn trees_alone() -> Result<String, std::fmt::Error> {
+    let (stacks, mut out) = (trees::stacks(), String::new());
+    tables::trees(&mut out, &trees::all())?;
+    writeln!(out)?;
+    tables::stacks(&mut out, &stacks, &stacks)?;
+    Ok(out)
+}
+
 fn main() -> Result<(), Box<dyn std::error::Error>> {
     let words: Vec<String> = std::env::args().skip(1).collect();
-    match words.iter().map(String::as_str).collect::<Vec<_>>()[..] {
-        ["--joining"] => {
-            println!("{}", joining_alone()?);
-            return Ok(());
-        }
-        ["--plans"] => {
-            println!("{}", plans_alone()?);
-            return Ok(());
-        }
-        _ => {}
+    let alone = match words.iter().map(String::as_str).collect::<Vec<_>>()[..] {
+        ["--joining"] => Some(joining_alone()?),
+        ["--plans"] => Some(plans_alone()?),
+        ["--trees"] => Some(trees_alone()?),
+        _ => None,
+    };
+    if let Some(text) = alone {
+        println!("{text}");
+        return Ok(());
     }
     let (text, drawing) = measured()?;
     println!("{text}");

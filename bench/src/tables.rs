@@ -9,6 +9,7 @@ use crate::photographs::{Changes, Photographed};
 use crate::plans::{Asked, Planned};
 use crate::questions::Question;
 use crate::short::{Call, Stored};
+use crate::trees::TreeBooks;
 
 /// How many passes, each anew, make a hard plan.
 const MANY_PASSES: u64 = 1_000;
@@ -108,6 +109,14 @@ pub fn plan_targets(out: &mut String, plans: &[(Asked, Planned)]) -> Result {
     let anew = most(many.map(|(_, p)| p.library / p.anew));
     writeln!(out, "| debrief plan against plain Rust, any book | at most 1.5 | {plain:.2} |")?;
     writeln!(out, "| hard debrief plan against plain Rust, each pass anew | at most 0.33 | {anew:.2} |")
+}
+
+/// The targets of tree books, with what was reached on the worst book; in reading beside either form of plain Rust.
+pub fn tree_targets(out: &mut String, books: &[TreeBooks]) -> Result {
+    let reading = most(books.iter().flat_map(|b| [b.read.plain, b.read_by_roots].map(|plain| b.read.library / plain)));
+    let writing = most(books.iter().map(|b| b.write.library / b.write.plain));
+    writeln!(out, "| reading for tree books against plain Rust, either form, any book | at most 1.5 | {reading:.2} |")?;
+    writeln!(out, "| writing for tree books against plain Rust, any listing | at most 1.5 | {writing:.2} |")
 }
 
 pub fn targets(
@@ -296,6 +305,25 @@ pub fn joins(out: &mut String, joins: &[Join]) -> Result {
     for j in joins {
         let cells = [microseconds(j.library), ratio(Some(j.library / j.plain)), ratio(Some(j.library / j.reading))];
         writeln!(out, "| {} | {} | {} | {} | {} |", j.what, j.order, j.tables, j.rows, cells.join(" | "))?;
+    }
+    Ok(())
+}
+
+/// Tree books, one row for each.
+pub fn trees(out: &mut String, books: &[TreeBooks]) -> Result {
+    writeln!(
+        out,
+        "| book | tables | rows | refused by | read_tree, µs | × plain Rust | × plain Rust with roots | ÷ read | write_tree, µs | × plain Rust | ÷ write |"
+    )?;
+    writeln!(out, "|---|---|---|---|---|---|---|---|---|---|---|")?;
+    for b in books {
+        let refused = b.refused.map_or("–".to_string(), |number| number.to_string());
+        let ratios = |library: f64, others: &[f64]| others.iter().map(|other| ratio(Some(library / other))).collect::<Vec<_>>();
+        let (read, write) = (b.read.library, b.write.library);
+        let reading = ratios(read, &[b.read.plain, b.read_by_roots, b.read.any_book]).join(" | ");
+        let writing = ratios(write, &[b.write.plain, b.write.any_book]).join(" | ");
+        let (read, write) = (microseconds(read), microseconds(write));
+        writeln!(out, "| {} | {} | {} | {refused} | {read} | {reading} | {write} | {writing} |", b.what, b.tables, b.rows)?;
     }
     Ok(())
 }

@@ -1,6 +1,6 @@
 //! Listings: shown from a checked book, and laid out as bytes that are checked before they are copied.
 
-use super::reader::{check, View};
+use super::reader::{check, view, View};
 use super::Refused;
 
 /// The bytes of the longest book that is accepted.
@@ -71,17 +71,22 @@ fn lay_out(listing: &[u16], out: &mut [u8]) -> usize {
     put([fields as u8, tables as u8, listing[at] as u8, 0xE5], out, to)
 }
 
-/// How many bytes the book has that the listing says; they go to `out`.
-pub fn write(listing: &[u16], out: &mut [u8]) -> Result<u64, Refused> {
+/// How many bytes the book has that the listing says, if it passes one more test behind 20; they go to `out`.
+pub fn write_tested(listing: &[u16], out: &mut [u8], test: impl FnOnce(&View) -> Result<(), Refused>) -> Result<u64, Refused> {
     if fits(listing) != Some(true) {
         return Err((20, 0));
     }
     let mut scratch = [0; LONGEST];
     let length = lay_out(listing, &mut scratch);
     let bytes = &scratch[..length];
-    check(bytes).map_err(|_| (20, 0))?;
+    test(&view(bytes).map_err(|_| (20, 0))?)?;
     out.get_mut(..length).ok_or((18, 0))?.copy_from_slice(bytes);
     Ok(length as u64)
+}
+
+/// How many bytes the book has that the listing says; they go to `out`.
+pub fn write(listing: &[u16], out: &mut [u8]) -> Result<u64, Refused> {
+    write_tested(listing, out, |_| Ok(()))
 }
 
 /// Writes one number for each byte, and answers the place behind them.

@@ -220,10 +220,17 @@ fn counts_sorted<const ROWS: usize>(view: &View, rows: usize) -> Counts {
     counts(view, rows, |rows, arity| different_sorted(rows, arity, &mut words))
 }
 
+/// The counts of an accepted book of so many rows. A small one does not pay for clearing the words of the largest.
+pub fn count(view: &View, rows: usize) -> Counts {
+    if rows <= 64 {
+        counts_sorted::<64>(view, rows)
+    } else {
+        counts_sorted::<4_096>(view, rows)
+    }
+}
+
 pub fn read(bytes: &[u8]) -> Result<Counts, Refused> {
-    let (view, rows) = accept(bytes, |_, _| {})?;
-    // a small book does not pay for clearing the words of the largest
-    Ok(if rows <= 64 { counts_sorted::<64>(&view, rows) } else { counts_sorted::<4_096>(&view, rows) })
+    accept(bytes, |_, _| {}).map(|(view, rows)| count(&view, rows))
 }
 
 /// As `read`, but each row is held against the later ones of its table: the form that the library had before it sorted.
