@@ -1,4 +1,4 @@
--- What is told of one outcome, result or reply is told of an equal one. Assumes nothing.
+-- What is told of one outcome or result is told of an equal one. Assumes nothing.
 use Prim.Native.Nat.{ℕ}
 use mathlib.Core.Path.{◌≡◌, refl, sym, ap, ap₂, ◌∙◌, subst}
 use mathlib.Core.Logic.{◌≢◌}
@@ -7,22 +7,17 @@ use mathlib.Core.List.{List}
 use lib.Dec.{eqb}
 use borrow.Author.Tests.{eqb-true, eqb-false}
 use Rattle.format.specs.Reading.{Outcome}
-use Rattle.format.specs.Writing.{Reply}
 use Rattle.consistency.specs.Consistency.{Sheet}
 use Rattle.calls.specs.Calls.{Result, alternatives}
 use Rattle.calls.specs.Histories.{Call, sheet_after}
 use Rattle.calls.proofs.Kept.{alternatives_keeps}
 use Rattle.sheet.specs.Replayed.{Replayed}
 use Rattle.sheet.proofs.Replayed.{replayed}
-use Rattle.sighting.specs.Exported.{sheet_in, sheet_bytes, bytes_after, Tells, Exports, Makes, Changes, Replies, result_told}
+use Rattle.sighting.specs.Exported.{sheet_in, sheet_bytes, bytes_after, Tells, Exports, Makes, Changes, result_told}
 
 -- what tells an outcome tells an equal one
 pub tells_along : {number : ℕ} {cells : List ℕ} {o o' : Outcome} → Tells number cells o → o ≡ o' → Tells number cells o'
 tells_along {number} {cells} h e = subst (Tells number cells) e h
-
--- what a call with one reply leaves, a call with an equal reply leaves
-pub replies_along : {number : ℕ} {cells buffer : List ℕ} {r r' : Reply} → Replies number cells buffer r → r ≡ r' → Replies number cells buffer r'
-replies_along {number} {cells} {buffer} h e = subst (Replies number cells buffer) e h
 
 -- a call whose outcome is told, and which hands the sheet back as given, leaves that sheet and its own buffer
 pub exports_kept : {number : ℕ} {cells sheet : List ℕ} {r r' : Result}

@@ -1,5 +1,6 @@
 // What a call answers and the sheet that it hands back, put where the caller lent room for them.
 ghost use Rattle.std.specs.Prelude.{◌≡◌, ◌-◌, ◌<◌, List, [], ◌∷◌, ℕ};
+ghost use Rattle.book.specs.Shown.{counted};
 ghost use Rattle.sheet.specs.Shown.{shown_nothing, shown_listing, shown_number, shown_reading, result_of};
 ghost use Rattle.sighting.specs.Exported.{Tells, Changes, Makes};
 ghost use Rattle.sighting.specs.Told.{told, handed_by};
@@ -68,7 +69,7 @@ impl Cells<4> for Option<Suggestion> {
 }
 
 impl Cells<5> for Counts {
-    ghost counts = { λ counts. counts.fields ∷ counts.tables ∷ counts.rows ∷ counts.different ∷ [] };
+    ghost counts = { counted };
 
     fn cells(self) -> [u64; 5] {
         let Counts {
