@@ -1,6 +1,5 @@
 -- Laws of first_bad: one place on, a stop, the end; another test that says the same; the test holds at each place before the answer and fails
 -- at it, so the end is reached exactly where the test holds at each place, and the first that fails is the answer. Assumes nothing.
--- exactly where the test holds at each place. Assumes nothing.
 use mathlib.Core.Path.{◌≡◌, refl, subst}
 use mathlib.Core.Bool.{Bool, true, false}
 use mathlib.Core.Logic.{◌⊎◌, inl, inr, ⊎_elim}
