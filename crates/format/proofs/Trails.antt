@@ -7,7 +7,7 @@ use mathlib.Core.List.{List, [], ◌∷◌, ◌++◌}
 use Prim.Native.Nat.{ℕ, zero, suc, ◌≤◌, ◌<◌}
 use native.Mathlib.Nat.{le_trans, le-suc, lt-suc_self, le_of_suc-le-suc, eq-or-lt_of_le}
 use native.Mathlib.Omega.{arith}
-use lib.ListN.{get_or}
+use lib.ListN.{length, get_or}
 use lib.Dec.{eqb}
 use borrow.Author.Tests.{eqb-true, eqb-false, eq-eqb}
 use Rattle.std.proofs.lemmas.Bool.{cases_eq}
@@ -16,6 +16,13 @@ use Rattle.format.specs.Format.{Book}
 use Rattle.format.specs.Trees.{tied, Links, Trail, Ring, renamed, join_by, label, closes_by, closes}
 use Rattle.format.proofs.Elements.{all_append}
 use Rattle.format.proofs.Picks.{pick_cases}
+
+-- two fields are the first and the second
+pub two_of : (fs : List ℕ) → length fs ≡ 2 → fs ≡ get_or fs 0 0 ∷ get_or fs 1 0 ∷ []
+two_of [] e = absurd (omega arith)
+two_of (x ∷ []) e = absurd (omega arith)
+two_of (x ∷ y ∷ []) e = refl
+two_of (x ∷ y ∷ z ∷ zs) e = absurd (omega arith)
 
 -- ---- a table, by the labels before it
 

@@ -12,6 +12,7 @@ use borrow.Author.Tests.{eq-eqb, ne_eqb}
 use Rattle.std.proofs.lemmas.List.{get_or-map}
 use Rattle.format.specs.Format.{Book, field_most}
 use Rattle.format.specs.Trees.{tied, renamed, join_by, label, closes_by, closes}
+use Rattle.format.proofs.Trails.{two_of}
 use Rattle.trees.specs.Labels.{Labelled}
 
 -- table i closes no ring
@@ -31,13 +32,6 @@ joins_other [] l g n = refl
 joins_other (x ∷ []) l g n = refl
 joins_other (x ∷ y ∷ []) l g n = absurd (n refl)
 joins_other (x ∷ y ∷ z ∷ zs) l g n = refl
-
--- two fields are the first and the second
-two_of : (fs : List ℕ) → length fs ≡ 2 → fs ≡ get_or fs 0 0 ∷ get_or fs 1 0 ∷ []
-two_of [] e = absurd (omega arith)
-two_of (x ∷ []) e = absurd (omega arith)
-two_of (x ∷ y ∷ []) e = refl
-two_of (x ∷ y ∷ z ∷ zs) e = absurd (omega arith)
 
 -- the label of the field in column j, from an array
 abbrev pub label_at : List ℕ → List ℕ → ℕ → ℕ
