@@ -15,7 +15,7 @@ use Rattle.format.proofs.Booleans.{T_true, true_T, and_in, and_left, and_right}
 use Rattle.consistency.specs.Consistency.{Sheet, answer, backed}
 use Rattle.consistency.specs.Counts.{answered}
 use Rattle.consistency.proofs.Booleans.{all_in, all_out}
-use Rattle.consistency.specs.Readings.{row_for, Codes, KeepsBacked, Suits, differs}
+use Rattle.consistency.specs.Readings.{row_for, Codes, Full, KeepsBacked, Suits, differs}
 use Rattle.consistency.specs.Nearest.{is_full, keeps_backed}
 
 -- ---- tables
@@ -30,6 +30,14 @@ rows_full [] r h = tt
 rows_full (u ∷ ts) r h =
     and_in (is_in (row_for r u.fields) u.rows) (is_full ts r) (is_in_in (row_for r u.fields) u.rows (h 0 (omega arith)))
     (rows_full ts r (λ i l. h (suc i) (omega arith)))
+
+module _ (b : Book) (r : List ℕ) where
+  -- the test of the tables passes exactly where a reading of the book's codes is full
+  pub test_full : Codes b r → T (is_full b.tables r) → Full b r
+  test_full o t = record { codes_are = o; rows = full_rows b.tables r t }
+
+  pub full_test : Full b r → T (is_full b.tables r)
+  full_test h = rows_full b.tables r h.rows
 
 -- ---- photographs: w, the field is photographed; x, it has an answer; y, the reading has that code
 
@@ -71,9 +79,9 @@ module _ (b : Book) (s : Sheet) (r : List ℕ) where
   pub test_suits : Codes b r → T (is_full b.tables r && keeps_backed b s r) → Suits b s r
   test_suits o t =
       record {
-        full = record { codes_are = o; rows = full_rows b.tables r (and_left (is_full b.tables r) (keeps_backed b s r) t) };
+        full = test_full b r o (and_left (is_full b.tables r) (keeps_backed b s r) t);
         keeps = keeps_is (and_right (is_full b.tables r) (keeps_backed b s r) t);
       }
 
   pub suits_test : Suits b s r → T (is_full b.tables r && keeps_backed b s r)
-  suits_test q = and_in (is_full b.tables r) (keeps_backed b s r) (rows_full b.tables r q.full.rows) (is_keeps q.keeps)
+  suits_test q = and_in (is_full b.tables r) (keeps_backed b s r) (full_test b r q.full) (is_keeps q.keeps)
