@@ -11,20 +11,18 @@ use borrow.Author.Tests.{ne_eqb}
 use Rattle.format.specs.Basics.{pick}
 use Rattle.format.specs.Format.{Book, book_of}
 use Rattle.format.proofs.Accepted.{verdict_accepted}
-use Rattle.format.proofs.Booleans.{and_in, and_left, and_right, false_T}
+use Rattle.format.proofs.Booleans.{and_in, and_left, and_right}
 use Rattle.consistency.specs.Consistency.{Subdomain, Sheet, codes, backed, relax}
 use Rattle.consistency.specs.Largest.{largest}
 use Rattle.consistency.specs.Emptiness.{none_empty, NoneEmpty}
-use Rattle.consistency.specs.Counts.{bit, answered, mask, lines, line_bytes}
-use Rattle.consistency.proofs.Booleans.{any_out}
+use Rattle.consistency.specs.Counts.{answered, lines, line_bytes}
 use Rattle.consistency.proofs.Largest.{largest_is}
-use Rattle.consistency.proofs.Masks.{mask_some, zero_bit}
 use Rattle.consistency.proofs.EmptyFields.{none_out, none_in}
 use Rattle.consistency.proofs.Lines.{relaxable_are, lines_are, length_lines}
 use Rattle.calls.specs.Calls.{Result, filtered}
 use Rattle.calls.specs.Conditions.{Shows, filter_answers, Agreement}
 use Rattle.calls.proofs.Listing.{list_accepted}
-use Rattle.calls.proofs.Condition2.{filter_accepts, filter_number, condition2_filter}
+use Rattle.calls.proofs.Condition2.{filter_accepts, number_some, number_none, condition2_filter}
 use Rattle.calls.proofs.Sheets.{accepted_within}
 
 -- ---- what filtering with f relaxed writes
@@ -47,17 +45,15 @@ module _ (bytes : List ℕ) (s : Sheet) (f : ℕ) (o : List ℕ) (n : f ≢ 255)
       ((condition2_filter bytes s f o e).bits (largest b (filter_answers s f)) (largest_is b (filter_answers s f)) g c l)
 
   -- where it is not 0, the field has one
-  number_some : (g : ℕ) → g < length b.counts → get_or (filtered bytes s f o).buffer g 0 ≢ 0 → (c : ℕ) × (c < codes b g) × T (S g c)
-  number_some g l h =
-      let m : get_or (filtered bytes s f o).buffer g 0 ≡ mask (codes b g) (S g) =
-      filter_number bytes s f o e g l ∙ ap (λ (x : List ℕ). mask (codes b g) (largest b x g)) answers in
-      any_out (codes b g) (S g) (mask_some (codes b g) (S g) (λ z. h (m ∙ z)))
+  has_code : (g : ℕ) → g < length b.counts → get_or (filtered bytes s f o).buffer g 0 ≢ 0 → (c : ℕ) × (c < codes b g) × T (S g c)
+  has_code g l h =
+      subst (λ (x : List ℕ). (c : ℕ) × (c < codes b g) × T (largest b x g c)) answers (number_some bytes s f o e g l h)
 
   -- where it is 0, it has none
-  number_none : (g : ℕ) → g < length b.counts → get_or (filtered bytes s f o).buffer g 0 ≡ 0 → NoneEmpty b S → ⊥
-  number_none g l z h =
+  has_none : (g : ℕ) → g < length b.counts → get_or (filtered bytes s f o).buffer g 0 ≡ 0 → NoneEmpty b S → ⊥
+  has_none g l z h =
       let r = h g l in
-      false_T (ap (λ (x : ℕ). bit x r.0) z ∙ zero_bit r.0) ((shows g r.0 l).1 r.2)
+      number_none bytes s f o e g l z r.0 (subst (λ (x : List ℕ). T (largest b x g r.0)) (sym answers) r.2)
 
 -- ---- it agrees with the list
 
@@ -78,11 +74,11 @@ agreement bytes s o o' e enough f l t =
       same = λ full c.
           let r = lines_are b s (record { field = f; code = c }) in
           let none : T (none_empty b S) =
-          none_in b S (λ g m. number_some bytes s f o' n k g m (full g m)) in (
+          none_in b S (λ g m. has_code bytes s f o' n k g m (full g m)) in (
             λ m. (shows bytes s f o' n k f c l).1 (and_left (S f c) (none_empty b S) (r.0 m).1),
             λ d. r.1 ((relaxable_are b s f).1 (l, t), and_in (S f c) (none_empty b S) ((shows bytes s f o' n k f c l).0 d) none),
           );
       unmended = λ g m z c i.
           let r = (lines_are b s (record { field = f; code = c })).0 i in
-          number_none bytes s f o' n k g m z (none_out b S (and_right (S f c) (none_empty b S) r.1));
+          has_none bytes s f o' n k g m z (none_out b S (and_right (S f c) (none_empty b S) r.1));
     }

@@ -5,7 +5,6 @@ use mathlib.Core.Logic.{◌↔◌}
 use mathlib.Core.Bool.{Bool, not}
 use mathlib.Core.List.{List}
 use native.Mathlib.Omega.{arith}
-use borrow.Author.Tests.{le-ltb}
 use lib.ListN.{length}
 use lib.Dec.{T}
 use Rattle.format.specs.Basics.{pick, In}
@@ -24,13 +23,12 @@ use Rattle.consistency.proofs.CodeCounts.{outside_ext}
 use Rattle.consistency.proofs.EmptyFields.{none_out, none_in, listed_many}
 use Rattle.consistency.proofs.Largest.{largest_is, largest_unique}
 use Rattle.consistency.proofs.Lines.{relaxable_are, listed_are, lines_are, lines_in_order, length_lines}
-use Rattle.calls.specs.Calls.{Result, filtered, alternatives}
+use Rattle.calls.specs.Calls.{filtered, alternatives}
 use Rattle.calls.specs.Histories.{Answers, given, doubtful, sheet_of}
 use Rattle.calls.specs.Conditions.{Shows, Case, unlifted, lifted, doubt_fields, Cases, the_sum, the_struck, IsListed, Lists}
 use Rattle.calls.proofs.Sheets.{Within, accepted_within, Sound, answered_given, doubt_is, no_fault}
-use Rattle.calls.proofs.Steps.{on_sheet_lem}
 use Rattle.calls.proofs.Listing.{listing, list_accepts}
-use Rattle.calls.proofs.Condition2.{condition2_open}
+use Rattle.calls.proofs.Condition2.{plain_accepts, condition2_open}
 
 -- equal tests say the same
 T-iff : {x y : Bool} → x ≡ y → T x ↔ T y
@@ -118,9 +116,8 @@ module _ (bytes : List ℕ) (ok : Accepted bytes) (a : Answers) (s : Sound (book
 
   -- filtering with nothing relaxed is accepted where numbers enough are lent
   filtered_accepts : length b.counts ≤ length o → (filtered bytes (sheet_of a) 255 o).outcome.number ≡ 0
-  unfolding filtered
-  filtered_accepts h =
-      ap (λ (r : Result). r.outcome.number) (on_sheet_lem bytes ok a s 0 o _) ∙ rw (le-ltb (length o) (length b.counts) h)
+  filtered_accepts =
+      plain_accepts bytes (sheet_of a) o (accepted_verdict bytes ok) (omega (arith, no_fault b (accepted_within bytes ok) a s))
 
   -- so its bits are the codes of any largest subdomain
   pub filtered_shows : length b.counts ≤ length o → (S : Subdomain) → IsLargest b (sheet_of a).answers S

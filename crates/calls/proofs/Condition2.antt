@@ -12,12 +12,13 @@ use borrow.Author.Tests.{ltb-false, ltb-true, eqb-true, lt-ltb, le-ltb, ne_eqb, 
 use Rattle.format.specs.Basics.{pick}
 use Rattle.format.specs.Format.{Book, book_of}
 use Rattle.format.specs.Reading.{pass, verdict}
-use Rattle.format.proofs.Booleans.{true_T, T_true}
+use Rattle.format.proofs.Booleans.{true_T, T_true, false_T}
 use Rattle.consistency.specs.Consistency.{places, Sheet, codes, answer, relax}
 use Rattle.consistency.specs.Largest.{largest}
 use Rattle.consistency.specs.Counts.{bit, mask, masks, answered}
+use Rattle.consistency.proofs.Booleans.{any_out}
 use Rattle.consistency.proofs.Largest.{largest_is, largest_unique}
-use Rattle.consistency.proofs.Masks.{mask_lt, masks_at, masks_bit, length_masks}
+use Rattle.consistency.proofs.Masks.{mask_lt, mask_some, zero_bit, masks_at, masks_bit, length_masks}
 use Rattle.calls.specs.Calls.{Result, done, fault_of, masks_into, filtered}
 use Rattle.calls.specs.Conditions.{Condition2-open, filter_answers, Filtered, Condition2-filter}
 use Rattle.calls.proofs.CallLaws.{Where, pick_cases, sheet_where, sheet_go}
@@ -100,7 +101,29 @@ filter_number bytes s g o e f l =
     let a : List ℕ = filter_answers s g in
     ap (λ (r : Result). get_or r.buffer f 0) (filter_accepted bytes s g o e).result ∙ number_at b a o f l ∙ masks_at b a f
 
--- the other way: where the book passes, no place is at fault, field g has an answer and numbers enough are lent
+module _ (bytes : List ℕ) (s : Sheet) (g : ℕ) (o : List ℕ) (e : (filtered bytes s g o).outcome.number ≡ 0) (f : ℕ) (l : f < length (book_of bytes).counts) where
+  abbrev has : ℕ → Bool
+  has = largest (book_of bytes) (filter_answers s g) f
+
+  -- where it is not 0, the field has a code
+  pub number_some : get_or (filtered bytes s g o).buffer f 0 ≢ 0 → (c : ℕ) × (c < codes (book_of bytes) f) × T (has c)
+  number_some n = any_out (codes (book_of bytes) f) has (mask_some (codes (book_of bytes) f) has (λ z. n (filter_number bytes s g o e f l ∙ z)))
+
+  -- where it is 0, the field has none
+  pub number_none : get_or (filtered bytes s g o).buffer f 0 ≡ 0 → (c : ℕ) → T (has c) → ⊥
+  number_none z c t =
+      let m : get_or (masks (book_of bytes) (filter_answers s g)) f 0 ≡ 0 =
+      masks_at (book_of bytes) (filter_answers s g) f ∙ sym (filter_number bytes s g o e f l) ∙ z in
+      false_T (sym (masks_bit (book_of bytes) (filter_answers s g) f c) ∙ ap (λ (x : ℕ). bit x c) m ∙ zero_bit c) t
+
+-- the other way: where the book passes, no place is at fault and numbers enough are lent, with nothing lifted
+pub plain_accepts : (bytes : List ℕ) (s : Sheet) (o : List ℕ) → verdict bytes ≡ pass → places ≤ fault_of (book_of bytes) s
+    → length (book_of bytes).counts ≤ length o → (filtered bytes s 255 o).outcome.number ≡ 0
+unfolding filtered
+plain_accepts bytes s o p w enough =
+    ap (λ (r : Result). r.outcome.number) (sheet_go 0 bytes s o _ p w) ∙ rw (le-ltb (length o) (length (book_of bytes).counts) enough)
+
+-- and with field g lifted, where it has an answer
 pub filter_accepts : (bytes : List ℕ) (s : Sheet) (g : ℕ) (o : List ℕ) → verdict bytes ≡ pass → places ≤ fault_of (book_of bytes) s → g ≢ 255
     → g < length (book_of bytes).counts → T (answered s.answers g) → length (book_of bytes).counts ≤ length o
     → (filtered bytes s g o).outcome.number ≡ 0

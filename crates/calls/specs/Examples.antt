@@ -1,11 +1,10 @@
 -- Document 01, "Examples to hold": E1 to E8 as one table; two of document 02's M-101, in which fields stay empty; and rows behind codes
 -- of M-104. Assumes nothing.
-use Rattle.std.specs.Prelude.{ℕ, ◌≡◌, List, [], ◌∷◌, ◌++◌, map, false, length, replicate}
+use Rattle.std.specs.Prelude.{ℕ, ◌≡◌, List, [], ◌∷◌, ◌++◌, map, length, replicate}
 use Rattle.format.specs.Format.{Book, encode, book_of}
 use Rattle.format.specs.Reading.{Outcome, refused, accepted, reading}
 use Rattle.format.specs.Examples.{e1}
 use Rattle.consistency.specs.Consistency.{Sheet}
-use Rattle.consistency.specs.Nearest.{is_full}
 use Rattle.calls.specs.Calls.{loaded, filtered, alternatives, row_behind}
 
 -- the rows of a table that makes two fields of two codes differ
@@ -141,11 +140,3 @@ answered e =
 
 abbrev pub ExamplesHold : Type 0
 ExamplesHold = map answered examples ≡ examples
-
--- "no full reading exists": E4's eight readings
-abbrev pub readings_of_e4 : List (List ℕ)
-readings_of_e4 =
-    (0 ∷ 0 ∷ 0 ∷ []) ∷ (0 ∷ 0 ∷ 1 ∷ []) ∷ (0 ∷ 1 ∷ 0 ∷ []) ∷ (0 ∷ 1 ∷ 1 ∷ []) ∷ (1 ∷ 0 ∷ 0 ∷ []) ∷ (1 ∷ 0 ∷ 1 ∷ []) ∷ (1 ∷ 1 ∷ 0 ∷ []) ∷ (1 ∷ 1 ∷ 1 ∷ []) ∷ []
-
-abbrev pub NoneFull : Type 0
-NoneFull = map (is_full e4.tables) readings_of_e4 ≡ replicate 8 false
