@@ -56,6 +56,9 @@ const PLANNED: u64 = PAIRED;
 /// Of as many one is made for the profile of tree books: the odd one three behind a turn.
 const OF_TREES: u64 = PAIRED;
 
+/// Of as many one is made for what a tree book's lines mean: the odd one five behind a turn.
+const OF_MEANING: u64 = PAIRED;
+
 pub fn case(seed: u64, index: u64) -> Case {
     let mut r = random(seed, index);
     let pair = (index % PAIRED == PAIRED / 2).then(|| pairs::pair(&mut r));
@@ -64,6 +67,7 @@ pub fn case(seed: u64, index: u64) -> Case {
         None if index.is_multiple_of(NEAR) => made_for(&mut r, near::book, near::sheet),
         None if index % PLANNED == PLANNED - 3 => made_for(&mut r, questions::book, questions::sheet),
         None if index % OF_TREES == 3 => of_trees(&mut r),
+        None if index % OF_MEANING == 5 => made_for(&mut r, forests::with_readings, near::sheet),
         None => drawn(&mut r),
     };
     let BookCase { model, bytes, boundary, faults } = book;

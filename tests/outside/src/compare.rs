@@ -163,7 +163,7 @@ impl Rooms {
     }
 
     /// The pairs that the library lists; none where it refuses.
-    fn pairs(&self, library: &dyn Library, case: &Case) -> Option<Vec<u8>> {
+    pub fn pairs(&self, library: &dyn Library, case: &Case) -> Option<Vec<u8>> {
         let lent = vec![0u8; sighting::PAIRS_BYTES].into();
         let left = self.left(library, case, &Call::Alternatives, &lent, End::Back)?;
         let written = left.out.bytes.get(..2 * left.cells[1] as usize)?;

@@ -13,6 +13,7 @@ use crate::joining_shapes;
 use crate::listing::book_bytes;
 use crate::listings::{reason, ways, REASONS};
 use crate::made::{self, of_list, Made, Shape};
+use crate::meaning_shapes::{self, Asked as MeaningAsked};
 use crate::nearest_shapes::{self, Asked as ReadingAsked};
 use crate::photograph_shapes;
 use crate::plan_shapes::{self, Asked as PlanAsked};
@@ -38,7 +39,7 @@ pub struct Coverage {
     had: BTreeMap<String, u64>,
     /// What the calls that list had to list, the lengths lent for it, what the calls that count had to count, what the calls for a row, a
     /// reading or a plan had to find, what the calls that join had to join, which links and rings the calls of tree books had to look at,
-    /// and what each call had of M-103, M-105, M-107 and M-108, by call and name.
+    /// how lines hang on full readings, and what each call had of M-103, M-105, M-107 and M-108, by call and name.
     by_call: BTreeMap<(&'static str, &'static str), u64>,
 }
 
@@ -116,7 +117,7 @@ const LENGTHS: [Length; 5] = [
     ("the wider list's", |lent, asked| lent == asked.wider),
 ];
 
-/// How often each of them has to be lent in a run of 50,000 cases.
+/// How often each of them has to be lent in a run of 52,500 cases.
 const LENGTHS_ASKED: u64 = 200;
 
 /// The sheet whose alternatives the call lists; none where it is refused.
@@ -169,6 +170,7 @@ impl Coverage {
             self.note_rows(case, book, trials);
             self.note_readings(case, book, trials);
             self.note_plans(case, book, trials);
+            self.note_meaning(case, reading);
         }
         self.note_joins(case, reading, trials);
         self.note_trees(case, reading, trials);
@@ -216,6 +218,12 @@ impl Coverage {
         for asked in trials.iter().filter_map(|trial| PlanAsked::by(&case.sheet, &at, trial)) {
             asked.shapes().for_each(|shape| self.count(asked.call, shape));
         }
+    }
+
+    /// Notes how what alternatives had to list hangs on full readings.
+    fn note_meaning(&mut self, case: &Case, reading: &Reading) {
+        let asked = opened(reading, &case.sheet).ok().and_then(|book| MeaningAsked::by(book, &case.sheet));
+        asked.iter().flat_map(|asked| asked.shapes()).for_each(|shape| self.count(&Call::Alternatives, shape));
     }
 
     /// Notes what the calls that join had to join, or why they are refused.
@@ -304,6 +312,8 @@ impl Coverage {
         complete &= print_had("joined books", joining_shapes::all().map(|(name, least)| self.had_by("join", name, least)));
         complete &= print_had("readings", nearest_shapes::all().map(|(name, least)| self.had_by("nearest", name, least)));
         complete &= print_had("plans", plan_shapes::all().map(|(name, least)| self.had_by("plan", name, least)));
+        complete &=
+            print_had("lines and readings", meaning_shapes::all().map(|(name, least)| self.had_by("alternatives", name, least)));
         for call in OF_TREES {
             let shapes = tree_shapes::all(call).map(|(name, least)| self.had_by(call, name, least));
             complete &= print_had(&format!("tables and links for {call}"), shapes);

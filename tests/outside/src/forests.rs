@@ -1,13 +1,39 @@
 //! Seeded books for the profile of tree books: forests of paths, stars and other trees; rings of two fields and more, up to all sixty, with
 //! what hangs on them; tables of one field and tables without rows among them; and tables of more than two fields before and behind a ring.
+//! And small ones, mostly trees, for what their lines mean.
 
 use crate::book::{field_limit, Book, Table};
+use crate::near;
 use crate::pairs::{MOST_ROWS, MOST_TABLES};
 use crate::random::{allow_a_reading, fields_of, in_some_version, row_of, Random};
 
 pub fn book(r: &mut Random) -> Book {
     let book = if r.one_in(120) { every_row(r) } else { of_some_links(r) };
     in_some_version(r, book)
+}
+
+/// Few fields and codes, so that all readings can be looked at: mostly a tree, some of whose readings are full. Six fields of four codes have
+/// as many readings as are looked at.
+pub fn with_readings(r: &mut Random) -> Book {
+    let counts: Vec<u8> = (0..r.from(2, 6)).map(|_| r.from(2, 4) as u8).collect();
+    let order = some_order(r, counts.len());
+    let links = if r.one_in(4) { some_links(r, counts.len()) } else { forest(r, &order) };
+    let readings = near::some_readings(r, &counts);
+    let mut tables: Vec<Table> = links.iter().map(|link| near::holding_rows(r, &counts, &readings, link.to_vec())).collect();
+    if r.one_in(3) {
+        let field = r.from(0, counts.len() - 1) as u8;
+        tables.push(near::holding_rows(r, &counts, &readings, vec![field]));
+    }
+    if r.one_in(8) {
+        put_between(r, &counts, &mut tables, 1);
+    }
+    if r.one_in(12) {
+        let arity = r.from(2, counts.len().min(4));
+        let fields = fields_of(r, counts.len(), arity);
+        tables.push(near::holding_rows(r, &counts, &readings, fields));
+    }
+    in_some_order(r, &mut tables);
+    in_some_version(r, Book::new(counts, tables))
 }
 
 /// A path of four links, each with every row that its two fields of 32 codes have, in any order: as many different rows as a book may have.
@@ -54,12 +80,18 @@ fn number(r: &mut Random) -> usize {
     }
 }
 
-/// The links of a forest, of one with links that may close rings, or of a ring with what hangs on it; in some order.
-fn some_links(r: &mut Random, fields: usize) -> Vec<[u8; 2]> {
+/// All fields, rising or in any order.
+fn some_order(r: &mut Random, fields: usize) -> Vec<u8> {
     let mut order: Vec<u8> = (0..fields as u8).collect();
     if !r.one_in(4) {
         r.shuffle(&mut order);
     }
+    order
+}
+
+/// The links of a forest, of one with links that may close rings, or of a ring with what hangs on it; in some order.
+fn some_links(r: &mut Random, fields: usize) -> Vec<[u8; 2]> {
+    let order = some_order(r, fields);
     match r.from(0, 9) {
         _ if fields < 2 => Vec::new(),
         0..=3 => forest(r, &order),
@@ -176,7 +208,9 @@ fn lengthen(r: &mut Random, book: &mut Book) {
 
 #[cfg(test)]
 mod tests {
-    use super::book;
+    use super::{book, with_readings};
+    use crate::meaning::is_looked_at;
+    use crate::nearest::full_readings;
     use crate::random::Random;
     use crate::reader::Reader;
     use crate::trees::Trees;
@@ -192,5 +226,20 @@ mod tests {
             times[Trees::default().broken(&book).map_or(0, |(number, _)| number as usize - 27)] += 1;
         }
         assert!(times.iter().all(|&times| times > 150), "{times:?}");
+    }
+
+    /// Each small book is read and its readings are looked at; most are trees with several full readings, and some break the profile.
+    #[test]
+    fn small_books_are_mostly_trees_with_readings() {
+        let (reader, mut r) = (Reader::default(), Random(1));
+        let (mut shares, mut with_several) = ([0; 3], 0);
+        for _ in 0..1_000 {
+            let book = with_readings(&mut r);
+            assert_eq!(reader.read(&book.write()), Ok(book.clone()));
+            assert!(is_looked_at(&book));
+            shares[Trees::default().broken(&book).map_or(0, |(number, _)| number as usize - 27)] += 1;
+            with_several += (full_readings(&book).take(2).count() == 2) as usize;
+        }
+        assert!(shares[0] > 700 && shares[1] > 20 && shares[2] > 50 && with_several > 700, "{shares:?} {with_several}");
     }
 }

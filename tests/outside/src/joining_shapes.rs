@@ -10,7 +10,7 @@ use crate::desk::Reading;
 use crate::joining_asked::Asked;
 use crate::pairs::MOST_ROWS;
 
-/// A shape: its name, how often it has to be reached in a run of 50,000 cases, and what has it.
+/// A shape: its name, how often it has to be reached in a run of 52,500 cases, and what has it.
 type Shape = (&'static str, u64, fn(&Asked) -> bool);
 
 const BOOKS: &[Shape] = &[

@@ -18,7 +18,7 @@ pub struct Made<'a> {
     pub steps: &'a [Step<'a>],
 }
 
-/// A shape: its name, how often each of its calls has to reach it in a run of 50,000 cases, these calls, and what has it.
+/// A shape: its name, how often each of its calls has to reach it in a run of 52,500 cases, these calls, and what has it.
 pub type Shape = (&'static str, u64, &'static [&'static str], fn(&Made) -> bool);
 
 /// The calls of its list; none where it has no list, or the book is refused.

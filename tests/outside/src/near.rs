@@ -106,10 +106,15 @@ fn at_limit(r: &mut Random, limits: &[Counts]) -> Book {
 
 /// Tables that hold the rows of a few readings, which are full then, and some other rows.
 pub fn with_readings(r: &mut Random, counts: Vec<u8>) -> Book {
-    let all: Vec<u8> = (0..counts.len() as u8).collect();
-    let readings: Vec<Vec<u8>> = (0..r.from(1, 8)).map(|_| row_of(r, &counts, &all)).collect();
+    let readings = some_readings(r, &counts);
     let tables = (0..r.from(1, 8)).map(|_| holding(r, &counts, &readings)).collect();
     Book::new(counts, tables)
+}
+
+/// A few readings, of any codes.
+pub fn some_readings(r: &mut Random, counts: &[u8]) -> Vec<Vec<u8>> {
+    let all: Vec<u8> = (0..counts.len() as u8).collect();
+    (0..r.from(1, 8)).map(|_| row_of(r, counts, &all)).collect()
 }
 
 /// Mostly on fields that have a choice.
@@ -119,6 +124,11 @@ fn holding(r: &mut Random, counts: &[u8], readings: &[Vec<u8>]) -> Table {
     let of: Vec<u8> = if any { (0..counts.len() as u8).collect() } else { with_choice };
     let arity = r.from(1, of.len().min(4));
     let fields: Vec<u8> = fields_of(r, of.len(), arity).into_iter().map(|k| of[k as usize]).collect();
+    holding_rows(r, counts, readings, fields)
+}
+
+/// The readings' rows for these fields, and a few others.
+pub fn holding_rows(r: &mut Random, counts: &[u8], readings: &[Vec<u8>], fields: Vec<u8>) -> Table {
     let mut rows: Vec<Vec<u8>> = readings.iter().map(|reading| row(&fields, reading)).collect();
     let others = r.from(0, 2);
     rows.extend((0..others).map(|_| row_of(r, counts, &fields)));

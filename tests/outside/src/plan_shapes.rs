@@ -21,7 +21,7 @@ pub struct Asked<'a> {
     left: &'a Left,
 }
 
-/// A shape: its name, how often it has to be reached in a run of 50,000 cases, and what has it.
+/// A shape: its name, how often it has to be reached in a run of 52,500 cases, and what has it.
 type Shape = (&'static str, u64, fn(&Asked) -> bool);
 
 /// A place of a list beside its last one.

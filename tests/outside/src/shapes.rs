@@ -17,7 +17,7 @@ pub struct Pass<'a> {
     photographed: Vec<PassCase>,
 }
 
-/// A shape: its name, in how many cases of a run of 50,000 it has to be reached, and what has it.
+/// A shape: its name, in how many cases of a run of 52,500 it has to be reached, and what has it.
 type Shape = (&'static str, u64, fn(&Pass) -> bool);
 
 /// A field is passed over where it has no line although codes of its own stand with it lifted.

@@ -7,7 +7,7 @@ use crate::book::Book;
 
 type Rows = [Vec<u8>];
 
-/// A shape of a table: its name, how often it has to be reached in a run of 50,000 cases, how many rows the table has, and what has it.
+/// A shape of a table: its name, how often it has to be reached in a run of 52,500 cases, how many rows the table has, and what has it.
 type TableShape = (&'static str, u64, RangeInclusive<usize>, fn(&Rows) -> bool);
 
 /// A shape of a book in the same way.

@@ -6,7 +6,7 @@ use crate::pairs::MOST_TABLES;
 use crate::tree_asked::{closes_again, Asked};
 use crate::trees::{has_ring, is_wide, links};
 
-/// A shape: its name, how often either call has to reach it in a run of 50,000 cases, and what has it.
+/// A shape: its name, how often either call has to reach it in a run of 52,500 cases, and what has it.
 type Shape = (&'static str, u64, fn(&Asked) -> bool);
 
 fn is_empty(table: &Table) -> bool {

@@ -6,9 +6,9 @@
 //! held against plain filtering with each answered field relaxed, photographed or not, rows against plain filtering and the listing, a
 //! nearest reading against plain filtering and itself, a number of questions against plain filtering and itself one turn on, the two forms
 //! of a stored sheet against each other, a joined book against both that it was made from, the other order and itself, a tree book against
-//! reading, showing and writing, a book that is shown or written goes the way back too, and an accepted book is turned into the other
-//! version. The run prints how often each refusal of each call was reached and what else the cases had, and fails if something was missed;
-//! some of it has to be had so often that it takes 50,000 cases.
+//! reading, showing and writing, its lines and standing codes against its full readings, a book that is shown or written goes the way back
+//! too, and an accepted book is turned into the other version. The run prints how often each refusal of each call was reached and what else
+//! the cases had, and fails if something was missed; some of it has to be had so often that it takes 52,500 cases.
 
 use std::ffi::c_int;
 use std::io::Write;
@@ -138,6 +138,13 @@ fn trees_agree(rooms: &Rooms, case: &Case, reading: &Reading) -> bool {
     agree_both_ways("tree books are not read and written as promised", |library| rooms.tree_disagreement(library, case, reading))
 }
 
+/// The lines and the standing codes of a tree book are those of its full readings.
+fn meanings_agree(rooms: &Rooms, case: &Case, reading: &Reading) -> bool {
+    agree_both_ways("a tree book's codes are not those of its readings", |library| {
+        rooms.meaning_disagreement(library, case, reading)
+    })
+}
+
 /// The ways to make a call.
 fn ways(call: &Call) -> &'static [(&'static str, &'static dyn Library)] {
     let ways: &[(&str, &dyn Library)] = &[("bare", &Exported), ("by the wrapper", &Wrapper), ("one by one", &OneByOne)];
@@ -182,6 +189,7 @@ fn case_agrees(rooms: &Rooms, seed: u64, index: u64, seen: &mut Coverage) -> boo
         && forms_agree(rooms, &case, &reading)
         && joins_agree(rooms, &case, &reading)
         && trees_agree(rooms, &case, &reading)
+        && meanings_agree(rooms, &case, &reading)
         && versions_agree(rooms, &case, &reading, &trials)
         && case.calls.iter().all(|call| list_agrees(&case, &reading, call) && round_trips_agree(&case, call))
 }

@@ -203,7 +203,9 @@ mod tests {
     use crate::cases::{case, Case};
     use crate::compare::{trials, Rooms};
     use crate::desk::{Desk, Reading};
+    use crate::examples::e4;
     use crate::random::Random;
+    use crate::sheet::Sheet;
 
     #[test]
     fn a_desk_without_a_slip_is_not_caught() {
@@ -324,6 +326,26 @@ mod tests {
             ),
         ];
         are_seen(&slips, |library, rooms, case, reading| rooms.tree_disagreement(library, case, reading));
+    }
+
+    #[test]
+    fn codes_of_tree_books_that_full_readings_do_not_give_are_seen() {
+        let slips = [
+            ("alternatives: a field listed although another is empty", "listed"),
+            ("alternatives: taking the alternatives from the codes standing now", "listed"),
+            ("filtered: tables without rows not filtered by", "relaxed"),
+            ("filtered: a photographed field not relaxed", "relaxed"),
+        ];
+        are_seen(&slips, |library, rooms, case, reading| rooms.meaning_disagreement(library, case, reading));
+    }
+
+    /// Where a ring is taken for a tree, its lines are seen to be of no full reading.
+    #[test]
+    fn lines_of_a_ring_are_seen() {
+        let case = Case::new(e4().write(), Sheet::of(&[0]), Vec::new());
+        let told = |library: SlowLibrary| Rooms::default().meaning_disagreement(&library, &case, &Ok(e4()));
+        assert_eq!(told(SlowLibrary::default()), None);
+        assert!(told(named("read_tree: no 29")).is_some_and(|told| told.contains("listed")));
     }
 
     #[test]
