@@ -324,7 +324,10 @@ uint64_t sighting_write(const uint16_t *listing, size_t listing_len, uint8_t *ou
 
 /*
  * Reads a tree book, the restricted book of small aircraft, and counts what it has. A tree book is a book whose tables tie one field or
- * two, and whose links form no ring. Every other call takes it like any book.
+ * two, and whose links form no ring. Every other call takes it like any book, and what it shows means more: for an answered field without a
+ * photograph sighting_alternatives lists a code exactly where a full reading (see sighting_nearest) has it at that field and keeps all other
+ * answers; and where sighting_filtered writes no number 0, it shows exactly the codes of the full readings that keep all answers, but for
+ * the one left out, if any.
  *   outcome[5]  place, fields, tables, rows written, different rows, as sighting_read
  * Refusals: 1 to 13, 28, 29.
  */

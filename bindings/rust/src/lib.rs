@@ -348,8 +348,11 @@ pub fn read(book: &[u8]) -> Result<Counts, Refusal> {
 
 /// Reads a tree book and counts what [`read`] counts. A tree book is a book whose tables tie one field or two, and whose links form no
 /// ring. Two fields are linked where a table ties the two, also one without rows; two tables on the same two fields are a ring. Every
-/// other call takes such a book like any. Refusals: 1 to 13, 28 at the first byte of the first table of more than two fields, and, where
-/// there is none, 29 at that of the first table that closes a ring.
+/// other call takes such a book like any, and what it shows means more: for an answered field without a photograph [`Sheet::alternatives`]
+/// lists a code exactly where a full reading (see [`Sheet::nearest`]) has it at that field and keeps all other answers; and where
+/// [`Sheet::filtered`] writes no number 0, it shows exactly the codes of the full readings that keep all answers, but for the one left out,
+/// if any. Refusals: 1 to 13, 28 at the first byte of the first table of more than two fields, and, where there is none, 29 at that of the
+/// first table that closes a ring.
 pub fn read_tree(book: &[u8]) -> Result<Counts, Refusal> {
     // SAFETY: the call keeps to what it is lent.
     unsafe { read_by(ffi::sighting_read_tree, book) }
