@@ -43,7 +43,7 @@ module _ (b : Book) (well : WellFormed b) (a : List ℕ) (S : Subdomain) (h : Is
     standing_exactly : NoneEmpty b S → (f c : ℕ) → f < length b.counts → T (S f c) ↔ KeepingWith b a f c
     standing_exactly some f c l = (stands_kept some f c, λ w. (kept_stands f c l w).0)
 
-    -- field 0 has a code that stands
+    -- no field is empty exactly where there is one: a book has a field 0, and the code that stands there belongs to it
     none_empty_exactly : NoneEmpty b S ↔ Keeping b a
     none_empty_exactly = (λ some. let first = some 0 well.some in (stands_kept some 0 first.0 first.2).one, kept_none_empty)
 

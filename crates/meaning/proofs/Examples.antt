@@ -1,4 +1,4 @@
--- The examples hold, computed; the list of all full readings is that; and what E4 and E6 show. Assumes nothing.
+-- The list of full readings has all of them and no other; the examples hold, computed; and what E4 and E6 show. Assumes nothing.
 use Prim.Native.Nat.{ℕ}
 use mathlib.Core.Path.{◌≡◌, refl, subst}
 use mathlib.Core.Bool.{true}

@@ -38,6 +38,7 @@ module _ (b : Book) (well : WellFormed b) (v : List ℕ) where
   )
 
   module _ (a : List ℕ) (full : Full b v) (keeps : KeepsAnswers b a v) where
+    -- where it is full and keeps the answers, they are arc-consistent: each table's row supports them
     only_fits : Fits b a only
     only_fits =
         record {
@@ -59,8 +60,10 @@ module _ (b : Book) (well : WellFormed b) (v : List ℕ) where
         }
 
     module _ (S : Subdomain) (h : IsLargest b a S) where
+      -- so they are in the largest subdomain that fits
       pub codes_stand : (g : ℕ) → g < length b.counts → T (S g (get_or v g 0))
       codes_stand g l = h.has_all only only_fits g (get_or v g 0) (only_in g (get_or v g 0) l refl)
 
+      -- which then has a code of each field
       pub codes_none_empty : NoneEmpty b S
       codes_none_empty g l = (get_or v g 0, full.codes_are.own g l, codes_stand g l)

@@ -30,6 +30,7 @@ pub record KeepingWith (b : Book) (a : List ℕ) (f c : ℕ) : Type 0 where
 
 -- ---- a tree book and answers
 
+-- what the codes of tree book b mean under answers a
 pub record AnswersMean (b : Book) (a : List ℕ) : Type 0 where
   -- "A code is listed .. exactly when a full reading exists with that code there and all other answers kept". Here of any field; which fields have
   -- lines, Meant says
