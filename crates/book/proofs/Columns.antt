@@ -1,11 +1,12 @@
 -- A row's codes beside its fields: what a search over the pairs asks for and answers. Assumes nothing.
-use Rattle.std.proofs.Common.{ℕ, zero, suc, ◌≡◌, refl, sym, ap, subst, ◌∙◌, ◌+◌, ◌-◌, ◌*◌, ◌≤◌, ◌<◌, List, ◌++◌, length, get_or, drop, true, arith}
+use Rattle.std.proofs.Common.{ℕ, zero, suc, ◌≡◌, refl, sym, ap, subst, ◌∙◌, ◌+◌, ◌-◌, ◌*◌, ◌%◌, ◌≤◌, ◌<◌, List, ◌++◌, length, get_or, drop, true, false, arith}
 use borrow.Author.Tests.{lt-ltb, le-ltb}
+use lib.Dec.{ltb}
 use Rattle.std.specs.Prelude.{MatchOption, Some, None}
 use Rattle.std.specs.declared.option.Option.{Option}
 use Rattle.std.specs.List.{zip, AllWithin, HoldsAt}
 use mathlib.Core.Logic.{◌⊎◌, inl, inr, ⊎_elim}
-use native.Mathlib.Nat.{le_refl, mul-le-mul, add-mul, suc-mul, zero-mul}
+use native.Mathlib.Nat.{le_refl, mul-le-mul, add-mul, suc-mul, zero-mul, mod-one}
 use native.Mathlib.Numerals.{add-one}
 use lib.Seq.{drop-drop, drop-append_seam}
 use Rattle.std.proofs.lemmas.List.{get_or_default, get_or_append_left, length-append, length-drop, get_or-drop}
@@ -161,3 +162,17 @@ module _ (s : List ℕ) (list first a start end : ℕ) (f : CodesFit s list firs
       let all : f.whole.0 ≤ n = rows_below f.whole.0 n a (omega (arith, f.whole.1)) in
       first_found (code_ok s list first a start) end start None (omega (arith, f.whole.1))
       (λ k l u. r.right k l (omega (arith, f.whole.1, mul-le-mul all (le_refl a))))
+
+-- ---- rows of one code: each stands in the same column
+
+module _ (s : List ℕ) (list first start i codes : ℕ) (e : codes ≡ byte s (list + byte s first)) where
+  one_tested : ltb (byte s i) codes ≡ code_ok s list first 1 start i
+  one_tested =
+      let z : first + (i - start) % 1 ≡ first = omega (arith, mod-one (i - start)) in
+      rw (e, z)
+
+  pub one_large : codes ≤ byte s i → code_ok s list first 1 start i ≡ false
+  one_large h = sym one_tested ∙ le-ltb _ _ h
+
+  pub one_right : byte s i < codes → code_ok s list first 1 start i ≡ true
+  one_right h = sym one_tested ∙ lt-ltb _ _ h

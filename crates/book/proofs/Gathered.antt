@@ -1,7 +1,7 @@
 -- A row as a word, a table's rows as words, and the count of the different ones. Assumes nothing.
 use mathlib.Core.Path.{◌≡◌, refl, sym, ap, ◌∙◌}
-use mathlib.Core.List.{List, []}
-use Prim.Native.Nat.{ℕ, zero, suc, ◌+◌, ◌*◌, ◌/◌, ◌≤◌, ◌<◌}
+use mathlib.Core.List.{List, [], ◌∷◌}
+use Prim.Native.Nat.{ℕ, zero, suc, ◌+◌, ◌-◌, ◌*◌, ◌/◌, ◌≤◌, ◌<◌}
 use native.Mathlib.Nat.{suc-mul, zero-mul, le_refl, mul-le-mul}
 use native.Mathlib.Omega.{arith}
 use lib.ListN.{length, get_or, length-map, get_or-map, get_or-eq_default}
@@ -11,7 +11,8 @@ use Rattle.std.proofs.Common.{Fits, w8}
 use Rattle.format.specs.Format.{byte, part, rows_at, different}
 use Rattle.format.proofs.Elements.{all_of, all_or}
 use Rattle.format.proofs.Views.{part_at, part_length, rows_count}
-use Rattle.words.specs.Sorting.{NeverFalls, distinct, runs}
+use borrow.Author.Tests.{ne_eqb}
+use Rattle.words.specs.Sorting.{NeverFalls, is_among, distinct, runs}
 use Rattle.words.specs.RowWord.{row_word, words_at, mask}
 use Rattle.words.proofs.Counting.{either_eq}
 use Rattle.words.proofs.Distinct.{runs_distinct}
@@ -137,3 +138,15 @@ module _ (s : List ℕ) where
   -- a list of the words of n rows is what they are
   pub gathered : (a p n : ℕ) (t : List ℕ) → length t ≡ n → ((k : ℕ) → k < n → get_or t k 0 ≡ get_or (words_at s a p n) k 0) → t ≡ words_at s a p n
   gathered a p n t long each = ext_get_or 0 t (words_at s a p n) (long ∙ sym (words_long a p n)) (λ k l. each k (omega (arith, long)))
+
+  words_cons : (a p n : ℕ) → 0 < n → words_at s a p n ≡ row_word (part s p a) ∷ words_at s a (p + a) (n - 1)
+  unfolding rows_at
+  words_cons a p n h = let e : n ≡ suc (n - 1) = omega arith in ap (λ (k : ℕ). words_at s a p k) e
+
+  -- a row that begins with another code has another word: it plays no part in whether a word is among those of the rows
+  pub among_other : (a p n w first : ℕ) → RowsFit s a p n → 0 < n → w / 16777216 ≡ first → (first ≡ byte s p → ⊥)
+      → is_among w (words_at s a (p + a) (n - 1)) ≡ is_among w (words_at s a p n)
+  among_other a p n w first f h e d =
+      let z : p + 0 * a ≡ p = omega (arith, zero-mul a) in
+      let c = rw z at (word_first a p n f 0 h) in
+      rw (words_cons a p n h, ne_eqb w (row_word (part s p a)) (λ q. d (sym e ∙ (ap (λ (x : ℕ). x / 16777216) q ∙ c))))

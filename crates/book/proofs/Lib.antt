@@ -14,3 +14,4 @@ pub mod HandingOut
 pub mod Parts
 pub mod Columns
 pub mod TableFields
+pub mod FieldTurns

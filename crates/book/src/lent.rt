@@ -1,5 +1,5 @@
 // Memory that a caller lends for an answer.
-ghost use Rattle.std.specs.Prelude.{◌≡◌};
+ghost use Rattle.std.specs.Prelude.{◌≡◌, ◌++◌, length, take, drop};
 ghost use Rattle.book.specs.Lent.{HandedOut};
 
 use super::refusals::Refuses;
@@ -20,6 +20,14 @@ impl Refuses for NoRoom {
     fn place(self) -> usize {
         0
     }
+}
+
+// Copies as many bytes as both have. What stands behind them in out stays.
+pub fn copy(from: &[u8], out: &mut [u8])
+    ensures { out.new ≡ take (length out.old) from.now ++ drop (length from.now) out.old }
+{
+    let n = from.len().min(out.len());
+    out[..n].copy_from_slice(&from[..n]);
 }
 
 // Copies the answer to the front of the memory lent, which stays as it is where it is too short. Tells how many elements these are.

@@ -15,9 +15,10 @@ mod scans;
 mod tests;
 mod view;
 
-pub use bytes::trailer;
-pub use lent::{NoRoom, hand_out};
+pub use bytes::{CLOSING_BYTE, byte, pair, trailer};
+pub use lent::{NoRoom, copy, hand_out};
 pub use refusals::{Refusal, Refused, Refuses};
+pub use row_words::{gather, row_word};
 pub use view::{Book, Table, Tables};
 
 // The most fields of a book of version 1.

@@ -44,6 +44,7 @@ pub struct Tables<'a> {
 impl<'a> Book<'a> {
     ghost use Rattle.std.specs.Prelude.{◌<◌, ◌≤◌, IfOk, get_or};
     ghost use Rattle.format.specs.Format.{code_limit, book_of};
+    ghost use Rattle.format.specs.Promise.{Promise};
     ghost use Rattle.format.specs.Reading.{checking};
     ghost use Rattle.book.specs.Shown.{shown_open};
 
@@ -74,6 +75,14 @@ impl<'a> Book<'a> {
             tables,
             rows: passed.rows,
         })
+    }
+
+    // The book that bytes are which keep the reader's promise, for who knows that of them and has no book of them.
+    pub fn promised(bytes: &'a [u8]) -> Book<'a>
+        requires { Promise bytes.now }
+        ensures { result.bytes ≡ bytes.entry }
+    {
+        Book::open(bytes).unwrap()
     }
 
     // The table of this number at this place. (d) Its shape is reckoned here, where there is no `Table` yet.
