@@ -59,11 +59,27 @@ impl<'a> Listing<'a> {
         ensures { LaysBook self.entry.numbers.now result }
     {
         let n = layout::lay_out(self, scratch);
+        let bytes = &scratch[..n];
         // (a) By `let .. else`, the form that the project's papers name for the writer.
-        let Ok(book) = Book::open(&scratch[..n]) else {
+        let Ok(book) = Book::open(bytes) else {
             return None;
         };
-        Some(book)
+        // (b) The same book, with bytes that the compiler sees to be the scratch memory: what is handed out of them was copied by `memmove`, which
+        // the library does not need from outside.
+        let Book {
+            list,
+            fields,
+            tables,
+            rows,
+            ..
+        } = book;
+        Some(Book {
+            bytes,
+            list,
+            fields,
+            tables,
+            rows,
+        })
     }
 }
 
