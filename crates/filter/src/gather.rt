@@ -25,6 +25,9 @@ pub fn standing_codes(marks: &[u64; WORDS], k: u64, f: usize, n: usize) -> u32
 }
 
 // The marks of case k, a number for each field; 0 for places that the book lacks.
+// (b) Inlined: plain filtering asks for case 0, and then no word is shifted. Called, 60 fields of 32 codes without a table took up to 1.4 times as
+// long to filter.
+#[inline(always)]
 pub(crate) fn gather(book: Book, marks: &[u64; WORDS], k: u64) -> [u32; PLACES]
     requires { k < 64 }
     ensures { result ≡ tabulate (λ f. pick (ltb f book.entry.fields) (mask code_limit (domain_of marks.now k f)) 0) places 0 }

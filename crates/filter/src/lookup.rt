@@ -17,6 +17,10 @@ fn table_of<'a>(book: Book<'a>, i: usize) -> Result<Table<'a>, NoColumn>
     ensures table { IfOk result (λ table. (table.bytes ≡ book.entry.bytes) × (table.index ≡ i)) }
     ensures lacks { IfErr result (λ _. book.entry.tables ≤ i) }
 {
+    // No walk over all tables for one that is not there.
+    if book.tables <= i {
+        return Err(NoColumn);
+    }
     book.tables().nth(i).ok_or(NoColumn)
 }
 
