@@ -50,8 +50,9 @@ impl Page {
         requires { HasRoom self.old (byte ∷ []) }
         ensures { self.new ≡ self.old ++ (byte ∷ []) }
     {
-        self.bytes[self.len] = byte;
-        self.len += 1;
+        let at = self.len;
+        self.bytes[at] = byte;
+        self.len = at + 1;
     }
 
     fn put_word(&mut self, word: &[u8])
@@ -64,6 +65,10 @@ impl Page {
     }
 
     // In decimal: all digits but the last, then the last.
+    // (b) Inlined, with a call for the front alone, and the place in a local above: else the place went through memory with each byte, and the
+    // report of 1,920 open lines took 27.3 µs, and 14.4 with this.
+    #[cycle(digits)]
+    #[inline(always)]
     fn put_number(&mut self, n: usize)
         requires { HasRoom self.old (decimal n) }
         ensures { self.new ≡ self.old ++ decimal n }
@@ -71,9 +76,18 @@ impl Page {
         if n < 10 {
             self.put_byte(b'0' + n as u8);
         } else {
-            self.put_number(n / 10);
+            self.put_front(n / 10);
             self.put_byte(b'0' + (n % 10) as u8);
         }
+    }
+
+    // The digits in front of the last: a number too.
+    #[cycle(digits)]
+    fn put_front(&mut self, n: usize)
+        requires { HasRoom self.old (decimal n) }
+        ensures { self.new ≡ self.old ++ decimal n }
+    {
+        self.put_number(n);
     }
 
     // A word, then numbers, a space before each, and a newline.

@@ -3,15 +3,14 @@ use mathlib.Core.Path.{◌≡◌, refl, sym, ap, ap₂, ◌∙◌, subst}
 use mathlib.Core.Logic.{◌≢◌, ⊎_elim}
 use mathlib.Core.Bool.{Bool, true, false, not, ◌&&◌}
 use mathlib.Core.List.{List, [], ◌∷◌, ◌++◌, append-nil}
-use Prim.Native.Nat.{ℕ, zero, suc, ◌*◌, ◌/◌, ◌%◌, ◌^◌, ◌≤◌, ◌<◌}
-use native.Mathlib.Nat.{one-mul, lt-suc_self, not-suc-le-zero, le_of_suc-le-suc, eq-or-lt_of_le}
+use Prim.Native.Nat.{ℕ, zero, suc, ◌-◌, ◌/◌, ◌%◌, ◌^◌, ◌≤◌, ◌<◌}
+use native.Mathlib.Nat.{mod-lt, pow-suc, lt-suc_self, not-suc-le-zero, le_of_suc-le-suc, eq-or-lt_of_le}
 use native.Mathlib.Omega.{arith}
 use borrow.Author.Tests.{eq-eqb, ne_eqb, lt-ltb, le-ltb}
-use lib.Bits.{bit_xor}
+use lib.Bits.{bit_and}
 use lib.Count.{ones, count_trailing_zeros, under}
-use lib.Dec.{lit<, eqb, ltb}
+use lib.Dec.{lit<, eqb, ltb, eqb-suc-zero, eqb-suc-suc}
 use lib.ListN.{length}
-use lib.Pow.{shl_exact}
 use Rattle.format.specs.Basics.{pick}
 use Rattle.format.specs.Format.{code_limit}
 use Rattle.consistency.specs.Counting.{those}
@@ -19,7 +18,7 @@ use Rattle.consistency.specs.Counts.{bit, mask}
 use Rattle.consistency.proofs.Booleans.{below_suc}
 use Rattle.consistency.proofs.Masks.{mask_bit, zero_bit}
 use Rattle.consistency.proofs.Sums.{those_ext, length_those}
-use Rattle.filter.proofs.Bits.{bit_next, bit_xor_lem, one_bit, lowest, ones_many}
+use Rattle.filter.proofs.Bits.{bit_next, bit_and_lem, lowest, ones_many}
 use Rattle.filter.proofs.Tallies.{many_le}
 use Rattle.sheet.specs.Lists.{codes_of}
 
@@ -61,6 +60,38 @@ unset_below (suc d) m k l = go (m % 2) refl k (λ j h. unset_below d (m / 2) j h
     go zero e (suc k) ih l = bit_next m k ∙ ih k (le_of_suc-le-suc l)
     go (suc x) e k ih l = absurd (not-suc-le-zero l)
 
+-- a bit stays where nothing is taken out
+kept : (x : Bool) → (x && not false) ≡ x
+kept true = refl
+kept false = refl
+
+itself : (x : Bool) → (x && x) ≡ x
+itself true = refl
+itself false = refl
+
+-- of the bits of m those of m - 1 leave all but the lowest
+but_lowest : (d m k : ℕ) → m < 2 ^ d → m ≢ 0 → (bit m k && bit (m - 1) k) ≡ (bit m k && not (eqb k (count_trailing_zeros d m)))
+unfolding count_trailing_zeros
+but_lowest zero m k l n = absurd (n (omega arith))
+but_lowest (suc d) m k l n = go (m % 2) refl (mod-lt m (lit< tt)) k (λ j h. but_lowest d (m / 2) j (omega (arith, pow-suc 2 d)) h)
+  where
+    go : (x : ℕ) → m % 2 ≡ x → x < 2 → (k : ℕ)
+        → ((j : ℕ) → m / 2 ≢ 0 → (bit (m / 2) j && bit (m / 2 - 1) j) ≡ (bit (m / 2) j && not (eqb j (count_trailing_zeros d (m / 2)))))
+        → (bit m k && bit (m - 1) k) ≡ (bit m k && not (eqb k (under x (count_trailing_zeros d (m / 2)))))
+    go zero e h zero ih = ap (λ (x : Bool). x && bit (m - 1) 0) off ∙ sym (ap (λ (x : Bool). x && not (eqb 0 (suc (count_trailing_zeros d (m / 2))))) off)
+      where
+        off : bit m 0 ≡ false
+        off = ne_eqb (m / 1 % 2) 1 (λ (q : m / 1 % 2 ≡ 1). omega arith)
+    go zero e h (suc k) ih =
+        ap₂ (λ (x y : Bool). x && y) (bit_next m k) (bit_next (m - 1) k ∙ ap (λ (z : ℕ). bit z k) (omega arith))
+        ∙ ih k (λ (q : m / 2 ≡ 0). n (omega arith))
+        ∙ ap₂ (λ (x y : Bool). x && not y) (sym (bit_next m k)) (sym (eqb-suc-suc k (count_trailing_zeros d (m / 2))))
+    go (suc zero) e h zero ih = ap (λ (x : Bool). bit m 0 && x) (ne_eqb ((m - 1) / 1 % 2) 1 (λ (q : (m - 1) / 1 % 2 ≡ 1). omega arith))
+    go (suc zero) e h (suc k) ih =
+        ap₂ (λ (x y : Bool). x && y) refl (bit_next (m - 1) k ∙ ap (λ (z : ℕ). bit z k) (omega arith) ∙ sym (bit_next m k))
+        ∙ itself (bit m (suc k)) ∙ sym (kept (bit m (suc k))) ∙ ap (λ (y : Bool). bit m (suc k) && not y) (sym (eqb-suc-zero k))
+    go (suc (suc x)) e h k ih = absurd (omega arith)
+
 -- the mask without its lowest bit
 module _ (m : ℕ) (l : m < 2 ^ 32) (n : m ≢ 0) where
   abbrev first : ℕ
@@ -72,24 +103,13 @@ module _ (m : ℕ) (l : m < 2 ^ 32) (n : m ≢ 0) where
   pub first_code : first < code_limit
   first_code = is_code.0
 
-  shifted : 1 * 2 ^ first % 2 ^ 32 ≡ 2 ^ first
-  shifted = shl_exact {a = 1} 1 first 32 (lit< tt) (omega (arith, is_code.0)) ∙ one-mul (2 ^ first)
-
-  rest_bit : (k : ℕ) → bit (bit_xor m (1 * 2 ^ first % 2 ^ 32)) k ≡ pick (bit m k) (not (eqb k first)) (eqb k first)
-  rest_bit k =
-      ap (λ (x : ℕ). bit (bit_xor m x) k) shifted ∙ bit_xor_lem m (2 ^ first) k
-      ∙ ap (λ (x : Bool). pick (bit m k) (not x) x) (one_bit first k)
-
-  itself : (x : Bool) → pick x true false ≡ x
-  itself true = refl
-  itself false = refl
-
-  pub first_of_codes : codes_of m ≡ first ∷ codes_of (bit_xor m (1 * 2 ^ first % 2 ^ 32))
+  pub first_of_codes : codes_of m ≡ first ∷ codes_of (bit_and m (m - 1))
   unfolding codes_of
   first_of_codes =
-      those_first (bit m) (bit (bit_xor m (1 * 2 ^ first % 2 ^ 32))) first (unset_below 32 m) is_code.1
-      (rest_bit first ∙ ap₂ (λ (x y : Bool). pick x (not y) y) is_code.1 (eq-eqb first first refl))
-      (λ k d. rest_bit k ∙ ap (λ (y : Bool). pick (bit m k) (not y) y) (ne_eqb k first d) ∙ itself (bit m k))
+      let rest : (k : ℕ) → bit (bit_and m (m - 1)) k ≡ (bit m k && not (eqb k first)) = λ k. bit_and_lem m (m - 1) k ∙ but_lowest 32 m k l n in
+      those_first (bit m) (bit (bit_and m (m - 1))) first (unset_below 32 m) is_code.1
+      (rest first ∙ ap₂ (λ (x y : Bool). x && not y) is_code.1 (eq-eqb first first refl))
+      (λ k d. rest k ∙ ap (λ (y : Bool). bit m k && not y) (ne_eqb k first d) ∙ kept (bit m k))
       code_limit is_code.0
 
 -- an empty mask has none

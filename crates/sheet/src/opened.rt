@@ -65,7 +65,7 @@ pub(crate) fn has_code(book: Book<'_>, field: usize, code: usize) -> Result<(), 
 
 impl Sheet {
     // What 14 looks at in each place.
-    fn seen_bytes(&self) -> [u8; PLACES]
+    pub fn seen_bytes(&self) -> [u8; PLACES]
         ensures { result ≡ seen_bytes (held_by self.now) }
     {
         from_fn(|place| seen(self.answers[place], self.photographed[place]))
