@@ -2,6 +2,7 @@
 #![tactic(auto)]
 
 ghost use Rattle.std.specs.Counts.{IsPrefixLen};
+ghost use Rattle.std.specs.Prelude.{◌≤◌, length};
 
 use book::{LENGTH_LIMIT, PLACES};
 use report::TEXT_LIMIT;
@@ -32,7 +33,9 @@ fn read_full(file: &mut File, buffer: &mut [u8]) -> usize
 
 // A file's bytes, as far as the buffer has room: none where it cannot be opened.
 // (a) They stand first in a buffer that may be larger, since there is no heap.
-fn read_file<'a>(rt: &HostRuntime, path: &str, buffer: &'a mut [u8]) -> &'a [u8] {
+fn read_file<'a>(rt: &HostRuntime, path: &str, buffer: &'a mut [u8]) -> &'a [u8]
+    ensures { length result.now ≤ length buffer.old }
+{
     let Ok(mut file) = File::open(rt, path) else {
         return &[];
     };

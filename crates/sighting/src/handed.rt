@@ -118,10 +118,11 @@ pub(crate) fn change(
 ) -> u64
     ensures { Changes result outcome.new sheet.old sheet.new (result_of shown_nothing handed []) }
 {
+    let number = tell(handed.answer, outcome);
     if handed.answer.is_ok() {
         put(handed.sheet, sheet);
     }
-    tell(handed.answer, outcome)
+    number
 }
 
 // The answer and the sheet of a call that makes the sheet; whatever the buffer holds.
