@@ -43,6 +43,9 @@ impl<'a> Listing<'a> {
     ghost use Rattle.listing.specs.Answers.{LaysBook};
 
     // None where they say no book. So much is known without memory for one.
+    // (b) Inlined into each writer: handed back by a call, the numbers might lie where they are laid out, for all that the compiler knows, and
+    // it tests for that at each table.
+    #[inline(always)]
     pub fn of(numbers: &'a [u16]) -> Option<Listing<'a>>
         ensures { MatchOption result (writable numbers.entry.now ≡ false) (λ listing. listing.numbers ≡ numbers.entry) }
     {

@@ -25,8 +25,12 @@ fn table(listing: &[u16], at: usize) -> Option<usize>
     let count = at + 1 + arity;
     let rows = usize::from(*listing.get(count)?);
     let end = count + 1 + rows * arity;
-    let codes = listing.get(count + 1..end)?;
-    (all_bytes(&listing[at..count]) && all_bytes(codes)).then_some(end)
+    // (b) Held against the length, and not asked for as a part that may not be there: for that the compiler chooses between two of each end of
+    // the part, which took 64 tables without rows a tenth longer.
+    if listing.len() < end {
+        return None;
+    }
+    (all_bytes(&listing[at..count]) && all_bytes(&listing[count + 1..end])).then_some(end)
 }
 
 // The tables from `at` on, with one number behind them, the version.

@@ -16,12 +16,11 @@ returns-in_err-get-2 c =
     let ea = c.from-arity.ensures ∙ (rw c.in_ok-get.was at c.get.ensures.lookup).4 (le_refl c.args.at) 0 in
     c.from_residual-in_err-get-2.ensures ∙ stop_end c.args.listing.now c.args.at (omega (arith, ea, (rw c.in_err-get-2.was at c.get-2.ensures.lookup).3))
 
-pub returns-in_err-codes : goal.returns-in_err-codes
-returns-in_err-codes c =
+pub returns-then-listing-end : goal.returns-then-listing-end
+returns-then-listing-end c =
     let ea = c.from-arity.ensures ∙ (rw c.in_ok-get.was at c.get.ensures.lookup).4 (le_refl c.args.at) 0 in
     let en = c.from-rows.ensures ∙ (rw c.in_ok-get-2.was at c.get-2.ensures.lookup).4 (le_refl _) 0 in
-    c.from_residual-in_err-codes.ensures
-    ∙ stop_end c.args.listing.now c.args.at (omega (arith, end_in c.args.listing.now c.args.at _ _ ea en, (rw c.in_err-codes.was at c.get-3.ensures.lookup).0))
+    stop_end c.args.listing.now c.args.at (omega (arith, end_in c.args.listing.now c.args.at _ _ ea en, c.if-listing-end.true))
 
 pub returns : goal.returns
 returns c =
@@ -31,15 +30,13 @@ returns c =
     let n = c.from-rows.result in
     let ea = c.from-arity.ensures ∙ (rw c.in_ok-get.was at c.get.ensures.lookup).4 (le_refl at) 0 in
     let en = c.from-rows.ensures ∙ (rw c.in_ok-get-2.was at c.get-2.ensures.lookup).4 (le_refl _) 0 in
-    let found = (rw c.in_ok-codes.was at c.get-3.ensures.lookup).0 in
     let d₁ : at + 1 + a - at ≡ 1 + a = omega arith in
     let d₂ : at + 1 + a + 1 + n * a - (at + 1 + a + 1) ≡ n * a = omega arith in
     let d₃ : at + 1 + a + 1 ≡ at + 2 + a = omega arith in
     let head = rw d₁ at c.all_bytes.ensures in
-    let codes = rw (d₂, d₃) at found.2 in
     c.then_some.ensures
-    ∙ table_tested l at a n _ ea en (omega (arith, en, c.type_inv.listing (at + 1 + a))) (omega arith) found.1 _
+    ∙ table_tested l at a n _ ea en (omega (arith, en, c.type_inv.listing (at + 1 + a))) (omega arith) c.if-listing-end.false _
     (elim c.if-all_bytes.branch [
-      | then-all_bytes w ↦ rw (← codes, sym head ∙ w.if-all_bytes.true, w.then_some-is) w.all_bytes-then-all_bytes.ensures
+      | then-all_bytes w ↦ rw (sym head ∙ w.if-all_bytes.true, w.then_some-is) (rw (d₂, d₃) at w.all_bytes-then-all_bytes.ensures)
       | else-all_bytes w ↦ rw (sym head ∙ w.if-all_bytes.false, w.then_some-is) w.if-all_bytes.false
     ])
