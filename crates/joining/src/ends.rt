@@ -13,7 +13,6 @@ use book::Book;
 const VERSION: u8 = 2;
 
 // Whether two books have the same field list.
-#[tactic(auto, using(crate::proofs::Ending::lists_decided))]
 pub(crate) fn same_counts(first: Book<'_>, second: Book<'_>) -> bool
     ensures { Decides result ((book_of second.entry.bytes.now).counts ≡ (book_of first.entry.bytes.now).counts) }
 {
