@@ -13,10 +13,13 @@ use Rattle.format.specs.Format.{book_of}
 use Rattle.format.specs.Reading.{fail}
 use Rattle.book.specs.declared.view.Book.{Book}
 use Rattle.consistency.specs.Consistency.{places, Sheet}
+use Rattle.consistency.specs.Readings.{differs, differing}
 use Rattle.consistency.specs.Nearest.{Nearest, none, found, nearest, product, reading_limit}
+use Rattle.consistency.proofs.Limits.{many_few}
+use Rattle.consistency.proofs.Nearest.{found_is}
 use Rattle.calls.specs.Calls.{turned, done, nearest_counts, reading_into, nearest_reading}
 use Rattle.sheet.specs.Opened.{opening}
-use Rattle.sheet.proofs.Openings.{fields_count, fields_few, on_ready, on_turned, IsOpen}
+use Rattle.sheet.proofs.Openings.{fields_at, fields_count, fields_few, on_ready, on_turned, IsOpen}
 use Rattle.sheet.proofs.CallCases.{of_bytes}
 
 module _ (bytes : List ℕ) (s : Sheet) (o : List ℕ) where
@@ -61,3 +64,11 @@ module _ (bytes : List ℕ) (s : Sheet) (o : List ℕ) where
             ap (λ (l : List ℕ). done (1 ∷ d ∷ book.fields ∷ []) s (l ++ drop book.fields o)) q
             ∙ ap (λ (m : ℕ). done (1 ∷ d ∷ m ∷ []) s (take book.fields r ++ drop m o)) (sym n)
             ∙ told (found d (take book.fields r)) e
+
+-- no more fields differ in the reading found than there are: what must-fail/none_where_all_differ.edit turns round
+pub nearest_few : (book : Book) (s : Sheet) (d : ℕ) (r : List ℕ) → found d r ≡ nearest (book_of book.bytes.now) s → d ≤ book.fields
+unfolding differing
+nearest_few book s d r e =
+    let b = book_of book.bytes.now in
+    let n = fields_count book.bytes.now book.list book.fields (fields_at book.viewed) in
+    omega (arith, n, many_few (length b.counts) (differs s.answers r), (found_is b s d r (sym e)).1)

@@ -114,9 +114,12 @@ module _ (bytes form o : List ℕ) (s : Sheet) where
       pub fields_fit : fields ≤ places
       fields_fit = omega (arith, few, fields_is)
 
+      -- by whether a place has a photograph
+      pub lengthen_as : {t : Bool} → any_backed s ≡ t → pick t (declined o 22 0) (into (take fields s.answers) o) ≡ lengthened bytes form o
+      lengthen_as e =
+          ap₂ (λ (x : Bool) (n : ℕ). pick x (declined o 22 0) (into (take n s.answers) o)) (sym e) (sym fields_is) ∙ rest
+
       -- what handing out the answers of the fields leaves behind
       pub lengthen_by : {r : Reply} → r ≡ first_answers fields s o → r ≡ lengthened bytes form o
       lengthen_by e =
-          let all : any_below fields (backed s) ≡ any_backed s =
-          ap (λ (n : ℕ). any_below n (backed s)) (sym fields_is) ∙ any_known (book_of bytes) s fine few in
-          e ∙ ap₂ (λ (x : Bool) (n : ℕ). pick x (declined o 22 0) (into (take n s.answers) o)) all (sym fields_is) ∙ rest
+          e ∙ lengthen_as (sym (ap (λ (n : ℕ). any_below n (backed s)) (sym fields_is) ∙ any_known (book_of bytes) s fine few))

@@ -17,5 +17,7 @@ bounds-form-form c = omega (arith, some_bytes c.args.book.now c.args.form.now c.
 pub hand_out_answers-requires : goal.hand_out_answers-requires
 hand_out_answers-requires c = fields_fit c.args.book.now c.args.form.now c.args.out.now _ c.in_ok-sheet.ensures _ c.from-fields.ensures
 
+-- Behind the read stands one call, which tells 22 before 18:
+-- what it leaves behind is left behind here.
 pub returns : goal.returns
 returns c = lengthen_by c.args.book.now c.args.form.now c.args.out.now _ c.in_ok-sheet.ensures _ c.from-fields.ensures c.hand_out_answers.ensures

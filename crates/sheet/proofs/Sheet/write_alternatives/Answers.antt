@@ -12,6 +12,8 @@ pub returns-in_err-book : goal.returns-in_err-book
 returns-in_err-book c = let p = err_from_is_err_and c.from_residual.result c.from_residual.ensures.1 in
     rw (p.1, p.2) (alternatives_turned _ _ _ _ _ c.in_err-book.ensures.answer)
 
+-- What the pass left is what listing asks for: the marks are of this sheet,
+-- and `empty` has those of their cases in which some field is empty.
 pub list-requires-clause-passed : goal.list-requires-clause-passed
 list-requires-clause-passed c = passed _ _ _ _ _ _ (fields_at c.in_ok-book.book.viewed) c.one_pass-struck.ensures.marks c.empty_cases-empty.ensures
 

@@ -21,6 +21,8 @@ pub returns-in_default : goal.returns-in_default
 returns-in_default c = let o = is_open c.in_ok-book.book c.in_ok-book.ensures.answer c.in_ok-book.ensures.bytes in
     nearest_none _ _ _ o c.too_many.ensures c.if-too_many.false c.if-out-book.false c.in_default.ensures
 
+-- A reading is found: as many bytes of it as the book has fields are copied,
+-- and the number of differing fields is told as the search answers it.
 pub returns : goal.returns
 returns c = let o = is_open c.in_ok-book.book c.in_ok-book.ensures.answer c.in_ok-book.ensures.bytes in
     nearest_done _ _ _ o c.too_many.ensures c.if-too_many.false c.if-out-book.false _ _ (search rules) c.in-Some.ensures _ c.copy_from_slice.ensures.after
