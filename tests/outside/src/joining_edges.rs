@@ -241,6 +241,36 @@ fn each_number_of_rows() {
     assert_eq!(join_lending(0, &repeated, &of_rows(&[(others, rows(0, 4_096))])), refused(26, 0));
 }
 
+/// As many rows as are sorted in one way, one less and one more, in each of seven orders: joined with themselves they rise.
+#[test]
+fn each_order_at_each_edge() {
+    let fields: &[u8] = &[0, 1, 2, 3];
+    let row = |i: usize| [15, 10, 5, 0].map(|shift| (i * 4_001 >> shift & 31) as u8).to_vec();
+    let joined_with_itself = |rows: &[Vec<u8>]| {
+        let book = of_rows(&[(fields, rows.to_vec())]);
+        agree(&book, &book);
+        join_all(&book, &book)
+    };
+    for length in [2, 19, 20, 21, 22, 63, 64, 65, 66, 95, 96, 97, 98, 255, 256, 257] {
+        let rising: Vec<Vec<u8>> = (0..length).map(row).collect();
+        let orders: [fn(&mut Vec<Vec<u8>>); 6] = [
+            |rows| rows.reverse(),
+            |rows| Random(rows.len() as u64).shuffle(rows),
+            |rows| rows.rotate_left(1),
+            |rows| rows.chunks_mut(2).for_each(<[_]>::reverse),
+            |rows| rows.chunks_mut(8).for_each(<[_]>::reverse),
+            |rows| *rows = (0..2).flat_map(|k| rows[k..].iter().step_by(2).cloned()).collect(),
+        ];
+        let expected = joined_with_itself(&rising);
+        assert!(expected.is_ok());
+        for order in orders {
+            let mut rows = rising.clone();
+            order(&mut rows);
+            assert_eq!(joined_with_itself(&rows), expected, "{length} rows");
+        }
+    }
+}
+
 /// 64 tables of 64 rows on four of sixty fields: the longest result, from two books and from one, with bytes enough and one less.
 #[test]
 fn the_longest_result() {

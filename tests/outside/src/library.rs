@@ -288,12 +288,15 @@ mod tests {
         assert_eq!(counted(&vec![most[0].clone(); 4_097]), Err((12, 0)));
     }
 
-    /// At each length of a table, with rows that rise or fall, the last row is new, or it is the first again, or the one before it again.
+    /// At each length of a table, with rows that rise, fall or stand in no order, the last row is new, or it is the first again, or the one before
+    /// it again.
     #[test]
     fn one_repeat_at_each_edge() {
-        for length in [1, 2, 15, 16, 17, 18, 63, 64, 65, 66, 255, 256, 257] {
+        for length in [1, 2, 15, 16, 17, 18, 63, 64, 65, 66, 95, 96, 97, 98, 255, 256, 257] {
             let falling: Vec<Vec<u8>> = rows(length).into_iter().rev().collect();
-            for different in [rows(length), falling] {
+            let mut mixed = rows(length);
+            Random(length as u64).shuffle(&mut mixed);
+            for different in [rows(length), falling, mixed] {
                 assert_eq!(counted(&different), Ok((length as u64, length as u64)));
                 for repeated in [&different[..1], &different[length - 1..]] {
                     assert_eq!(counted(&[&different, repeated].concat()), Ok((length as u64 + 1, length as u64)));
